@@ -1,0 +1,6 @@
+-- The words of this crate, lowest first.
+pub mod Values
+pub mod ValueLaws
+pub mod Bags
+pub mod Relations
+pub mod Keys

@@ -1,0 +1,28 @@
+//! Values, rows, relations and keys: the data that every other crate speaks of.
+//!
+//! Stands on std and on `smallvec`, which keeps short rows inline. Nothing here reads, writes or waits.
+//!
+//! Promises: values and rows are ordered by `value_order` and `row_order`; a copy equals its original; a relation's
+//! rows always have its columns' types. A list is seen by contracts as the list of its items.
+//! Not promised: that memory is there. `Memory` is the one error of this crate, and no clause says when it comes.
+//!
+//! Read `specs/Values.antt`, `specs/Bags.antt` and `specs/Relations.antt`, then `list.rt`.
+#![tactic(auto)]
+
+mod copying;
+mod failure;
+mod list;
+mod names;
+mod tables;
+mod texts;
+mod tuples;
+mod values;
+
+pub use copying::Duplicate;
+pub use failure::Memory;
+pub use list::{Items, Places};
+pub use names::{Files, Key, Keys};
+pub use tables::{Column, Relation, Rows, Schema, sorted_permutation_is_unique};
+pub use texts::Text;
+pub use tuples::Row;
+pub use values::{ColType, Value};

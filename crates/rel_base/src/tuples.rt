@@ -1,0 +1,168 @@
+//! Rows: lists of values that keep up to three values inline.
+ghost use Rattle.std.specs.Prelude.{◌≡◌, ℕ, ◌+◌, ◌-◌, ◌^◌, ◌<◌, ◌≤◌, ◌↔◌, ◌==◌, [], ◌∷◌, ◌++◌, length, IsSome, IfOk, OnOk, OnErr, slice_index_or};
+ghost use Rattle.std.specs.Option.{option_to_list};
+
+use crate::{Duplicate, Memory, Value};
+use smallvec::SmallVec;
+use std::alloc::Global;
+use std::cmp::Ordering;
+use std::fmt;
+use std::marker::Model;
+
+/// A row of a relation: a list of at most 4,294,967,295 values, ordered column by column as std compares lists.
+///
+/// Up to three values stand in the row itself, so that such a row has one cache line and takes no memory of its own.
+#[derive(Drop)]
+pub struct Row {
+    values: SmallVec<Value, 3>,
+}
+
+impl Model for Row {
+    ghost use Rattle.std.specs.Prelude.{List, ◌^◌, ◌<◌, length};
+    ghost use Rattle.rel_base.specs.declared.values.Value.{Value as Datum};
+
+    ghost Value = { List Datum };
+
+    ghost view = { λ r. r.values.items };
+
+    ghost invariant = { λ r. length r.values.items < 2 ^ 32 };
+}
+
+impl Row {
+    /// A row without values, which takes no memory until its fourth value comes.
+    pub fn new(alloc: Global) -> Row
+        ensures { result ≡ [] }
+    {
+        Row {
+            values: SmallVec::new(alloc),
+        }
+    }
+
+    /// The number of values.
+    pub fn len(&self) -> u32
+        ensures { result ≡ length self.now }
+    {
+        self.values.len() as u32
+    }
+
+    /// Whether there is no value.
+    pub fn is_empty(&self) -> bool
+        ensures { result ≡ (length self.now == 0) }
+    {
+        self.values.is_empty()
+    }
+
+    /// The value of column `i`, from 0.
+    pub fn get(&self, i: u32) -> &Value
+        requires { i < length self.now }
+        ensures { result.now ≡ slice_index_or self.now i result.now }
+    {
+        &self.values.as_slice()[i as usize]
+    }
+
+    /// All values, in the order of the columns.
+    pub fn as_slice(&self) -> &[Value]
+        ensures value { result.now ≡ self.now }
+        ensures bound { length self.now < 2 ^ 32 }
+    {
+        self.values.as_slice()
+    }
+
+    /// Adds a value at the end. After `Memory` the row is as it was, and the value is let go.
+    pub fn push(&mut self, value: Value) -> Result<(), Memory>
+        requires { length self.old < 2 ^ 32 - 1 }
+        ensures ok { OnOk result (self.new ≡ self.old ++ value ∷ []) }
+        ensures err { OnErr result (self.new ≡ self.old) }
+    {
+        self.values.push(value)?;
+        Ok(())
+    }
+
+    /// Takes the last value; `None` where the row is empty.
+    pub fn pop(&mut self) -> Option<Value>
+        ensures items { self.old ≡ self.new ++ option_to_list result }
+        ensures some { IsSome result ↔ (0 < length self.old) }
+    {
+        self.values.pop()
+    }
+}
+
+impl Duplicate for Row {
+    fn copy(&self, alloc: Global) -> Result<Row, Memory> {
+        let values = copies_of(alloc, self.as_slice())?;
+        Ok(Row { values })
+    }
+}
+
+/// The values' copies, in order.
+fn copies_of(alloc: Global, values: &[Value]) -> Result<SmallVec<Value, 3>, Memory>
+    ensures { IfOk result (λ made. made.items ≡ values.now) }
+{
+    let mut copies = SmallVec::with_capacity(alloc, values.len())?;
+    for value in values {
+        let copy = value.copy(alloc)?;
+        copies.push(copy)?;
+    }
+    Ok(copies)
+}
+
+impl PartialEq for Row {
+    ghost use Rattle.std.specs.Cmp.{eq_by_cmp_equiv, partial_equiv_from_equiv};
+    ghost use Rattle.std.specs.Ordering.{eq_by_cmp};
+    ghost use Rattle.rel_base.specs.Values.{row_order};
+    ghost use Rattle.rel_base.specs.ValueLaws.{row_order_total};
+
+    ghost eq = { eq_by_cmp row_order };
+
+    ghost laws = { partial_equiv_from_equiv (eq_by_cmp_equiv row_order_total) };
+
+    fn eq(&self, other: &Row) -> bool {
+        self.cmp(other).is_eq()
+    }
+}
+
+impl Eq for Row {
+    ghost use Rattle.std.specs.Cmp.{eq_by_cmp_equiv};
+    ghost use Rattle.rel_base.specs.ValueLaws.{row_order_total};
+
+    ghost laws = { eq_by_cmp_equiv row_order_total };
+}
+
+impl PartialOrd for Row {
+    ghost use Rattle.std.specs.Cmp.{partial_order_from_total};
+    ghost use Rattle.std.specs.Ordering.{as_partial_cmp};
+    ghost use Rattle.rel_base.specs.Values.{row_order};
+    ghost use Rattle.rel_base.specs.ValueLaws.{row_order_total};
+
+    ghost partial_cmp = { as_partial_cmp row_order };
+
+    ghost laws = { partial_order_from_total row_order_total };
+
+    fn partial_cmp(&self, other: &Row) -> Option<Ordering> {
+        Some(self.cmp(other))
+    }
+}
+
+impl Ord for Row {
+    ghost use Rattle.std.specs.Prelude.{refl};
+    ghost use Rattle.rel_base.specs.Values.{row_order};
+    ghost use Rattle.rel_base.specs.ValueLaws.{row_order_total};
+
+    ghost cmp = { row_order };
+
+    ghost total = { row_order_total };
+
+    ghost matches_partial_cmp = { λ r s. refl };
+
+    ghost matches_eq = { λ r s. refl };
+
+    fn cmp(&self, other: &Row) -> Ordering {
+        self.as_slice().cmp(&other.as_slice())
+    }
+}
+
+impl fmt::Debug for Row {
+    fn fmt<W: fmt::Write>(&self, f: &mut fmt::Formatter<W>) -> fmt::Result {
+        f.debug_list().entries(self.as_slice()).finish()
+    }
+}
