@@ -1,2 +1,3 @@
 pub mod SortedLemmas
 pub mod KeyLemmas
+pub mod WorkedRows

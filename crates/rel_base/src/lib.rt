@@ -14,6 +14,8 @@ mod failure;
 mod list;
 mod names;
 mod tables;
+#[cfg(test)]
+mod tests;
 mod texts;
 mod tuples;
 mod values;

@@ -1,0 +1,6 @@
+//! The top call.
+#![tactic(auto)]
+
+mod asked;
+
+pub use asked::{Request, request_of};

@@ -1,0 +1,120 @@
+//! Each public call once, with ample memory, and the worked orders.
+use crate::{ColType, Column, Duplicate, Files, Items, Key, Memory, Relation, Row, Rows, Schema, Text, Value};
+use std::alloc::Global;
+use std::test::Fail;
+
+fn row_of(alloc: Global, numbers: &[i64]) -> Result<Row, Memory> {
+    let mut row = Row::new(alloc);
+    for number in numbers {
+        if row.len() == u32::MAX {
+            return Err(Memory);
+        }
+        row.push(Value::Int(*number))?;
+    }
+    Ok(row)
+}
+
+#[test]
+fn rows_are_ordered_column_by_column(rt: HostRuntime) -> Result<(), Fail> {
+    let alloc = rt.alloc();
+    let ascending: [&[i64]; 7] = [
+        &[],
+        &[-1, 9],
+        &[2, 1],
+        &[2, 1, 0],
+        &[2, 1, 0, 7, 7],
+        &[2, 1, 0, 7, 8],
+        &[10],
+    ];
+    for i in 0..ascending.len() {
+        for j in 0..ascending.len() {
+            let first = row_of(alloc, ascending[i])?;
+            let second = row_of(alloc, ascending[j])?;
+            assert_eq!(rt; first.cmp(&second), i.cmp(&j), "rows {i} and {j}");
+            assert_eq!(rt; first == second, i == j);
+        }
+    }
+    Ok(())
+}
+
+#[test]
+fn values_are_ordered_by_type_and_then_within_it(rt: HostRuntime) -> Result<(), Fail> {
+    let alloc = rt.alloc();
+    let ascending = [
+        Value::Int(i64::MIN),
+        Value::Int(-1),
+        Value::Int(9),
+        Value::Int(10),
+        Value::Str(Text::of(alloc, "")?),
+        Value::Str(Text::of(alloc, "10")?),
+        Value::Str(Text::of(alloc, "9")?),
+        Value::Str(Text::of(alloc, "a")?),
+        Value::Str(Text::of(alloc, "é")?),
+        Value::Bool(false),
+        Value::Bool(true),
+    ];
+    for i in 0..ascending.len() {
+        for j in 0..ascending.len() {
+            assert_eq!(rt; ascending[i].cmp(&ascending[j]), i.cmp(&j), "values {i} and {j}");
+        }
+    }
+    Ok(())
+}
+
+#[test]
+fn a_copy_equals_its_original(rt: HostRuntime) -> Result<(), Fail> {
+    let alloc = rt.alloc();
+    let mut schema = Schema::new(alloc);
+    let name = Text::of(alloc, "x")?;
+    schema.push(Column {
+        name,
+        kind: ColType::Int,
+    })?;
+    assert_eq!(rt; schema.copy(alloc)?, schema);
+    let mut row = row_of(alloc, &[1, 2, 3, 4])?;
+    let copy = row.copy(alloc)?;
+    assert_eq!(rt; copy, row);
+    assert_eq!(rt; row.pop(), Some(Value::Int(4)));
+    assert_ne!(rt; copy, row);
+    let text = Value::Str(Text::of(alloc, "seattle")?);
+    assert_eq!(rt; text.copy(alloc)?, text);
+    Ok(())
+}
+
+#[test]
+fn relations_are_kept_under_their_keys(rt: HostRuntime) -> Result<(), Fail> {
+    let alloc = rt.alloc();
+    let key = Key {
+        user: Text::of(alloc, "public")?,
+        program: Text::of(alloc, "adhoc")?,
+        name: Text::of(alloc, "R")?,
+    };
+    assert_eq!(rt; key.shelf_name(alloc)?.as_str(), "public:adhoc:R.csv");
+    assert_eq!(rt; key.copy(alloc)?, key);
+    let mut relation = Relation::new(Schema::new(alloc), Rows::new(alloc));
+    relation.sort();
+    let copy = relation.copy(alloc)?;
+    assert_eq!(rt; copy.rows().len(), 0);
+    let mut files = Files::new(alloc);
+    files.push((key, relation))?;
+    assert_eq!(rt; files.len(), 1);
+    assert!(rt; files.pop().is_some());
+    assert!(rt; files.is_empty());
+    Ok(())
+}
+
+#[test]
+fn a_list_grows_at_its_end_and_is_sorted_in_place(rt: HostRuntime) -> Result<(), Fail> {
+    let alloc = rt.alloc();
+    let mut numbers = Items::<u32>::with_capacity(alloc, 3)?;
+    numbers.push(7)?;
+    numbers.push(3)?;
+    numbers.push(7)?;
+    numbers.sort();
+    assert_eq!(rt; numbers.as_slice(), [3, 7, 7].as_slice());
+    assert_eq!(rt; *numbers.get(1), 7);
+    assert_eq!(rt; numbers.copy(alloc)?, numbers);
+    assert_eq!(rt; numbers.pop(), Some(7));
+    assert_eq!(rt; numbers.len(), 2);
+    Ok(())
+}
