@@ -1,12 +1,10 @@
 //! The outside: files that are read, output that is written, and counts of rows.
 #![tactic(auto)]
 
-mod shelf;
-mod sink;
-mod tap;
-mod totals;
+mod shelves;
+mod sinks;
+mod taps;
 
-pub use shelf::{Shelf, ShelfFault};
-pub use sink::{Sink, SinkFault};
-pub use tap::Tap;
-pub use totals::Totals;
+pub use shelves::{Shelf, ShelfFault};
+pub use sinks::{Sink, SinkFault};
+pub use taps::{Tap, Totals};

@@ -1,6 +1,7 @@
 //! Shelves: where the engine reads its files.
 ghost use Rattle.std.specs.Prelude.{◌≡◌, ℕ, ◌≤◌, List, Err, OnOk, OnErr};
-ghost use Rattle.rel_io.specs.Outside.{Content, Rose, AppendsContent, MayBeMissing, IsPrefix};
+ghost use Rattle.std.specs.Io.{StartsWith};
+ghost use Rattle.rel_io.specs.Outside.{Content, Rose, AppendsContent, MayBeMissing};
 
 use std::fmt;
 
@@ -46,7 +47,7 @@ pub trait Shelf {
     /// After a refusal `into` begins with what it held before.
     fn fetch(&mut self, name: &str, most: u64, into: &mut Vec<u8>) -> Result<(), ShelfFault>
         ensures ok { OnOk result (AppendsContent (content self.old name.now) most into.old.items into.new.items) }
-        ensures err { OnErr result (IsPrefix into.old.items into.new.items) }
+        ensures err { OnErr result (StartsWith into.new.items into.old.items) }
 
         // Each refusal but that of memory has its cause.
         ensures failed { result ≡ Err ShelfFault.Failed → Rose (faults self.old) (faults self.new) }
