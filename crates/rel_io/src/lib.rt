@@ -6,5 +6,5 @@ mod sinks;
 mod taps;
 
 pub use shelves::{Shelf, ShelfFault};
-pub use sinks::{Sink, SinkFault};
+pub use sinks::{Sink, SinkFault, offer};
 pub use taps::{Tap, Totals};
