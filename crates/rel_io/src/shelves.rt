@@ -3,6 +3,8 @@ ghost use Rattle.std.specs.Prelude.{◌≡◌, ℕ, ◌≤◌, List, Err, OnOk, 
 ghost use Rattle.std.specs.Io.{StartsWith};
 ghost use Rattle.rel_io.specs.Outside.{Content, Rose, AppendsContent, MayBeMissing};
 
+use std::alloc::AllocError;
+use std::error::Error;
 use std::fmt;
 
 /// Why a file was not read.
@@ -26,7 +28,18 @@ impl fmt::Display for ShelfFault {
     }
 }
 
-impl std::error::Error for ShelfFault {}
+impl Error for ShelfFault {}
+
+impl From<AllocError> for ShelfFault {
+    ghost use Rattle.std.specs.Prelude.{◌≡◌};
+    ghost use Rattle.rel_io.specs.declared.shelves.ShelfFault.TheVariants as refusal;
+
+    ghost from_gives = { λ _ e. e ≡ refusal.Memory };
+
+    fn from(_refused: AllocError) -> ShelfFault {
+        ShelfFault::Memory
+    }
+}
 
 /// Files that are read by their names.
 ///

@@ -3,6 +3,7 @@ ghost use Rattle.std.specs.Prelude.{◌≡◌, ℕ, ◌<◌, ◌≤◌, List, Op
 ghost use Rattle.std.specs.Io.KnownBytes.{Appends, WriteAppends};
 ghost use Rattle.rel_io.specs.Outside.{Rose, TakesPart};
 
+use std::error::Error;
 use std::fmt;
 
 /// Why bytes were not taken.
@@ -23,7 +24,7 @@ impl fmt::Display for SinkFault {
     }
 }
 
-impl std::error::Error for SinkFault {}
+impl Error for SinkFault {}
 
 /// Takes bytes, a piece at a time.
 ///
