@@ -1,2 +1,4 @@
 -- The words of this crate.
 pub mod Outside
+pub mod InMemory
+pub mod Adapters

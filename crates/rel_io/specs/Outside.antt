@@ -4,8 +4,6 @@
 --   Content                        what is known of the content of a name
 --   AppendsContent c most old new  a fetch of at most `most` bytes of the content c made new of old
 --   MayBeMissing c                 the content is not told to be there
---   IsPrefix front whole           the whole begins with the front
---   Takes old new piece            known bytes grew by the whole piece
 --   TakesPart old new piece        known bytes grew by a beginning of the piece, and not by all of it
 --   capped_sum a b                 the sum, which stops at the last value of 64 bits
 use Rattle.std.specs.Prelude.{◌≡◌, ℕ, ◌+◌, ◌<◌, ◌≤◌, ◌⊎◌, min, List, ◌++◌, length, take, Option, ⊤}
@@ -39,10 +37,6 @@ abbrev pub MayBeMissing : Content → Type 0
 MayBeMissing untold = ⊤
 MayBeMissing missing = ⊤
 MayBeMissing (there bytes) = ⊥
-
--- The whole begins with the front.
-abbrev pub IsPrefix : List ℕ → List ℕ → Type 0
-IsPrefix front whole = front ≡ take (length front) whole
 
 -- Known bytes grew by a beginning of the piece that is shorter than the piece.
 pub record TakesPart (old new : Option (List ℕ)) (piece : List ℕ) : Type 0 where

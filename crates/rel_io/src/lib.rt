@@ -1,12 +1,21 @@
 //! The outside: files that are read, output that is written, and counts of rows.
 #![tactic(auto)]
 
-mod shelf;
-mod sink;
-mod tap;
-mod totals;
+mod count_tap;
+mod folder_shelf;
+mod mem_shelf;
+mod mem_sink;
+mod numbers;
+mod shelves;
+mod sinks;
+mod std_sink;
+mod taps;
 
-pub use shelf::{Shelf, ShelfFault};
-pub use sink::{Sink, SinkFault};
-pub use tap::Tap;
-pub use totals::Totals;
+pub use count_tap::CountTap;
+pub use folder_shelf::FolderShelf;
+pub use mem_shelf::{Bytes, Contents, MemShelf};
+pub use mem_sink::MemSink;
+pub use shelves::{Shelf, ShelfFault};
+pub use sinks::{Sink, SinkFault, offer};
+pub use std_sink::StdSink;
+pub use taps::{Tap, Totals};

@@ -1,7 +1,10 @@
 //! Shelves: where the engine reads its files.
 ghost use Rattle.std.specs.Prelude.{◌≡◌, ℕ, ◌≤◌, List, Err, OnOk, OnErr};
-ghost use Rattle.rel_io.specs.Outside.{Content, Rose, AppendsContent, MayBeMissing, IsPrefix};
+ghost use Rattle.std.specs.Io.{StartsWith};
+ghost use Rattle.rel_io.specs.Outside.{Content, Rose, AppendsContent, MayBeMissing};
 
+use std::alloc::AllocError;
+use std::error::Error;
 use std::fmt;
 
 /// Why a file was not read.
@@ -25,7 +28,18 @@ impl fmt::Display for ShelfFault {
     }
 }
 
-impl std::error::Error for ShelfFault {}
+impl Error for ShelfFault {}
+
+impl From<AllocError> for ShelfFault {
+    ghost use Rattle.std.specs.Prelude.{◌≡◌};
+    ghost use Rattle.rel_io.specs.declared.shelves.ShelfFault.TheVariants as refusal;
+
+    ghost from_gives = { λ _ e. e ≡ refusal.Memory };
+
+    fn from(_refused: AllocError) -> ShelfFault {
+        ShelfFault::Memory
+    }
+}
 
 /// Files that are read by their names.
 ///
@@ -46,7 +60,7 @@ pub trait Shelf {
     /// After a refusal `into` begins with what it held before.
     fn fetch(&mut self, name: &str, most: u64, into: &mut Vec<u8>) -> Result<(), ShelfFault>
         ensures ok { OnOk result (AppendsContent (content self.old name.now) most into.old.items into.new.items) }
-        ensures err { OnErr result (IsPrefix into.old.items into.new.items) }
+        ensures err { OnErr result (StartsWith into.new.items into.old.items) }
 
         // Each refusal but that of memory has its cause.
         ensures failed { result ≡ Err ShelfFault.Failed → Rose (faults self.old) (faults self.new) }

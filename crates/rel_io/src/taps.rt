@@ -1,9 +1,18 @@
 //! Taps: where the rows that a worker sends, receives and lists are counted.
 ghost use Rattle.std.specs.Prelude.{◌≡◌};
 ghost use Rattle.rel_io.specs.Outside.{capped_sum};
-ghost use Rattle.rel_io.specs.declared.totals.Totals.{Totals as Sums};
+ghost use Rattle.rel_io.specs.declared.taps.Totals.{Totals as Sums};
 
-use crate::Totals;
+/// Numbers of rows. Each stops at 18,446,744,073,709,551,615.
+#[derive(Clone, Copy, Debug, Default, PartialEq, Eq, Hash)]
+pub struct Totals {
+    /// Rows that were handed over to other workers, or to the worker itself.
+    pub sent: u64,
+    /// Rows that were taken from an inbox.
+    pub got: u64,
+    /// Rows that were listed as a result.
+    pub listed: u64,
+}
 
 /// Counts rows. Each of its three sums stops at 18,446,744,073,709,551,615.
 pub trait Tap {
