@@ -1,1 +1,4 @@
+-- The words of this crate, lowest first.
 pub mod Requests
+pub mod Outcomes
+pub mod Steps

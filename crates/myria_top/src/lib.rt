@@ -2,5 +2,10 @@
 #![tactic(auto)]
 
 mod asked;
+mod messages;
+mod outcomes;
+mod pieces;
 
 pub use asked::{Request, request_of};
+pub use outcomes::{Outcome, Part};
+pub use pieces::Pieces;
