@@ -46,7 +46,7 @@ part_behind a b c first rest whole is p part =
     let size = length-append first rest in
     let same : length whole ≡ length (first ++ rest) = ap length is in
     let next : first ++ take part.count rest ≡ take (length first + part.count) whole =
-        sym (take-append-add first rest part.count) ∙ ap (take (length first + part.count)) (sym is) in
+    sym (take-append-add first rest part.count) ∙ ap (take (length first + part.count)) (sym is) in
     record {
       count = length first + part.count;
       short = omega (arith, part.short);

@@ -2,3 +2,4 @@
 pub mod Requests
 pub mod Outcomes
 pub mod Steps
+pub mod Reading

@@ -73,6 +73,6 @@ names_of script =
     (name_before (codes " = scan(") script)
 
 -- the request of a script of this form; of another script none
-abbrev pub request_of : List ℕ → Option Request
+unfoldable pub request_of : List ℕ → Option Request
 request_of script =
     option_map (λ (names : List ℕ × List ℕ). record { scanned = adhoc_key names.0; stored = adhoc_key names.1 }) (names_of script)

@@ -25,6 +25,7 @@ const RESERVED: [&str; 20] = [
 
 /// What a script of the form `N = scan(R); store(N, K);` asks for, with nothing or one line feed behind it; `None` for
 /// every other script.
+#[tactic(auto, unfolding(crate::specs::Requests::request_of))]
 pub fn request_of(alloc: Global, script: &[u8]) -> Result<Option<Request>, Memory>
     ensures { IfOk result (λ found. found ≡ form.request_of script.now) }
 {

@@ -27,7 +27,10 @@ pub fn tell<E: Sink>(err: &mut E, words: &[Text], answer: &Outcome) -> Result<()
             let user = key.user.as_str();
             let program = key.program.as_str();
             let name = key.name.as_str();
-            offer_all(err, &["myria: no relation ", user, ":", program, ":", name, "\n"])
+            offer_all(
+                err,
+                &["myria: no relation ", user, ":", program, ":", name, "\n"],
+            )
         }
         Outcome::ReadFault { name } => {
             offer_all(err, &["myria: cannot read ", name.as_str(), "\n"])

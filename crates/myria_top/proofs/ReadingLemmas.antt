@@ -1,0 +1,54 @@
+-- What the first bytes of a file show of what the file comes to.
+use Rattle.std.proofs.Common.{◌≡◌, ℕ, ◌+◌, ◌<◌, ◌≤◌, min, Bool, true, false, cond, List, length, take, Option, Some, None, refl, sym, ◌∙◌, ap, subst, arith, nat_lt}
+use Rattle.std.specs.Option.{option_map_or}
+use Rattle.std.proofs.lemmas.Bool.{lt-ltb, false_from_ne_true, ltb-true}
+use Rattle.std.proofs.lemmas.List.{take_all, length-take}
+use Rattle.rel_io.specs.Outside.{Content, IsGiven}
+use Rattle.rel_io.specs.Outside as outside
+use Rattle.myria_top.specs.declared.outcomes.Outcome.{Outcome}
+use Rattle.myria_top.specs.Reading.{file_step}
+use Rattle.myria_top.specs.Steps.{Step, untold, refused, goes, IfTold}
+
+not_less : (a b : ℕ) → b ≤ a → nat_lt a b ≡ false
+not_less a b h = false_from_ne_true (nat_lt a b) (λ e. let less : a < b = ltb-true a b e in absurd (omega arith))
+
+module _ {X : Type 0} (most : ℕ) (if_missing if_long : Outcome) (read : List ℕ → Step X) where
+  abbrev step : Content → Step X
+  step = file_step most if_missing if_long read
+
+  -- more than `most` bytes came, so the file is too long
+  pub too_long : (content : Content) (bytes : List ℕ) → IsGiven content (most + 1) bytes → most < length bytes → IfTold (step content) (λ s. s ≡ refused if_long)
+  too_long outside.untold bytes given long = tt
+  too_long outside.missing bytes given long = absurd given
+  too_long (outside.there file) bytes given long =
+      let size : length bytes ≡ min (most + 1) (length file) = ap length given ∙ length-take (most + 1) file in
+      let more : most < length file = omega arith in
+      let is : step (outside.there file) ≡ refused if_long = ap (λ (t : Bool). cond t (refused if_long) (read file)) (lt-ltb most (length file) more) in
+      subst (λ (s : Step X). IfTold s (λ t. t ≡ refused if_long)) (sym is) refl
+
+  -- no more came, so the bytes are the whole file
+  whole : (file bytes : List ℕ) → bytes ≡ take (most + 1) file → length bytes ≤ most → step (outside.there file) ≡ read bytes
+  whole file bytes given short =
+      let size : length bytes ≡ min (most + 1) (length file) = ap length given ∙ length-take (most + 1) file in
+      let fits : length file ≤ most = omega arith in
+      let same : bytes ≡ file = given ∙ take_all (most + 1) file (omega arith) in
+      ap (λ (t : Bool). cond t (refused if_long) (read file)) (not_less most (length file) fits) ∙ ap read (sym same)
+
+  pub read_goes : (content : Content) (bytes : List ℕ) (x : X) → IsGiven content (most + 1) bytes → length bytes ≤ most → read bytes ≡ goes x → IfTold (step content) (λ s. s ≡ goes x)
+  read_goes outside.untold bytes x given short e = tt
+  read_goes outside.missing bytes x given short e = absurd given
+  read_goes (outside.there file) bytes x given short e =
+      subst (λ (s : Step X). IfTold s (λ t. t ≡ goes x)) (sym (whole file bytes given short ∙ e)) refl
+
+  pub read_refuses : (content : Content) (bytes : List ℕ) (answer : Outcome) → IsGiven content (most + 1) bytes → length bytes ≤ most → read bytes ≡ refused answer → IfTold (step content) (λ s. s ≡ refused answer)
+  read_refuses outside.untold bytes answer given short e = tt
+  read_refuses outside.missing bytes answer given short e = absurd given
+  read_refuses (outside.there file) bytes answer given short e =
+      subst (λ (s : Step X). IfTold s (λ t. t ≡ refused answer)) (sym (whole file bytes given short ∙ e)) refl
+
+-- what was found decides the step
+pub found : {X Y : Type 0} (f : X → Y) (d : Y) (o : Option X) (x : X) → o ≡ Some x → option_map_or f o d ≡ f x
+found f d o x e = ap (λ (p : Option _). option_map_or f p d) e
+
+pub found_none : {X Y : Type 0} (f : X → Y) (d : Y) (o : Option X) → o ≡ None → option_map_or f o d ≡ d
+found_none f d o e = ap (λ (p : Option _). option_map_or f p d) e
