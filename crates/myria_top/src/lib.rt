@@ -1,4 +1,12 @@
-//! The top call.
+//! The top call: runs the words of a command line over files that are handed in, and prints the answer.
+//!
+//! Stands on `relation_csv` for the files of relations and on `rel_io` for what is read and written.
+//!
+//! Promises: `run_words` has the headline as a clause. Each answer has its cause; after `Done` the output took exactly
+//! the text of the script's meaning; standard error took the line of any other answer.
+//! Not promised: that memory is there, that the shelf tells the truth, or what an untold shelf holds.
+//!
+//! Read `specs/Headline.antt`, then `specs/Verdicts.antt` and `specs/OutputText.antt`, then `run.rt`.
 #![tactic(auto)]
 
 mod asked;
@@ -6,8 +14,10 @@ mod messages;
 mod outcomes;
 mod pieces;
 mod reading;
+mod run;
 
 pub use asked::{Request, request_of};
+pub use messages::tell;
 pub use outcomes::{Outcome, Part};
-pub use pieces::Pieces;
-pub use reading::MOST_SCRIPT_BYTES;
+pub use reading::{MOST_RELATION_BYTES, MOST_SCRIPT_BYTES};
+pub use run::run_words;

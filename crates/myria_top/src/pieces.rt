@@ -3,8 +3,9 @@ ghost use Rattle.std.specs.Prelude.{◌≡◌, ◌++◌, ◌≤◌, [], Err, IfO
 ghost use Rattle.std.specs.Io.KnownBytes.{Appends};
 ghost use Rattle.rel_io.specs.Outside.{Rose, TakesPart};
 
-use rel_base::Memory;
+use rel_base::{Key, Memory, Relation};
 use rel_io::{Sink, SinkFault, offer};
+use relation_csv::RecordWriter;
 use std::alloc::Global;
 use std::marker::Model;
 
@@ -25,6 +26,30 @@ impl Model for Pieces {
 }
 
 impl Pieces {
+    ghost use Rattle.myria_top.specs.OutputText.{relation_text_in_order};
+
+    /// The text of a stored relation: its line, its header, and its rows as they stand, each a piece.
+    pub fn of_relation(alloc: Global, key: &Key, relation: &Relation) -> Result<Pieces, Memory>
+        ensures { IfOk result (λ text. text ≡ relation_text_in_order key.now relation.now) }
+    {
+        let rows = relation.rows().as_slice();
+        let count = rows.len();
+        let mut lengths = Vec::with_capacity(alloc, count.saturating_add(2))?;
+        let line = format!(in alloc; "-- store {key} {count} rows\n")?;
+        lengths.push(line.len())?;
+        let mut records = RecordWriter::new(alloc, line.into_bytes());
+        let start = records.len();
+        records.header(relation.schema())?;
+        lengths.push(records.len().saturating_sub(start))?;
+        for row in rows {
+            let start = records.len();
+            records.row(row)?;
+            lengths.push(records.len().saturating_sub(start))?;
+        }
+        let text = records.into_bytes();
+        Ok(Pieces { text, lengths })
+    }
+
     /// Offers piece after piece, each until the sink has taken it whole.
     pub fn print<O: Sink>(&self, out: &mut O) -> Result<(), SinkFault>
         ensures ok { OnOk result (Appends (O.taken out.old) (O.taken out.new) self.now) }

@@ -1,15 +1,21 @@
 //! Reads the words, the script and the relation that it asks for.
 ghost use Rattle.std.specs.Prelude.{◌≡◌, ◌≤◌, ◌⊎◌, Err, IfOk, option_map};
 ghost use Rattle.rel_io.specs.Outside.{IsGiven, MayBeMissing, Rose};
+ghost use Rattle.rel_base.specs.Keys.{shelf_name_of};
 ghost use Rattle.myria_top.specs.Reading as spec;
+ghost use Rattle.myria_top.specs.Verdicts.{relation_step};
 
 use crate::{Outcome, Part, Request, request_of};
-use rel_base::{Duplicate, Text};
+use rel_base::{Duplicate, Key, Relation, Text};
 use rel_io::{Shelf, ShelfFault};
+use relation_csv::{RelFault, read_relation};
 use std::alloc::Global;
 
 /// The most bytes of a script.
 pub const MOST_SCRIPT_BYTES: usize = 65_536;
+
+/// The most bytes of a relation's file.
+pub const MOST_RELATION_BYTES: usize = 67_108_864;
 
 /// The word that names the script: the words are two, and the second is no option.
 pub fn script_name(words: &[Text]) -> Option<&Text>
@@ -50,6 +56,35 @@ pub fn read_script<F: Shelf>(alloc: Global, shelf: &mut F, name: &Text) -> Resul
     }
 }
 
+/// The relation of this key.
+pub fn read_scanned<F: Shelf>(alloc: Global, shelf: &mut F, key: &Key) -> Result<Relation, Outcome>
+    ensures read { spec.ReadsStep (relation_step key.now (F.content shelf.old (shelf_name_of key.now)))
+        (record { faults_before = F.faults shelf.old; faults_after = F.faults shelf.new;
+            misses_before = F.misses shelf.old; misses_after = F.misses shelf.new })
+        (λ asked. asked ≡ shelf_name_of key.now) result }
+    ensures content { F.content shelf.new ≡ F.content shelf.old }
+{
+    let name = match key.shelf_name(alloc) {
+        Ok(name) => name,
+        Err(_) => return Err(Outcome::Memory),
+    };
+    let most = MOST_RELATION_BYTES as u64 + 1;
+    let file = match fetched(alloc, shelf, &name, most) {
+        Ok(file) => file,
+        Err(ShelfFault::Absent) => return Err(no_relation(alloc, key)),
+        Err(ShelfFault::Failed) => return Err(read_fault(alloc, &name)),
+        Err(ShelfFault::Memory) => return Err(Outcome::Memory),
+    };
+    if file.len() > MOST_RELATION_BYTES {
+        return Err(Outcome::NotBuilt { part: Part::Relation });
+    }
+    match read_relation(alloc, &file) {
+        Ok(relation) => Ok(relation),
+        Err(RelFault::NotBuilt) => Err(Outcome::NotBuilt { part: Part::Relation }),
+        Err(RelFault::Memory) => Err(Outcome::Memory),
+    }
+}
+
 /// The first `most` bytes of a file, or all of a shorter one.
 fn fetched<F: Shelf>(
     alloc: Global,
@@ -76,6 +111,16 @@ fn read_fault(alloc: Global, name: &Text) -> Outcome
 {
     match name.copy(alloc) {
         Ok(name) => Outcome::ReadFault { name },
+        Err(_) => Outcome::Memory,
+    }
+}
+
+/// The answer to a missing relation, or of memory where the key can't be kept.
+fn no_relation(alloc: Global, key: &Key) -> Outcome
+    ensures { (result ≡ Outcome.NoRelation key.now) ⊎ (result ≡ Outcome.Memory) }
+{
+    match key.copy(alloc) {
+        Ok(key) => Outcome::NoRelation { key },
         Err(_) => Outcome::Memory,
     }
 }

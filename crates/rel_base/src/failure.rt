@@ -1,6 +1,4 @@
 //! The one error of what allocates.
-ghost use Rattle.rel_base.specs.declared.failure.Memory.{Memory as OutOfMemory};
-
 use std::alloc::{AllocError, AllocFailed};
 use std::error::Error;
 use std::fmt;
@@ -10,6 +8,10 @@ use std::fmt;
 pub struct Memory;
 
 impl fmt::Display for Memory {
+    ghost use Rattle.std.specs.Prelude.{Some, codes};
+
+    ghost output = { λ _. Some (codes "out of memory") };
+
     fn fmt<W: fmt::Write>(&self, f: &mut fmt::Formatter<W>) -> fmt::Result {
         write!(f, "out of memory")
     }

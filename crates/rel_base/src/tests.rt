@@ -1,5 +1,7 @@
 //! Each public call once, with ample memory, and the worked orders.
-use crate::{ColType, Column, Duplicate, Files, Items, Key, Memory, Relation, Row, Rows, Schema, Text, Value};
+use crate::{
+    ColType, Column, Duplicate, Files, Items, Key, Memory, Relation, Row, Rows, Schema, Text, Value,
+};
 use std::alloc::Global;
 use std::test::Fail;
 
@@ -55,7 +57,11 @@ fn values_are_ordered_by_type_and_then_within_it(rt: HostRuntime) -> Result<(), 
     ];
     for i in 0..ascending.len() {
         for j in 0..ascending.len() {
-            assert_eq!(rt; ascending[i].cmp(&ascending[j]), i.cmp(&j), "values {i} and {j}");
+            assert_eq!(rt;
+                ascending[i].cmp(&ascending[j]),
+                i.cmp(&j),
+                "values {i} and {j}"
+            );
         }
     }
     Ok(())

@@ -30,6 +30,11 @@ pub enum Value {
 
 /// The value that fills the unused places of a short row: the number 0.
 impl Default for Value {
+    ghost use Rattle.std.specs.Prelude.{◌≡◌, pos};
+    ghost use Rattle.rel_base.specs.declared.values.Value.TheVariants as variant;
+
+    ghost is_default = { λ v. v ≡ variant.Int (pos 0) };
+
     fn default() -> Value {
         Value::Int(0)
     }

@@ -1,0 +1,66 @@
+//! The program `myria`: runs a script over the relation files of the current folder.
+//!
+//! Stands on `myria_top`, which does the work and whose `run_words` carries every promise, and on `rel_io` for the
+//! folder and the standard streams. Promises nothing of its own.
+#![tactic(auto)]
+
+ghost use Rattle.std.specs.Prelude.{◌≡◌, IfOk, All, vec_len};
+
+use myria_top::{Outcome, run_words, tell};
+use rel_base::{Memory, Text};
+use rel_io::{CountTap, FolderShelf, StdSink};
+use std::alloc::Global;
+use std::env;
+use std::process::ExitCode;
+
+/// The exit status where there is no memory even to begin.
+const NO_MEMORY: u8 = 13;
+
+fn main(rt: HostRuntime) -> ExitCode {
+    match run(&rt) {
+        Ok(status) => ExitCode::from(status),
+        Err(Memory) => ExitCode::from(NO_MEMORY),
+    }
+}
+
+/// Runs the words of the command line, and gives the exit status.
+fn run(rt: &HostRuntime) -> Result<u8, Memory> {
+    let alloc = rt.alloc();
+    let words = words(rt)?;
+    let mut taps = taps(alloc)?;
+    let mut shelf = FolderShelf::new(rt);
+    let mut out = StdSink::buffered(alloc, rt.stdout())?;
+    let mut err = StdSink::new(rt.stderr());
+    let outcome = run_words(rt, alloc, words.as_slice(), &mut shelf, &mut out, &mut err, &mut taps);
+    // Bytes may have been kept back until now, so `Done` is true only once they are handed on.
+    if out.finish().is_err() && matches!(&outcome, Outcome::Done) {
+        let _ = tell(&mut err, words.as_slice(), &Outcome::WriteFault);
+        return Ok(Outcome::WriteFault.status());
+    }
+    Ok(outcome.status())
+}
+
+/// The words of the command line, the program's name first; none where one of them isn't UTF-8.
+fn words(rt: &HostRuntime) -> Result<Vec<Text>, Memory> {
+    let alloc = rt.alloc();
+    let mut words = Vec::new(alloc);
+    let Ok(args) = env::args(rt) else {
+        return Ok(words);
+    };
+    for arg in args {
+        let word = Text::of(alloc, arg.as_str())?;
+        words.push(word)?;
+    }
+    Ok(words)
+}
+
+/// Two taps for each of the most workers, with nothing counted.
+fn taps(alloc: Global) -> Result<Vec<CountTap>, Memory>
+    ensures count { IfOk result (λ taps. vec_len taps ≡ 128) }
+{
+    let mut taps = Vec::with_capacity(alloc, 128)?;
+    for _ in 0..128 {
+        taps.push(CountTap::new())?;
+    }
+    Ok(taps)
+}
