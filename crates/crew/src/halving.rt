@@ -1,5 +1,5 @@
-//! Running a slice of jobs, by halves of halves: three jobs are one in this thread's front half and two in the back
-//! half, which is halved again. The last half is one job, a leaf.
+//! Running a slice of jobs. It is halved, and each half again, until a part is one job: of three jobs the front half is
+//! job 0, and the back half, jobs 1 and 2, is halved once more.
 ghost use Rattle.std.specs.Prelude.{All};
 ghost use Rattle.std.specs.Thread.{IsSend, IsSync};
 ghost use Rattle.crew.specs.Jobs.{EachHasRun};
@@ -13,9 +13,9 @@ use std::thread::{Threads, join_mut};
 /// Of `has_run` nothing is known here but that one run of a ready job gives it. So the clause says "exactly once": a job
 /// that was left out, or that ran twice, need not stand in that relation.
 ///
-/// At each halving `join_mut` starts a thread for the front half and runs the back half in its own. So `n` jobs run in
-/// `n` threads, the caller's among them. Where a thread can't be started, its half is run by the thread that asked for
-/// it, after the other half.
+/// At each halving `join_mut` starts a thread for the front half, while the thread that halves runs the back half. So
+/// `n` jobs run in `n` threads, of which the caller's is one. Where no thread can be started, the thread that halves
+/// runs the front half too, after the back half.
 #[cycle(halves)]
 pub fn run_all<R: Threads + Wait + Sync, J: Job + Send>(rt: &R, jobs: &mut [J])
     requires { All J.is_ready jobs.old }
@@ -26,6 +26,7 @@ pub fn run_all<R: Threads + Wait + Sync, J: Job + Send>(rt: &R, jobs: &mut [J])
         [job] => job.run(rt),
         _ => {
             let (front, back) = jobs.split_at_mut(jobs.len() / 2);
+            // In a recursion nothing is inferred of a closure, so each states what the call of its half needs.
             let mut run_front = ||
                 requires { IsSync R.row × IsSend J.row × All J.is_ready front.now }
                 ensures { EachHasRun J.has_run front.entry.now front.exit.now }
