@@ -6,4 +6,5 @@ pub record EachHasRun {J : Type 0} (has_run : J → J → Type 0) (before after 
   -- no job is gone, and none has come
   pub len : length after ≡ length before
   -- the job at each place stands to the job that was there as one that has run
-  pub each : (k : ℕ) (d : J) → k < length before → has_run (slice_index_or before k d) (slice_index_or after k d)
+  pub each : (k : ℕ) (d : J) → k < length before
+      → has_run (slice_index_or before k d) (slice_index_or after k d)

@@ -1,5 +1,5 @@
 //! Crews of several sizes: each job does its work once, gives back what it owns, and meets all others while it runs.
-ghost use Rattle.std.specs.Prelude.{◌≡◌, ◌≢◌, ℕ, ◌+◌, ◌^◌, ◌<◌, All, IsNone, IsSome, None, map, option_map, length};
+ghost use Rattle.std.specs.Prelude.{◌≡◌, ◌+◌, ◌^◌, ◌<◌, All, IsNone, IsSome, map, option_map};
 
 use crate::{Job, run_all};
 use std::alloc::{AllocError, Global};
@@ -78,7 +78,8 @@ struct Punching {
 impl Job for Punching {
     ghost is_ready = { λ job. IsSome job.ticket × IsNone job.stub };
 
-    ghost has_run = { λ before after. IsNone after.ticket × IsSome after.stub × (option_map (λ stub. stub.number) after.stub ≡ option_map (λ ticket. ticket.number) before.ticket) };
+    ghost has_run = { λ before after. IsNone after.ticket × IsSome after.stub
+        × (option_map (λ stub. stub.number) after.stub ≡ option_map (λ ticket. ticket.number) before.ticket) };
 
     fn run<R: Threads + Wait + Sync>(&mut self, _rt: &R) {
         let stub = self.ticket.take().map(punch);
