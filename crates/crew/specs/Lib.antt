@@ -1,0 +1,2 @@
+-- What is said of jobs.
+pub mod Jobs
