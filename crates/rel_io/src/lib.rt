@@ -10,6 +10,8 @@ mod shelves;
 mod sinks;
 mod std_sink;
 mod taps;
+#[cfg(test)]
+mod tests;
 
 pub use count_tap::CountTap;
 pub use folder_shelf::FolderShelf;
