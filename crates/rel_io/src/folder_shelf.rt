@@ -99,7 +99,11 @@ fn fault_of(error: &io::Error) -> ShelfFault
 }
 
 /// Appends the next `most` bytes that a reader gives, or all until its end.
-fn read_first<F: Read>(file: &mut F, most: u64, into: &mut Vec<u8>) -> Result<(), ShelfFault>
+pub(crate) fn read_first<F: Read>(
+    file: &mut F,
+    most: u64,
+    into: &mut Vec<u8>,
+) -> Result<(), ShelfFault>
     ensures told { OnOk result (IfSome (F.remaining file.old) (λ bytes. into.new.items ≡ into.old.items ++ take most bytes)) }
     ensures ok { OnOk result (AppendsContent untold most into.old.items into.new.items) }
     ensures err { OnErr result (StartsWith into.new.items into.old.items) }

@@ -2,15 +2,17 @@
 ghost use Rattle.std.specs.Prelude.{IfOk};
 ghost use Rattle.rel_io.specs.InMemory.{HasDistinctNames};
 
+use crate::folder_shelf::read_first;
 use crate::{
     Bytes, Contents, CountTap, FolderShelf, MemShelf, MemSink, Shelf, ShelfFault, Sink, SinkFault,
     StdSink, Tap, Totals, offer,
 };
 use rel_base::{Memory, Places, Text};
 use std::alloc::Global;
-use std::fs;
+use std::io::{ErrorKind, Read};
 use std::process::Abort;
 use std::test::Fail;
+use std::{fs, io};
 
 /// The list of one number.
 fn one_place(alloc: Global, number: u32) -> Result<Places, Memory> {
@@ -176,6 +178,38 @@ fn a_folder_gives_its_files_and_tells_a_miss_from_a_fault(rt: HostRuntime) -> Re
     Ok(())
 }
 
+/// A reader that gives three bytes, and then fails.
+#[derive(Drop)]
+struct TornReader {
+    is_torn: bool,
+}
+
+impl Read for TornReader {
+    fn read(&mut self, buf: &mut [u8]) -> io::Result<usize> {
+        if self.is_torn {
+            return Err(io::Error::from(ErrorKind::Other));
+        }
+        self.is_torn = true;
+        let count = buf.len().min(3);
+        buf[..count].fill(b'x');
+        Ok(count)
+    }
+}
+
+#[test]
+fn a_read_that_fails_midway_is_a_fault_and_keeps_what_stood_there(
+    rt: HostRuntime,
+) -> Result<(), Fail> {
+    let mut into = b"kept".to_vec(rt.alloc())?;
+    let mut file = TornReader { is_torn: false };
+    assert_eq!(rt;
+        read_first(&mut file, 9, &mut into),
+        Err(ShelfFault::Failed)
+    );
+    assert!(rt; into.as_slice().starts_with(b"kept"));
+    Ok(())
+}
+
 #[test]
 fn standard_output_takes_a_piece_and_finishes(rt: HostRuntime) -> Result<(), Fail> {
     let mut out = StdSink::buffered(rt.alloc(), rt.stdout())?;
@@ -183,6 +217,15 @@ fn standard_output_takes_a_piece_and_finishes(rt: HostRuntime) -> Result<(), Fai
     assert_eq!(rt; out.finish(), Ok(()));
     let mut err = StdSink::new(rt.stderr());
     assert_eq!(rt; offer(&mut err, b"standard error\n"), Ok(()));
+    Ok(())
+}
+
+#[test]
+fn a_finish_that_cannot_hand_on_what_was_kept_back_is_a_fault(rt: HostRuntime) -> Result<(), Fail> {
+    let mut room = [0; 3];
+    let mut sink = StdSink::buffered(rt.alloc(), room.as_mut_slice())?;
+    assert_eq!(rt; sink.write(b"abcd"), Ok(4));
+    assert_eq!(rt; sink.finish(), Err(SinkFault::Failed));
     Ok(())
 }
 
