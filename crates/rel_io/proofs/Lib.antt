@@ -1,2 +1,3 @@
--- The lemmas of this crate.
+-- The lemmas of this crate, and its worked rows.
 pub mod OutsideLemmas
+pub mod WorkedRows

@@ -5,7 +5,7 @@ use crate::{Tap, Totals};
 use std::marker::Model;
 
 /// A tap that keeps its three sums, which start at 0.
-#[derive(Debug, Drop)]
+#[derive(Debug, Default, Drop)]
 pub struct CountTap {
     totals: Totals,
 }

@@ -5,12 +5,11 @@ ghost use Rattle.std.specs.IoError.{error_kind};
 ghost use Rattle.rel_io.specs.Outside.{AppendsContent, Rose, untold};
 
 use crate::{Shelf, ShelfFault};
-use std::fs;
 use std::fs::OpenFile;
-use std::io;
 use std::io::{ErrorKind, Read};
 use std::marker::Model;
 use std::rt::Files;
+use std::{fs, io};
 
 /// The files of the current folder, read through the runtime. It tells no content.
 ///
@@ -73,12 +72,7 @@ impl<R: Files> Shelf for FolderShelf<'_, R> {
 }
 
 /// Appends the first `most` bytes of a file.
-fn read_file<R: Files>(
-    rt: &R,
-    name: &str,
-    most: u64,
-    into: &mut Vec<u8>,
-) -> Result<(), ShelfFault>
+fn read_file<R: Files>(rt: &R, name: &str, most: u64, into: &mut Vec<u8>) -> Result<(), ShelfFault>
     ensures ok { OnOk result (AppendsContent untold most into.old.items into.new.items) }
     ensures err { OnErr result (StartsWith into.new.items into.old.items) }
 {
@@ -105,7 +99,11 @@ fn fault_of(error: &io::Error) -> ShelfFault
 }
 
 /// Appends the next `most` bytes that a reader gives, or all until its end.
-fn read_first<F: Read>(file: &mut F, most: u64, into: &mut Vec<u8>) -> Result<(), ShelfFault>
+pub(crate) fn read_first<F: Read>(
+    file: &mut F,
+    most: u64,
+    into: &mut Vec<u8>,
+) -> Result<(), ShelfFault>
     ensures told { OnOk result (IfSome (F.remaining file.old) (λ bytes. into.new.items ≡ into.old.items ++ take most bytes)) }
     ensures ok { OnOk result (AppendsContent untold most into.old.items into.new.items) }
     ensures err { OnErr result (StartsWith into.new.items into.old.items) }

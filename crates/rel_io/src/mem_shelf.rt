@@ -16,7 +16,7 @@ pub type Bytes = Items<u8>;
 pub type Contents = Items<(Text, Bytes)>;
 
 /// A shelf that holds its files in memory and tells them. It fails at chosen fetches and at no other.
-#[derive(Drop)]
+#[derive(Debug, Drop)]
 pub struct MemShelf {
     contents: Contents,
     failing: Places,

@@ -8,7 +8,7 @@ use std::alloc::Global;
 use std::marker::Model;
 
 /// A sink that keeps in memory what it takes, and tells it. It fails at chosen writes and at no other.
-#[derive(Drop)]
+#[derive(Debug, Drop)]
 pub struct MemSink {
     taken: Vec<u8>,
     most: u64,

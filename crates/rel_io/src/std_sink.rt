@@ -1,5 +1,5 @@
 //! Standard output and standard error.
-ghost use Rattle.std.specs.Prelude.{◌≡◌, [], IfOk, IfErr, OnOk, OnErr};
+ghost use Rattle.std.specs.Prelude.{◌≡◌, ◌^◌, ◌<◌, [], IfOk, IfErr, OnOk, OnErr};
 ghost use Rattle.std.specs.Io.Buffered.{writer_inner, writer_buffer, writer_capacity};
 ghost use Rattle.std.specs.Io.KnownBytes.{Keeps};
 ghost use Rattle.rel_io.specs.Outside.{capped_sum};
@@ -65,11 +65,19 @@ impl<W: Write> StdSink<W> {
     {
         match self.writer.flush() {
             Ok(()) => Ok(()),
-            Err(_) => {
-                self.faults = self.faults.saturating_add(1);
-                Err(SinkFault::Failed)
-            }
+            Err(_) => Err(self.fault()),
         }
+    }
+
+    /// Counts a fault.
+    fn fault(&mut self) -> SinkFault
+        ensures failed { result ≡ SinkFault.Failed }
+        ensures writer { self.new.0 ≡ self.old.0 }
+        ensures faults { self.new.1 ≡ capped_sum self.old.1 1 }
+        ensures bound { self.old.1 < 2 ^ 64 }
+    {
+        self.faults = self.faults.saturating_add(1);
+        SinkFault::Failed
     }
 }
 
@@ -83,10 +91,7 @@ impl<W: Write> Sink for StdSink<W> {
     fn write(&mut self, piece: &[u8]) -> Result<usize, SinkFault> {
         match self.writer.write(piece) {
             Ok(count) if count > 0 => Ok(count),
-            _ => {
-                self.faults = self.faults.saturating_add(1);
-                Err(SinkFault::Failed)
-            }
+            Ok(_) | Err(_) => Err(self.fault()),
         }
     }
 }

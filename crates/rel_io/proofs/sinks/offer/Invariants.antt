@@ -8,7 +8,7 @@ invariant-loop-done g l = record {
   within : l.done ≤ length l.piece;
   taken : Appends (g.S.Sink.taken l.fn.sink) (g.S.Sink.taken l.sink) (take l.done l.piece);
   faults : g.S.Sink.faults l.fn.sink ≤ g.S.Sink.faults l.sink;
-  wants : g.S.Sink.wants l.fn.sink ≤ g.S.Sink.wants l.sink
+  wants : g.S.Sink.wants l.fn.sink ≤ g.S.Sink.wants l.sink;
 }
 
 abbrev pub decreases-loop-done : goal.decreases-loop-done
