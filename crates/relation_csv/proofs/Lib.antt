@@ -1,0 +1,13 @@
+pub mod OnLiterals
+pub mod WorkedRows
+pub mod RecordsLeftLemmas
+pub mod IntLemmas
+pub mod ColumnLemmas
+pub mod EachLemmas
+pub mod RecordIterLemmas
+pub mod ReadAsLemmas
+pub mod SchemaLemmas
+pub mod RowLemmas
+pub mod RowsLemmas
+pub mod RelationLemmas
+pub mod TypeLemmas

@@ -1,0 +1,59 @@
+-- A reader as the list of records that it has left.
+--
+--   records_left r        the records that reader r has not read yet
+--   IsSteady r            reader r is set up as `records_of_bytes` says, and has not failed
+--   fault_of_kind k       what an error of the csv crate means for a file
+--   IsReadAs answer o     what was read is what the definition gives, short of memory
+--   StartsWithNoText rs   the next record is not text
+use Rattle.std.specs.Prelude.{◌≡◌, ℕ, ◌+◌, Bool, true, false, ⊤, Option, Some, None, IsSome, Result, Ok, Err, List, [], ◌∷◌, length}
+use Rattle.std.specs.Borrow.{Bor}
+use Rattle.std.specs.Option.{option_map_or}
+use Rattle.csv.specs.Reading.{Ready, default_config, is_flexible, reader_config, reader_state, reader_trim, records_from, source_of}
+use Rattle.csv.specs.declared.parser.State.{State}
+use Rattle.csv.specs.declared.reader.Reader.{Reader}
+use Rattle.csv.specs.declared.reader.Trim.TheVariants as trim
+use Rattle.csv.specs.declared.error.ErrorKind.{ErrorKind}
+use Rattle.csv.specs.declared.error.ErrorKind.TheVariants as kind
+use Rattle.relation_csv.specs.declared.faults.RelFault.{RelFault}
+use Rattle.relation_csv.specs.declared.faults.RelFault.TheVariants as fault
+use Rattle.relation_csv.specs.Files.{Record, is_text}
+
+-- the bytes that a slice has left are its own
+abbrev pub bytes_in : Bor (List ℕ) → Option (List ℕ)
+bytes_in slice = Some slice.now
+
+-- the records of the bytes that follow where the reader stands
+abbrev pub records_after : State → List ℕ → List Record
+records_after state bytes = records_from default_config (length bytes + 1) state bytes
+
+-- the records that a reader has not read yet
+unfoldable pub records_left : Reader (Bor (List ℕ)) → List Record
+records_left reader =
+    option_map_or (records_after (reader_state reader)) (source_of bytes_in reader) []
+
+-- the reader reads by default settings, sets no header apart, takes records of any length, and has not failed
+pub record IsSteady (reader : Reader (Bor (List ℕ))) : Type 0 where
+  pub config : reader_config reader ≡ default_config
+  pub untrimmed : reader_trim reader ≡ trim.None
+  pub flexible : is_flexible reader ≡ true
+  pub ready : Ready reader
+  pub source_known : IsSome (source_of bytes_in reader)
+
+-- what an error of the csv crate means for a file: want of memory, or a fault of the file
+abbrev pub fault_of_kind : ErrorKind → RelFault
+fault_of_kind (kind.Io e) = fault.Memory
+fault_of_kind kind.OutOfMemory = fault.Memory
+fault_of_kind (kind.Utf8 pos err) = fault.NotBuilt
+fault_of_kind (kind.UnequalLengths pos expected len) = fault.NotBuilt
+fault_of_kind (kind.Serialize why) = fault.NotBuilt
+fault_of_kind (kind.Deserialize pos err) = fault.NotBuilt
+
+-- there is a next record, and it is not text
+abbrev pub StartsWithNoText : List Record → Type 0
+StartsWithNoText left = (fields : Record) × (rest : List Record) × (left ≡ fields ∷ rest) × (is_text fields ≡ false)
+
+-- what was read is what the definition gives, a fault where it gives nothing, and after `Memory` either may be so
+abbrev pub IsReadAs : {T : Type 0} → Result T RelFault → Option T → Type 0
+IsReadAs (Ok x) given = given ≡ Some x
+IsReadAs (Err fault.NotBuilt) given = given ≡ None
+IsReadAs (Err fault.Memory) given = ⊤
