@@ -1,2 +1,3 @@
 mod PieceLemmas
 mod ReadingLemmas
+mod VerdictLemmas

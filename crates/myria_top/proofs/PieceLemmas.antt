@@ -1,8 +1,9 @@
 -- What a sink has taken of a text, piece after piece.
-use Rattle.std.proofs.Common.{◌≡◌, ℕ, ◌+◌, ◌-◌, ◌<◌, ◌≤◌, min, List, [], ◌∷◌, ◌++◌, get_or, length, take, drop, Option, Result, Ok, Err, OnOk, OnErr, sym, ◌∙◌, ap, subst, arith}
-use Rattle.std.proofs.Math.Seq.{take-add, take-append-add}
+use Rattle.std.proofs.Common.{◌≡◌, ℕ, ◌+◌, ◌-◌, ◌<◌, ◌≤◌, min, List, [], ◌∷◌, ◌++◌, get_or, length, take, drop, Option, Result, Ok, Err, OnOk, OnErr, sym, ◌∙◌, ap, subst, arith, add-one, append_assoc}
+use Rattle.std.proofs.Math.Seq.{take-add, take-append-add, take-suc}
 use Rattle.std.specs.List.{flat_map}
-use Rattle.std.proofs.lemmas.List.{length-take, length-drop, length-append, take-take, take_rest}
+use Rattle.std.proofs.lemmas.List.{length-take, length-drop, length-append, append-nil, take-take, take_rest, take_all}
+use Rattle.std.proofs.lemmas.List.Concat.{flat_map-append}
 use Rattle.std.proofs.KnownBytes.{Appends-trans}
 use Rattle.std.specs.Io.KnownBytes.{Appends}
 use Rattle.rel_io.specs.Outside.{TakesPart}
@@ -66,3 +67,18 @@ appends_line r a b bytes line is = subst (λ xs. OnOk r (Appends a b xs)) is
 
 pub takes_line : {T E : Type 0} (r : Result T E) (a b : Option (List ℕ)) (bytes line : List ℕ) → bytes ≡ line → OnErr r (TakesPart a b bytes) → OnErr r (TakesPart a b line)
 takes_line r a b bytes line is = subst (λ xs. OnErr r (TakesPart a b xs)) is
+
+-- ---- a text that grows item by item
+
+module _ {X : Type 0} (f : X → List ℕ) (front : List ℕ) (xs : List X) where
+  -- one item more
+  pub text_more : (text longer : List ℕ) (i : ℕ) (x : X) → i < length xs → x ≡ get_or xs i x → text ≡ front ++ flat_map f (take i xs) → longer ≡ text ++ f x → longer ≡ front ++ flat_map f (take (i + 1) xs)
+  text_more text longer i x h is so_far grown =
+      let item : take (i + 1) xs ≡ take i xs ++ x ∷ [] = (rw add-one (take-suc xs i x h)) ∙ ap (λ (y : X). take i xs ++ y ∷ []) (sym is) in
+      let more : flat_map f (take (i + 1) xs) ≡ flat_map f (take i xs) ++ f x =
+      ap (flat_map f) item ∙ flat_map-append f (take i xs) (x ∷ []) ∙ ap (λ (t : List ℕ). flat_map f (take i xs) ++ t) (append-nil (f x)) in
+      grown ∙ ap (λ (t : List ℕ). t ++ f x) so_far ∙ append_assoc front (flat_map f (take i xs)) (f x) ∙ ap (λ (t : List ℕ). front ++ t) (sym more)
+
+  -- all items
+  pub text_whole : (text : List ℕ) (i : ℕ) → length xs ≤ i → text ≡ front ++ flat_map f (take i xs) → text ≡ front ++ flat_map f xs
+  text_whole text i h so_far = so_far ∙ ap (λ (ys : List X). front ++ flat_map f ys) (take_all i xs h)

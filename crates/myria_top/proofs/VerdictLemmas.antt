@@ -17,6 +17,7 @@ use Rattle.relation_csv.specs.RecordTexts.{header_record, row_record}
 use Rattle.myria_top.specs.declared.asked.Request.{Request}
 use Rattle.myria_top.specs.declared.outcomes.Outcome.{Outcome}
 use Rattle.myria_top.specs.declared.outcomes.Outcome.TheVariants as outcome
+use Rattle.myria_top.specs.declared.outcomes.Part.TheVariants as part
 use Rattle.myria_top.specs.OutputText.{output_text, relation_text, relation_text_in_order, store_line}
 use Rattle.myria_top.specs.Reading.{AgreesRefused, Counts, HasCause, script_name, script_step}
 use Rattle.myria_top.specs.Steps.{Step, untold, refused, goes, then_step, IfTold}
@@ -39,18 +40,18 @@ refused_first s f outcome.NoScript h = carried s f outcome.NoScript h
 refused_first s f (outcome.NoRelation key) h = carried s f (outcome.NoRelation key) h
 refused_first s f (outcome.NotBuilt p) h = carried s f (outcome.NotBuilt p) h
 
-nothing_told : {X Y : Type 0} (s : Step X) (answer : Outcome) → AgreesRefused s answer → AgreesRefused {X = Y} untold answer
-nothing_told s outcome.Done h = h
-nothing_told s outcome.WriteFault h = h
-nothing_told s (outcome.ReadFault name) h = tt
-nothing_told s outcome.Memory h = tt
-nothing_told s outcome.NoScript h = tt
-nothing_told s (outcome.NoRelation key) h = tt
-nothing_told s (outcome.NotBuilt p) h = tt
+nothing_told : {X : Type 0} (Y : Type 0) (s : Step X) (answer : Outcome) → AgreesRefused s answer → AgreesRefused {X = Y} untold answer
+nothing_told Y s outcome.Done h = h
+nothing_told Y s outcome.WriteFault h = h
+nothing_told Y s (outcome.ReadFault name) h = tt
+nothing_told Y s outcome.Memory h = tt
+nothing_told Y s outcome.NoScript h = tt
+nothing_told Y s (outcome.NoRelation key) h = tt
+nothing_told Y s (outcome.NotBuilt p) h = tt
 
 -- a refusal of the second step, on the value of the first, is a refusal of both
 pub refused_second : {X Y : Type 0} (s : Step X) (f : X → Step Y) (x : X) (answer : Outcome) → IfTold s (λ t. t ≡ goes x) → AgreesRefused (f x) answer → AgreesRefused (then_step s f) answer
-refused_second untold f x answer h r = nothing_told (f x) answer r
+refused_second {Y = Y} untold f x answer h r = nothing_told Y (f x) answer r
 refused_second (refused other) f x answer h r = cc
 refused_second (goes y) f x answer h r = let same : x ≡ y = cc in subst (λ z. AgreesRefused (f z) answer) same r
 
@@ -76,7 +77,7 @@ module _ (words : List (List ℕ)) (content : List ℕ → Content) (name : List
   of_stored stored = goes (output_text stored)
 
   is_named : text_step words content ≡ then_step (of_name name) of_stored
-  is_named = ap (λ (o : Option (List ℕ)). then_step (option_map_or of_name o (refused _)) of_stored) named
+  is_named = ap (λ (o : Option (List ℕ)). then_step (option_map_or of_name o (refused (outcome.NotBuilt part.Words))) of_stored) named
 
   pub script_refuses : (answer : Outcome) → AgreesRefused (script_step (content name)) answer → AgreesRefused (text_step words content) answer
   script_refuses answer h =
@@ -126,3 +127,16 @@ HasCause-part part run P Q outcome.Done w f h = tt
 HasCause-part part run P Q outcome.WriteFault w f h = tt
 HasCause-part part run P Q outcome.Memory w f h = tt
 HasCause-part part run P Q (outcome.NotBuilt p) w f h = tt
+
+-- ---- a step on the same content
+
+-- what the relation's file comes to after a call that changed no file
+pub same_content : (before after : List ℕ → Content) (key : Key) (table : Table) → after ≡ before → IfTold (relation_step key (after (shelf_name_of key))) (λ s. s ≡ goes table) → IfTold (relation_step key (before (shelf_name_of key))) (λ s. s ≡ goes table)
+same_content before after key table same h = subst (λ (content : List ℕ → Content). IfTold (relation_step key (content (shelf_name_of key))) (λ s. s ≡ goes table)) same h
+
+-- the text of a relation that was sorted is what the step goes on with
+pub text_of_sorted : (step : Step (List ℕ)) (request : Request) (table ordered : Table) (text : List ℕ) → IfTold step (λ s. s ≡ goes (output_text (stored_relations request table))) → ordered.schema ≡ table.schema → ordered.rows ≡ sorted table.rows → text ≡ relation_text_in_order request.stored ordered → IfTold step (λ s. s ≡ goes text)
+text_of_sorted step request table ordered text told schema rows is =
+    let same : ordered ≡ record { schema = table.schema; rows = sorted table.rows } = λ i. record { schema = schema i; rows = rows i } in
+    let whole : output_text (stored_relations request table) ≡ text = sym (is ∙ ap (relation_text_in_order request.stored) same ∙ output_text-sorted request table) in
+    subst (λ (t : List ℕ). IfTold step (λ s. s ≡ goes t)) whole told

@@ -5,7 +5,7 @@ ghost use Rattle.rel_io.specs.Outside.{Rose, TakesPart};
 
 use rel_base::{Key, Memory, Relation};
 use rel_io::{Sink, SinkFault, offer};
-use relation_csv::RecordWriter;
+use relation_csv::{header_text, row_text};
 use std::alloc::Global;
 use std::marker::Model;
 
@@ -36,17 +36,16 @@ impl Pieces {
         let count = rows.len();
         let mut lengths = Vec::with_capacity(alloc, count.saturating_add(2))?;
         let line = format!(in alloc; "-- store {key} {count} rows\n")?;
-        lengths.push(line.len())?;
-        let mut records = RecordWriter::new(alloc, line.into_bytes());
-        let start = records.len();
-        records.header(relation.schema())?;
-        lengths.push(records.len().saturating_sub(start))?;
+        let mut text = line.into_bytes();
+        lengths.push(text.len())?;
+        let start = text.len();
+        header_text(relation.schema(), &mut text)?;
+        lengths.push(text.len().saturating_sub(start))?;
         for row in rows {
-            let start = records.len();
-            records.row(row)?;
-            lengths.push(records.len().saturating_sub(start))?;
+            let start = text.len();
+            row_text(row, &mut text)?;
+            lengths.push(text.len().saturating_sub(start))?;
         }
-        let text = records.into_bytes();
         Ok(Pieces { text, lengths })
     }
 

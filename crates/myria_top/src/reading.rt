@@ -1,5 +1,5 @@
 //! Reads the words, the script and the relation that it asks for.
-ghost use Rattle.std.specs.Prelude.{◌≡◌, ◌≤◌, ◌⊎◌, Err, IfOk, option_map};
+ghost use Rattle.std.specs.Prelude.{◌≡◌, ◌≢◌, ◌≤◌, ◌⊎◌, Err, IfOk, option_map};
 ghost use Rattle.rel_io.specs.Outside.{IsGiven, MayBeMissing, Rose};
 ghost use Rattle.rel_base.specs.Keys.{shelf_name_of};
 ghost use Rattle.myria_top.specs.Reading as spec;
@@ -37,6 +37,7 @@ pub fn read_script<F: Shelf>(alloc: Global, shelf: &mut F, name: &Text) -> Resul
           misses_after = F.misses shelf.new;
         })
         (λ asked. asked ≡ name.now) result }
+    ensures part { result ≢ Err (Outcome.NotBuilt Part.Words) }
     ensures content { F.content shelf.new ≡ F.content shelf.old }
 {
     let most = MOST_SCRIPT_BYTES as u64 + 1;
@@ -59,9 +60,14 @@ pub fn read_script<F: Shelf>(alloc: Global, shelf: &mut F, name: &Text) -> Resul
 /// The relation of this key.
 pub fn read_scanned<F: Shelf>(alloc: Global, shelf: &mut F, key: &Key) -> Result<Relation, Outcome>
     ensures read { spec.ReadsStep (relation_step key.now (F.content shelf.old (shelf_name_of key.now)))
-        (record { faults_before = F.faults shelf.old; faults_after = F.faults shelf.new;
-            misses_before = F.misses shelf.old; misses_after = F.misses shelf.new })
+        (record {
+          faults_before = F.faults shelf.old;
+          faults_after = F.faults shelf.new;
+          misses_before = F.misses shelf.old;
+          misses_after = F.misses shelf.new;
+        })
         (λ asked. asked ≡ shelf_name_of key.now) result }
+    ensures part { result ≢ Err (Outcome.NotBuilt Part.Words) }
     ensures content { F.content shelf.new ≡ F.content shelf.old }
 {
     let name = match key.shelf_name(alloc) {
@@ -76,11 +82,15 @@ pub fn read_scanned<F: Shelf>(alloc: Global, shelf: &mut F, key: &Key) -> Result
         Err(ShelfFault::Memory) => return Err(Outcome::Memory),
     };
     if file.len() > MOST_RELATION_BYTES {
-        return Err(Outcome::NotBuilt { part: Part::Relation });
+        return Err(Outcome::NotBuilt {
+            part: Part::Relation,
+        });
     }
     match read_relation(alloc, &file) {
         Ok(relation) => Ok(relation),
-        Err(RelFault::NotBuilt) => Err(Outcome::NotBuilt { part: Part::Relation }),
+        Err(RelFault::NotBuilt) => Err(Outcome::NotBuilt {
+            part: Part::Relation,
+        }),
         Err(RelFault::Memory) => Err(Outcome::Memory),
     }
 }

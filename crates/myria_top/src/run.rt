@@ -1,6 +1,6 @@
 //! One run of the program, from its words to its exit.
 ghost use Rattle.std.specs.Prelude.{◌≡◌, ◌↔◌, All, None, Err, vec_len};
-ghost use Rattle.rel_io.specs.Taps.{no_rows};
+ghost use Rattle.myria_top.specs.Headline.{no_rows};
 ghost use Rattle.myria_top.specs.Headline.{Headline, Explains, IsAskedOf};
 ghost use Rattle.myria_top.specs.Reading as read;
 ghost use Rattle.myria_top.specs.Verdicts.{text_step};
@@ -32,16 +32,31 @@ pub fn run_words<R: Threads + Wait + Sync, F: Shelf, O: Sink, E: Sink, T: Tap + 
     requires count { vec_len taps.old ≡ 128 }
     requires fresh { All (λ tap. T.totals tap ≡ no_rows) taps.old.items }
     ensures headline { Headline (record {
-        words = words.now;
-        content = F.content shelf.old;
-        shelf = record { faults_before = F.faults shelf.old; faults_after = F.faults shelf.new;
-            misses_before = F.misses shelf.old; misses_after = F.misses shelf.new };
-        out = record { before = O.taken out.old; after = O.taken out.new;
-            faults_before = O.faults out.old; faults_after = O.faults out.new;
-            wants_before = O.wants out.old; wants_after = O.wants out.new } })
-        (record { before = E.taken err.old; after = E.taken err.new;
-            faults_before = E.faults err.old; faults_after = E.faults err.new;
-            wants_before = E.wants err.old; wants_after = E.wants err.new }) result }
+      words = words.now;
+      content = F.content shelf.old;
+      shelf = record {
+        faults_before = F.faults shelf.old;
+        faults_after = F.faults shelf.new;
+        misses_before = F.misses shelf.old;
+        misses_after = F.misses shelf.new;
+      };
+      out = record {
+        before = O.taken out.old;
+        after = O.taken out.new;
+        faults_before = O.faults out.old;
+        faults_after = O.faults out.new;
+        wants_before = O.wants out.old;
+        wants_after = O.wants out.new;
+      };
+    })
+        (record {
+          before = E.taken err.old;
+          after = E.taken err.new;
+          faults_before = E.faults err.old;
+          faults_after = E.faults err.new;
+          wants_before = E.wants err.old;
+          wants_after = E.wants err.new;
+        }) result }
     ensures taps { taps.new.items ≡ taps.old.items }
 {
     let answer = answer(alloc, words, shelf, out);
@@ -52,13 +67,23 @@ pub fn run_words<R: Threads + Wait + Sync, F: Shelf, O: Sink, E: Sink, T: Tap + 
 /// The answer of a run, once its text is printed.
 fn answer<F: Shelf, O: Sink>(alloc: Global, words: &[Text], shelf: &mut F, out: &mut O) -> Outcome
     ensures explained { Explains (record {
-        words = words.now;
-        content = F.content shelf.old;
-        shelf = record { faults_before = F.faults shelf.old; faults_after = F.faults shelf.new;
-            misses_before = F.misses shelf.old; misses_after = F.misses shelf.new };
-        out = record { before = O.taken out.old; after = O.taken out.new;
-            faults_before = O.faults out.old; faults_after = O.faults out.new;
-            wants_before = O.wants out.old; wants_after = O.wants out.new } }) result }
+      words = words.now;
+      content = F.content shelf.old;
+      shelf = record {
+        faults_before = F.faults shelf.old;
+        faults_after = F.faults shelf.new;
+        misses_before = F.misses shelf.old;
+        misses_after = F.misses shelf.new;
+      };
+      out = record {
+        before = O.taken out.old;
+        after = O.taken out.new;
+        faults_before = O.faults out.old;
+        faults_after = O.faults out.new;
+        wants_before = O.wants out.old;
+        wants_after = O.wants out.new;
+      };
+    }) result }
     ensures words_exactly { (result ≡ Outcome.NotBuilt Part.Words) ↔ (read.script_name words.now ≡ None) }
 {
     let text = match prepared(alloc, words, shelf) {
@@ -75,16 +100,26 @@ fn answer<F: Shelf, O: Sink>(alloc: Global, words: &[Text], shelf: &mut F, out: 
 /// The text of a run, with nothing printed yet.
 fn prepared<F: Shelf>(alloc: Global, words: &[Text], shelf: &mut F) -> Result<Pieces, Outcome>
     ensures read { read.ReadsStep (text_step words.now (F.content shelf.old))
-        (record { faults_before = F.faults shelf.old; faults_after = F.faults shelf.new;
-            misses_before = F.misses shelf.old; misses_after = F.misses shelf.new })
+        (record {
+          faults_before = F.faults shelf.old;
+          faults_after = F.faults shelf.new;
+          misses_before = F.misses shelf.old;
+          misses_after = F.misses shelf.new;
+        })
         (IsAskedOf words.now (F.content shelf.old)) result }
     ensures words_exactly { (result ≡ Err (Outcome.NotBuilt Part.Words)) ↔ (read.script_name words.now ≡ None) }
 {
     let Some(name) = script_name(words) else {
         return Err(Outcome::NotBuilt { part: Part::Words });
     };
-    let request = read_script(alloc, shelf, name)?;
-    let mut relation = read_scanned(alloc, shelf, &request.scanned)?;
+    let request = match read_script(alloc, shelf, name) {
+        Ok(request) => request,
+        Err(refusal) => return Err(refusal),
+    };
+    let mut relation = match read_scanned(alloc, shelf, &request.scanned) {
+        Ok(relation) => relation,
+        Err(refusal) => return Err(refusal),
+    };
     relation.sort();
     match Pieces::of_relation(alloc, &request.stored, &relation) {
         Ok(text) => Ok(text),

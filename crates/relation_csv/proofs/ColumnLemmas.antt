@@ -1,7 +1,6 @@
 -- std's `rsplit_once` at a colon gives the two parts of a header field.
-use Rattle.std.proofs.Common.{◌≡◌, ◌≢◌, ◌∙◌, ℕ, suc, ◌+◌, ◌-◌, ◌<◌, ◌≤◌, Bool, true, false, not, eqb, Option, Some, None, option_map, List, [], ◌∷◌, length, get_or, take, drop, reverse, refl, sym, ap, arith, length-drop, Bor}
+use Rattle.std.proofs.Common.{◌≡◌, ◌≢◌, ◌∙◌, ℕ, ◌+◌, ◌-◌, ◌<◌, true, false, not, eqb, Some, None, option_map, List, length, get_or, take, drop, reverse, refl, sym, ap, arith, length-drop}
 use Rattle.std.specs.List.{after_last, before_last, list_any, suffix_len}
-use Rattle.std.specs.Option.{MatchOption}
 use Rattle.std.specs.Str.Pattern.{RFindsChar, SplitsAroundMatch}
 use Rattle.std.proofs.lemmas.Bool.{eq-eqb, ne_eqb}
 use Rattle.std.proofs.lemmas.List.{get_or-drop, get_or-reverse, get_or_default, length-reverse}
@@ -19,14 +18,14 @@ suffix_len-last s i low at behind =
     let size = length-reverse s in
     prefix_len_is (λ b. not (is_colon b)) (reverse s) (length s - 1 - i) 0 (omega arith)
     (λ k before.
-      let from_front = get_or-reverse s k 0 (omega arith) in
-      let other = ne_eqb (get_or s (length s - 1 - k) 0) 58 (behind (length s - 1 - k) (omega arith) (omega arith)) in
-      ap (λ (b : ℕ). not (eqb b 58)) from_front ∙ ap not other)
+    let from_front = get_or-reverse s k 0 (omega arith) in
+    let other = ne_eqb (get_or s (length s - 1 - k) 0) 58 (behind (length s - 1 - k) (omega arith) (omega arith)) in
+    ap (λ (b : ℕ). not (eqb b 58)) from_front ∙ ap not other)
     (λ within.
-      let from_front = get_or-reverse s (length s - 1 - i) 0 (omega arith) in
-      let place : length s - 1 - (length s - 1 - i) ≡ i = omega arith in
-      let colon = eq-eqb (get_or s i 0) 58 at in
-      ap (λ (b : ℕ). not (eqb b 58)) (from_front ∙ ap (λ (k : ℕ). get_or s k 0) place) ∙ ap not colon)
+    let from_front = get_or-reverse s (length s - 1 - i) 0 (omega arith) in
+    let place : length s - 1 - (length s - 1 - i) ≡ i = omega arith in
+    let colon = eq-eqb (get_or s i 0) 58 at in
+    ap (λ (b : ℕ). not (eqb b 58)) (from_front ∙ ap (λ (k : ℕ). get_or s k 0) place) ∙ ap not colon)
 
 -- the parts round the last colon, by its place
 before_last-last : (s : List ℕ) (i : ℕ) → i < length s → suffix_len (λ b. not (is_colon b)) s ≡ length s - 1 - i → before_last is_colon s ≡ take i s
@@ -51,10 +50,10 @@ SplitsAroundMatch-colon s front back m =
     let next : j ≡ i + 1 = at.ends in
     let colon : get_or s i 0 ≡ 58 = at.byte (omega arith) in
     let behind : (k : ℕ) → i < k → k < length s → get_or s k 0 ≢ 58 = λ k above below e.
-      let size = length-drop j s in
-      let shifted = get_or-drop j s (k - j) 0 in
-      let place : j + (k - j) ≡ k = omega arith in
-      NoCharPasses-char 58 (drop j s) (k - j) clear (omega arith) (omega arith) (shifted ∙ ap (λ (n : ℕ). get_or s n 0) place ∙ e) in
+    let size = length-drop j s in
+    let shifted = get_or-drop j s (k - j) 0 in
+    let place : j + (k - j) ≡ k = omega arith in
+    NoCharPasses-char 58 (drop j s) (k - j) clear (omega arith) (omega arith) (shifted ∙ ap (λ (n : ℕ). get_or s n 0) place ∙ e) in
     let low : i < length s = omega arith in
     let suffix = suffix_len-last s i low colon behind in
     record {

@@ -11,3 +11,4 @@ pub mod RowLemmas
 pub mod RowsLemmas
 pub mod RelationLemmas
 pub mod TypeLemmas
+pub mod TextLemmas

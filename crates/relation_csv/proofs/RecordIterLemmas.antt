@@ -1,5 +1,5 @@
 -- A loop over the fields of a record has them in turn.
-use Rattle.std.proofs.Common.{◌≡◌, ◌∙◌, ℕ, zero, suc, ◌+◌, Option, Some, None, option_map, List, [], ◌∷◌, length, drop, refl, sym, ap, add-one, arith, Bor}
+use Rattle.std.proofs.Common.{◌≡◌, ◌∙◌, ℕ, zero, suc, ◌+◌, Option, Some, None, option_map, List, [], ◌∷◌, length, drop, refl, sym, ap, arith, Bor}
 use Rattle.std.specs.declared.iter.Zip.{Zip}
 use Rattle.std.specs.declared.slice.Iter.{Iter}
 use Rattle.std.specs.Iterator.Adapters.{zip_first, zip_second}

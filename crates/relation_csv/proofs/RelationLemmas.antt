@@ -1,9 +1,8 @@
 -- The relation of a file, by its header and its rows.
-use Rattle.std.proofs.Common.{◌≡◌, ◌∙◌, ◌&&◌, ℕ, eqb, true, false, Bool, Option, Some, None, option_map, List, [], ◌∷◌, length, zip, refl, sym, ap, cond, arith}
+use Rattle.std.proofs.Common.{◌≡◌, ℕ, Some, None, List, [], ◌∷◌, refl}
 use Rattle.rel_base.specs.declared.tables.Column.{Column}
 use Rattle.rel_base.specs.declared.values.Value.{Value}
-use Rattle.rel_base.specs.Relations.{Table}
-use Rattle.relation_csv.specs.Files.{Record, is_text, records_of_bytes, relation_of_bytes, rows_of_records, schema_of_record}
+use Rattle.relation_csv.specs.Files.{Record, records_of_bytes, relation_of_bytes, rows_of_records, schema_of_record}
 use Rattle.relation_csv.specs.RecordsLeft.{StartsWithNoText}
 
 module _ (bytes : List ℕ) where

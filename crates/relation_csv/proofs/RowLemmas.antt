@@ -1,5 +1,5 @@
 -- The row of a record, and when there is none.
-use Rattle.std.proofs.Common.{◌≡◌, ◌&&◌, ◌≢◌, eqb, Bool, true, false, cond, Option, Some, None, List, length, zip, refl, arith}
+use Rattle.std.proofs.Common.{◌≡◌, ◌&&◌, ◌≢◌, eqb, true, Some, None, List, length, zip, refl}
 use Rattle.std.proofs.lemmas.Bool.{eq-eqb, ne_eqb}
 use Rattle.rel_base.specs.declared.tables.Column.{Column}
 use Rattle.rel_base.specs.declared.values.Value.{Value}

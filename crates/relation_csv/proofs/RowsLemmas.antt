@@ -1,11 +1,11 @@
 -- The rows of the records of a file, as far as they are read.
-use Rattle.std.proofs.Common.{◌≡◌, ◌∙◌, ◌+◌, ◌<◌, ◌≤◌, leb, true, Option, Some, None, List, [], ◌∷◌, ◌++◌, length, refl, sym, ap, append_assoc, arith, length-append}
+use Rattle.std.proofs.Common.{◌≡◌, ◌∙◌, ◌+◌, ◌<◌, ◌≤◌, leb, Some, None, List, [], ◌∷◌, ◌++◌, length, refl, sym, ap, append_assoc, arith, length-append}
 use Rattle.std.proofs.lemmas.Bool.{le-leb, lt-leb}
 use Rattle.std.proofs.lemmas.List.{append-nil}
 use Rattle.rel_base.specs.declared.tables.Column.{Column}
 use Rattle.rel_base.specs.declared.values.Value.{Value}
 use Rattle.relation_csv.specs.declared.files.TheConstants.{MOST_ROWS}
-use Rattle.relation_csv.specs.Files.{Record, each_or_none, is_text, row_of_record, rows_of_records}
+use Rattle.relation_csv.specs.Files.{Record, each_or_none, row_of_record, rows_of_records}
 use Rattle.relation_csv.specs.RecordsLeft.{StartsWithNoText}
 use Rattle.relation_csv.proofs.EachLemmas.{each_or_none-fault, each_or_none-push, length-each_or_none}
 use Rattle.relation_csv.proofs.SchemaLemmas.{cond-None}

@@ -1,5 +1,5 @@
 -- The columns of a header, and when there are none.
-use Rattle.std.proofs.Common.{◌≡◌, ◌&&◌, ◌<◌, ◌≤◌, Bool, true, false, cond, leb, Option, Some, None, List, length, refl, arith}
+use Rattle.std.proofs.Common.{◌≡◌, ◌&&◌, ◌<◌, ◌≤◌, Bool, true, false, cond, leb, Option, Some, None, List, length, refl}
 use Rattle.std.proofs.lemmas.Bool.{le-leb, lt-leb}
 use Rattle.rel_base.specs.declared.tables.Column.{Column}
 use Rattle.relation_csv.specs.declared.files.TheConstants.{MOST_COLUMNS}

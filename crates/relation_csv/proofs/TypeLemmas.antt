@@ -1,5 +1,5 @@
 -- The rows of a file have the types of its columns.
-use Rattle.std.proofs.Common.{◌≡◌, ◌∙◌, ◌&&◌, ◌<◌, ℕ, suc, leb, eqb, Bool, true, false, cond, Option, Some, None, option_map, List, [], ◌∷◌, length, zip, refl, sym, ap, arith}
+use Rattle.std.proofs.Common.{◌≡◌, ◌&&◌, ℕ, leb, eqb, Bool, true, false, cond, Option, Some, None, List, [], ◌∷◌, length, zip, refl, arith}
 use Rattle.std.specs.Prelude.{All}
 use Rattle.std.proofs.lemmas.Bool.{and_from, and_parts, eqb-true}
 use Rattle.std.proofs.lemmas.List.Elements.{All-cons}
@@ -11,7 +11,7 @@ use Rattle.rel_base.specs.declared.values.Value.TheVariants as variant
 use Rattle.rel_base.specs.Relations.{HasTypes, fits_schema, same_type, type_of}
 use Rattle.relation_csv.specs.Fields.{int_of_field, value_of_field}
 use Rattle.relation_csv.specs.declared.files.TheConstants.{MOST_ROWS}
-use Rattle.relation_csv.specs.Files.{Record, each_or_none, is_text, put_before, row_of_record, rows_of_records, value_under}
+use Rattle.relation_csv.specs.Files.{Record, each_or_none, is_text, row_of_record, rows_of_records, value_under}
 
 -- a test under which something stands holds
 cond-Some : {X : Type 0} (test : Bool) (o : Option X) (x : X) → cond test o None ≡ Some x → (test ≡ true) × (o ≡ Some x)

@@ -3,7 +3,7 @@
 --   header_record s   the record of the columns s, as the csv crate writes it by default
 --   row_record r      the record of row r, as the csv crate writes it by default
 --   Extends old new   the new bytes begin with the old ones
-use Rattle.std.specs.Prelude.{◌≡◌, ℕ, if◌then◌else◌, List, [], ◌∷◌, ◌++◌, length, map, take, codes}
+use Rattle.std.specs.Prelude.{◌≡◌, ℕ, if◌then◌else◌, List, ◌++◌, length, map, take, codes}
 use Rattle.std.specs.Fmt.{signed_decimal}
 use Rattle.csv.specs.Writing.{default_writer, row_text}
 use Rattle.rel_base.specs.declared.values.Value.{Value}

@@ -5,7 +5,7 @@
 --   fault_of_kind k       what an error of the csv crate means for a file
 --   IsReadAs answer o     what was read is what the definition gives, short of memory
 --   StartsWithNoText rs   the next record is not text
-use Rattle.std.specs.Prelude.{◌≡◌, ℕ, ◌+◌, Bool, true, false, ⊤, Option, Some, None, IsSome, Result, Ok, Err, List, [], ◌∷◌, length}
+use Rattle.std.specs.Prelude.{◌≡◌, ℕ, ◌+◌, true, false, ⊤, Option, Some, None, IsSome, Result, Ok, Err, List, [], ◌∷◌, length}
 use Rattle.std.specs.Borrow.{Bor}
 use Rattle.std.specs.Option.{option_map_or}
 use Rattle.csv.specs.Reading.{Ready, default_config, is_flexible, reader_config, reader_state, reader_trim, records_from, source_of}

@@ -27,11 +27,7 @@ pub(crate) fn schema_of(alloc: Global, header: &StringRecord) -> Result<Schema, 
 }
 
 /// The row that the fields of a record write.
-pub(crate) fn row_of(
-    alloc: Global,
-    schema: &Schema,
-    fields: &StringRecord,
-) -> Result<Row, RelFault>
+pub(crate) fn row_of(alloc: Global, schema: &Schema, fields: &StringRecord) -> Result<Row, RelFault>
     requires { is_text (fields_of fields.now) ≡ true }
     ensures { IsReadAs result (row_of_record schema.now (fields_of fields.now)) }
 {

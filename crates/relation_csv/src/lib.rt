@@ -14,6 +14,8 @@ mod faults;
 mod fields;
 mod files;
 mod records;
+mod texts;
 
 pub use faults::RelFault;
 pub use files::{MOST_COLUMNS, MOST_ROWS, read_relation};
+pub use texts::{header_text, row_text};

@@ -1,4 +1,4 @@
-use Rattle.std.proofs.Common.{◌≡◌, ◌∙◌, ◌<◌, ◌≤◌, Some, length, take, zip, sym, ap, arith, length-take}
+use Rattle.std.proofs.Common.{◌≡◌, ◌∙◌, length, take, zip, sym, ap, arith, length-take}
 use Rattle.csv.specs.Records.{fields_of}
 use Rattle.relation_csv.specs.Files.{each_or_none, value_under}
 use Rattle.relation_csv.proofs.EachLemmas.{each_or_none-fault_at, each_or_none-next, length-each_or_none}

@@ -1,7 +1,5 @@
-use Rattle.std.proofs.Common.{◌≡◌, ◌∙◌, Ok, Err, Some, true, false, ap, sym}
-use Rattle.csv.specs.Records.{fields_of}
+use Rattle.std.proofs.Common.{Ok, Err, ap}
 use Rattle.relation_csv.specs.Files.{relation_of_bytes}
-use Rattle.relation_csv.specs.RecordsLeft.{records_left}
 use Rattle.relation_csv.proofs.ReadAsLemmas.{IsReadAs-error, IsReadAs-exactly, IsReadAs-part}
 use Rattle.relation_csv.proofs.RelationLemmas.{relation_of_bytes-Some, relation_of_bytes-no_record, relation_of_bytes-no_rows, relation_of_bytes-no_schema, relation_of_bytes-no_text}
 use Rattle.relation_csv.proofs.TypeLemmas.{HasTypes-rows_of_records}

@@ -1,5 +1,4 @@
-use Rattle.std.proofs.Common.{◌≡◌, ◌∙◌, ◌∷◌, ◌<◌, [], Err, length, sym, ap, arith}
-use Rattle.csv.specs.Records.{fields_of}
+use Rattle.std.proofs.Common.{◌≡◌, ◌<◌, Err, length, ap, arith}
 use Rattle.relation_csv.specs.declared.files.TheConstants.{MOST_ROWS}
 use Rattle.relation_csv.specs.RecordsLeft.{records_left}
 use Rattle.relation_csv.proofs.ReadAsLemmas.{IsReadAs-error, IsReadAs-part}
