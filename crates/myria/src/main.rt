@@ -5,33 +5,54 @@
 #![tactic(auto)]
 
 ghost use Rattle.std.specs.Prelude.{◌≡◌, IfOk, All, vec_len};
+ghost use Rattle.myria_top.specs.Headline.{no_rows};
 
 use myria_top::{Outcome, run_words, tell};
 use rel_base::{Memory, Text};
 use rel_io::{CountTap, FolderShelf, StdSink};
 use std::alloc::Global;
 use std::env;
+use std::io::Write;
 use std::process::ExitCode;
+use std::rt::{Env, Files};
+use std::sync::Wait;
+use std::thread::Threads;
 
 /// The exit status where there is no memory even to begin.
 const NO_MEMORY: u8 = 13;
 
+/// Two for each of the most workers.
+const TAPS: usize = 128;
+
 fn main(rt: HostRuntime) -> ExitCode {
-    match run(&rt) {
+    match run(&rt, rt.stdout(), rt.stderr()) {
         Ok(status) => ExitCode::from(status),
         Err(Memory) => ExitCode::from(NO_MEMORY),
     }
 }
 
 /// Runs the words of the command line, and gives the exit status.
-fn run(rt: &HostRuntime) -> Result<u8, Memory> {
+fn run<R, O, E>(rt: &R, stdout: O, stderr: E) -> Result<u8, Memory>
+where
+    R: AllocGlobal + Env + Files + Threads + Wait + Sync,
+    O: Write + Drop,
+    E: Write + Drop,
+{
     let alloc = rt.alloc();
     let words = words(rt)?;
     let mut taps = taps(alloc)?;
     let mut shelf = FolderShelf::new(rt);
-    let mut out = StdSink::buffered(alloc, rt.stdout())?;
-    let mut err = StdSink::new(rt.stderr());
-    let outcome = run_words(rt, alloc, words.as_slice(), &mut shelf, &mut out, &mut err, &mut taps);
+    let mut out = StdSink::buffered(alloc, stdout)?;
+    let mut err = StdSink::new(stderr);
+    let outcome = run_words(
+        rt,
+        alloc,
+        words.as_slice(),
+        &mut shelf,
+        &mut out,
+        &mut err,
+        &mut taps,
+    );
     // Bytes may have been kept back until now, so `Done` is true only once they are handed on.
     if out.finish().is_err() && matches!(&outcome, Outcome::Done) {
         let _ = tell(&mut err, words.as_slice(), &Outcome::WriteFault);
@@ -41,7 +62,7 @@ fn run(rt: &HostRuntime) -> Result<u8, Memory> {
 }
 
 /// The words of the command line, the program's name first; none where one of them isn't UTF-8.
-fn words(rt: &HostRuntime) -> Result<Vec<Text>, Memory> {
+fn words<R: AllocGlobal + Env>(rt: &R) -> Result<Vec<Text>, Memory> {
     let alloc = rt.alloc();
     let mut words = Vec::new(alloc);
     let Ok(args) = env::args(rt) else {
@@ -57,9 +78,10 @@ fn words(rt: &HostRuntime) -> Result<Vec<Text>, Memory> {
 /// Two taps for each of the most workers, with nothing counted.
 fn taps(alloc: Global) -> Result<Vec<CountTap>, Memory>
     ensures count { IfOk result (λ taps. vec_len taps ≡ 128) }
+    ensures fresh { IfOk result (λ taps. All (λ tap. tap ≡ no_rows) taps.items) }
 {
-    let mut taps = Vec::with_capacity(alloc, 128)?;
-    for _ in 0..128 {
+    let mut taps = Vec::with_capacity(alloc, TAPS)?;
+    for _ in 0..TAPS {
         taps.push(CountTap::new())?;
     }
     Ok(taps)
