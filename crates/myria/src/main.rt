@@ -4,13 +4,9 @@
 //! folder and the standard streams. Promises nothing of its own.
 #![tactic(auto)]
 
-ghost use Rattle.std.specs.Prelude.{◌≡◌, IfOk, All, vec_len};
-ghost use Rattle.myria_top.specs.Headline.{no_rows};
-
-use myria_top::{Outcome, run_words, tell};
+use myria_top::{Outcome, fresh_taps, run_words, tell};
 use rel_base::{Memory, Text};
-use rel_io::{CountTap, FolderShelf, StdSink};
-use std::alloc::Global;
+use rel_io::{FolderShelf, StdSink};
 use std::env;
 use std::io::Write;
 use std::process::ExitCode;
@@ -20,9 +16,6 @@ use std::thread::Threads;
 
 /// The exit status where there is no memory even to begin.
 const NO_MEMORY: u8 = 13;
-
-/// Two for each of the most workers.
-const TAPS: usize = 128;
 
 fn main(rt: HostRuntime) -> ExitCode {
     match run(&rt, rt.stdout(), rt.stderr()) {
@@ -40,7 +33,7 @@ where
 {
     let alloc = rt.alloc();
     let words = words(rt)?;
-    let mut taps = taps(alloc)?;
+    let mut taps = fresh_taps(alloc)?;
     let mut shelf = FolderShelf::new(rt);
     let mut out = StdSink::buffered(alloc, stdout)?;
     let mut err = StdSink::new(stderr);
@@ -73,16 +66,4 @@ fn words<R: AllocGlobal + Env>(rt: &R) -> Result<Vec<Text>, Memory> {
         words.push(word)?;
     }
     Ok(words)
-}
-
-/// Two taps for each of the most workers, with nothing counted.
-fn taps(alloc: Global) -> Result<Vec<CountTap>, Memory>
-    ensures count { IfOk result (λ taps. vec_len taps ≡ 128) }
-    ensures fresh { IfOk result (λ taps. All (λ tap. tap ≡ no_rows) taps.items) }
-{
-    let mut taps = Vec::with_capacity(alloc, TAPS)?;
-    for _ in 0..TAPS {
-        taps.push(CountTap::new())?;
-    }
-    Ok(taps)
 }

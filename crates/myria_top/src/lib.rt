@@ -10,13 +10,17 @@
 #![tactic(auto)]
 
 mod asked;
+mod counted;
 mod messages;
 mod outcomes;
 mod pieces;
 mod reading;
 mod run;
+#[cfg(test)]
+mod tests;
 
 pub use asked::{Request, request_of};
+pub use counted::{TAPS, fresh_taps};
 pub use messages::tell;
 pub use outcomes::{Outcome, Part};
 pub use reading::{MOST_RELATION_BYTES, MOST_SCRIPT_BYTES};

@@ -8,7 +8,7 @@ ghost use Rattle.myria_top.specs.Verdicts.{text_step};
 use crate::messages::tell;
 use crate::pieces::Pieces;
 use crate::reading::{read_scanned, read_script, script_name};
-use crate::{Outcome, Part};
+use crate::{Outcome, Part, TAPS};
 use rel_base::Text;
 use rel_io::{Shelf, Sink, SinkFault, Tap};
 use std::alloc::Global;
@@ -29,7 +29,7 @@ pub fn run_words<R: Threads + Wait + Sync, F: Shelf, O: Sink, E: Sink, T: Tap + 
     err: &mut E,
     taps: &mut Vec<T>,
 ) -> Outcome
-    requires count { vec_len taps.old ≡ 128 }
+    requires count { vec_len taps.old ≡ TAPS }
     requires fresh { All (λ tap. T.totals tap ≡ no_rows) taps.old.items }
     ensures headline { Headline (record {
       words = words.now;

@@ -1,7 +1,7 @@
 -- so many taps as turns, and none has counted anything
 use Rattle.std.proofs.Common.{◌≡◌, All, vec_len}
 use Rattle.myria_top.specs.Headline.{no_rows}
-use Rattle.myria.proofs.taps.Given as goal
+use Rattle.myria_top.proofs.counted.fresh_taps.Given as goal
 
 abbrev pub invariant-loop : goal.invariant-loop
 invariant-loop l = record {
