@@ -66,7 +66,8 @@ pub trait Shelf {
         // Each refusal but that of memory has its cause.
         ensures failed { result ≡ Err ShelfFault.Failed → Rose (faults self.old) (faults self.new) }
         ensures absent { result ≡ Err ShelfFault.Absent → Rose (misses self.old) (misses self.new) }
-        ensures missing { result ≡ Err ShelfFault.Absent → MayBeMissing (content self.old name.now) }
+        ensures absent_only_missing { result ≡ Err ShelfFault.Absent →
+            MayBeMissing (content self.old name.now) }
 
         // A fetch changes no file, and no count falls.
         ensures content { content self.new ≡ content self.old }
