@@ -1,9 +1,8 @@
 -- Worked rows of the outside, each by computing.
-use Rattle.std.proofs.Common.{◌≡◌, ◌<◌, ◌⊎◌, ℕ, inl, inr, lit<, arith, true, false, List, [], ◌∷◌, Some, Ok, Err, refl}
+use Rattle.std.proofs.Common.{◌≡◌, ℕ, inl, inr, lit<, arith, true, false, List, [], ◌∷◌, Some, Ok, Err, refl}
 use Rattle.std.specs.Prelude.{codes}
-use Rattle.std.specs.Io.KnownBytes.{Appends}
-use Rattle.rel_io.specs.Outside.{Rose, Content, untold, missing, there, IsGiven, MayBeMissing, TakesPart, capped_sum}
-use Rattle.rel_io.specs.InMemory.{NamedBytes, MemoryShelf, MemorySink, distinct_names, content_among, fetch_fails, fetch_misses, shelf_after, write_fails, sink_after}
+use Rattle.rel_io.specs.Outside.{Rose, missing, there, IsGiven, MayBeMissing, TakesPart, capped_sum}
+use Rattle.rel_io.specs.InMemory.{NamedBytes, MemoryShelf, MemorySink, distinct_names, content_among, fetch_fails, shelf_after, write_fails, sink_after}
 use Rattle.rel_io.specs.declared.sinks.SinkFault.TheVariants as refusal
 
 -- ---- counts

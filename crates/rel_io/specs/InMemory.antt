@@ -8,7 +8,7 @@
 --   shelf_after shelf name        the shelf after a fetch
 --   write_fails sink              whether the next write fails
 --   sink_after answer sink piece  the sink after a write
-use Rattle.std.specs.Prelude.{ℕ, Bool, true, false, not, ◌&&◌, ◌==◌, if◌then◌else◌, IsTrue, List, [], ◌∷◌, ◌++◌, take, is_none, Option, Some, None, Result, Ok, Err, nat_eq}
+use Rattle.std.specs.Prelude.{ℕ, Bool, true, not, ◌&&◌, ◌==◌, if◌then◌else◌, IsTrue, List, [], ◌∷◌, ◌++◌, take, is_none, Option, Some, None, Result, Ok, Err, nat_eq}
 use Rattle.std.specs.List.{list_any, find}
 use Rattle.std.specs.Cmp.Lexicographic.{pointwise}
 use Rattle.rel_io.specs.Outside.{Content, missing, there, capped_sum}
@@ -94,6 +94,9 @@ write_fails sink = is_failing sink.failing (capped_sum sink.writes 1)
 
 -- the sink after a write that was answered so: it took the bytes that it says, and its counts tell of the write
 abbrev pub sink_after : Result ℕ SinkFault → MemorySink → List ℕ → MemorySink
-sink_after (Ok count) sink piece = record sink { taken = sink.taken ++ take count piece; writes = capped_sum sink.writes 1 }
-sink_after (Err refusal.Failed) sink piece = record sink { writes = capped_sum sink.writes 1; faults = capped_sum sink.faults 1 }
-sink_after (Err refusal.Memory) sink piece = record sink { writes = capped_sum sink.writes 1; wants = capped_sum sink.wants 1 }
+sink_after (Ok count) sink piece =
+    record sink { writes = capped_sum sink.writes 1; taken = sink.taken ++ take count piece }
+sink_after (Err refusal.Failed) sink piece =
+    record sink { writes = capped_sum sink.writes 1; faults = capped_sum sink.faults 1 }
+sink_after (Err refusal.Memory) sink piece =
+    record sink { writes = capped_sum sink.writes 1; wants = capped_sum sink.wants 1 }

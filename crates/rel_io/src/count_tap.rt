@@ -1,5 +1,6 @@
 //! A tap that counts.
 ghost use Rattle.std.specs.Prelude.{◌≡◌};
+ghost use Rattle.rel_io.specs.Taps.{no_rows};
 
 use crate::{Tap, Totals};
 use std::marker::Model;
@@ -21,7 +22,7 @@ impl Model for CountTap {
 impl CountTap {
     /// A tap that has counted nothing.
     pub fn new() -> CountTap
-        ensures { result ≡ record { sent = 0; got = 0; listed = 0 } }
+        ensures { result ≡ no_rows }
     {
         CountTap {
             totals: Totals::default(),

@@ -11,6 +11,9 @@ use std::marker::Model;
 use std::rt::Files;
 use std::{fs, io};
 
+/// How many bytes are asked of a file at once.
+const CHUNK: usize = 65536;
+
 /// The files of the current folder, read through the runtime. It tells no content.
 ///
 /// A name is a path from the current folder. A path that is not there, as the empty one, is a miss. Every other
@@ -104,15 +107,16 @@ pub(crate) fn read_first<F: Read>(
     most: u64,
     into: &mut Vec<u8>,
 ) -> Result<(), ShelfFault>
-    ensures told { OnOk result (IfSome (F.remaining file.old) (λ bytes. into.new.items ≡ into.old.items ++ take most bytes)) }
+    ensures told { OnOk result (IfSome (F.remaining file.old)
+        (λ bytes. into.new.items ≡ into.old.items ++ take most bytes)) }
     ensures ok { OnOk result (AppendsContent untold most into.old.items into.new.items) }
     ensures err { OnErr result (StartsWith into.new.items into.old.items) }
     ensures never_absent { result ≢ Err ShelfFault.Absent }
 {
-    let mut chunk = [0; 65536];
+    let mut chunk = [0; CHUNK];
     let mut left = most;
     while left > 0 {
-        let room = chunk.len().min(left as usize);
+        let room = CHUNK.min(left as usize);
         match file.read(&mut chunk[..room]) {
             Ok(0) => return Ok(()),
             Ok(count) => {

@@ -30,7 +30,13 @@ impl Model for MemShelf {
 
     ghost Value = { MemoryShelf };
 
-    ghost view = { λ s. record { files = s.contents; failing = s.failing; fetches = s.fetches; faults = s.faults; misses = s.misses } };
+    ghost view = { λ s. record {
+      files = s.contents;
+      failing = s.failing;
+      fetches = s.fetches;
+      faults = s.faults;
+      misses = s.misses;
+    } };
 }
 
 impl MemShelf {
@@ -39,7 +45,13 @@ impl MemShelf {
     /// A shelf of these files, whose fetches of the numbers in `failing`, counted from 1, answer `Failed`.
     pub fn new(contents: Contents, failing: Places) -> MemShelf
         requires { HasDistinctNames contents }
-        ensures { result ≡ record { files = contents; failing = failing; fetches = 0; faults = 0; misses = 0 } }
+        ensures { result ≡ record {
+          files = contents;
+          failing = failing;
+          fetches = 0;
+          faults = 0;
+          misses = 0;
+        } }
     {
         MemShelf {
             contents,
@@ -61,7 +73,8 @@ impl Shelf for MemShelf {
     ghost misses = { λ s. s.misses };
 
     fn fetch(&mut self, name: &str, most: u64, into: &mut Vec<u8>) -> Result<(), ShelfFault>
-        ensures ok { OnOk result (AppendsContent (content_among self.old.files name.now) most into.old.items into.new.items) }
+        ensures ok { OnOk result (AppendsContent (content_among self.old.files name.now) most
+            into.old.items into.new.items) }
         ensures err { OnErr result (into.new.items ≡ into.old.items) }
         ensures failed { (result ≡ Err ShelfFault.Failed) ↔ IsTrue (fetch_fails self.old) }
         ensures absent { (result ≡ Err ShelfFault.Absent) ↔ IsTrue (fetch_misses self.old name.now) }

@@ -24,7 +24,14 @@ impl Model for MemSink {
 
     ghost Value = { MemorySink };
 
-    ghost view = { λ s. record { taken = s.taken.items; most = s.most; failing = s.failing; writes = s.writes; faults = s.faults; wants = s.wants } };
+    ghost view = { λ s. record {
+      taken = s.taken.items;
+      most = s.most;
+      failing = s.failing;
+      writes = s.writes;
+      faults = s.faults;
+      wants = s.wants;
+    } };
 
     ghost invariant = { λ s. 0 < s.most };
 }
@@ -34,7 +41,14 @@ impl MemSink {
     /// the numbers in `failing`, counted from 1.
     pub fn new(alloc: Global, most: u64, failing: Places) -> MemSink
         requires { 0 < most }
-        ensures { result ≡ record { taken = []; most = most; failing = failing; writes = 0; faults = 0; wants = 0 } }
+        ensures { result ≡ record {
+          taken = [];
+          most = most;
+          failing = failing;
+          writes = 0;
+          faults = 0;
+          wants = 0;
+        } }
     {
         MemSink {
             taken: Vec::new(alloc),

@@ -59,13 +59,15 @@ pub trait Shelf {
     ///
     /// After a refusal `into` begins with what it held before.
     fn fetch(&mut self, name: &str, most: u64, into: &mut Vec<u8>) -> Result<(), ShelfFault>
-        ensures ok { OnOk result (AppendsContent (content self.old name.now) most into.old.items into.new.items) }
+        ensures ok { OnOk result (AppendsContent (content self.old name.now) most
+            into.old.items into.new.items) }
         ensures err { OnErr result (StartsWith into.new.items into.old.items) }
 
         // Each refusal but that of memory has its cause.
         ensures failed { result ≡ Err ShelfFault.Failed → Rose (faults self.old) (faults self.new) }
         ensures absent { result ≡ Err ShelfFault.Absent → Rose (misses self.old) (misses self.new) }
-        ensures absent_only_missing { result ≡ Err ShelfFault.Absent → MayBeMissing (content self.old name.now) }
+        ensures absent_only_missing { result ≡ Err ShelfFault.Absent →
+            MayBeMissing (content self.old name.now) }
 
         // A fetch changes no file, and no count falls.
         ensures content { content self.new ≡ content self.old }

@@ -1,6 +1,6 @@
 //! Standard output and standard error.
 ghost use Rattle.std.specs.Prelude.{◌≡◌, ◌^◌, ◌<◌, [], IfOk, IfErr, OnOk, OnErr};
-ghost use Rattle.std.specs.Io.Buffered.{writer_inner, writer_buffer, writer_capacity};
+ghost use Rattle.std.specs.Io.Buffered.{writer_inner, writer_buffer, writer_capacity, writer_contents};
 ghost use Rattle.std.specs.Io.KnownBytes.{Keeps};
 ghost use Rattle.rel_io.specs.Outside.{capped_sum};
 
@@ -36,6 +36,17 @@ impl<W> StdSink<W> {
     {
         StdSink { writer, faults: 0 }
     }
+
+    /// Counts a fault.
+    fn fault(&mut self) -> SinkFault
+        ensures failed { result ≡ SinkFault.Failed }
+        ensures writer { self.new.0 ≡ self.old.0 }
+        ensures faults { self.new.1 ≡ capped_sum self.old.1 1 }
+        ensures bound { self.old.1 < 2 ^ 64 }
+    {
+        self.faults = self.faults.saturating_add(1);
+        SinkFault::Failed
+    }
 }
 
 impl<W: Write + Drop> StdSink<BufWriter<W>> {
@@ -53,31 +64,21 @@ impl<W: Write + Drop> StdSink<BufWriter<W>> {
             Err(_) => Err(Memory),
         }
     }
-}
 
-impl<W: Write> StdSink<W> {
     /// Hands on what was kept back. It has to be called before the program ends.
+    ///
+    /// After `Ok` nothing is kept back. After a fault it may be called again.
     pub fn finish(&mut self) -> Result<(), SinkFault>
-        ensures taken { Keeps (W.contents self.old.0) (W.contents self.new.0) }
-        ensures ok { OnOk result (self.new.1 ≡ self.old.1) }
-        ensures err { OnErr result (self.new.1 ≡ capped_sum self.old.1 1) }
-        ensures failed { IfErr result (λ e. e ≡ SinkFault.Failed) }
+        ensures taken { Keeps (writer_contents W.contents self.old.0) (writer_contents W.contents self.new.0) }
+        ensures ok { OnOk result (writer_buffer self.new.0 ≡ []) }
+        ensures ok_faults { OnOk result (self.new.1 ≡ self.old.1) }
+        ensures err { IfErr result (λ e. e ≡ SinkFault.Failed) }
+        ensures err_faults { OnErr result (self.new.1 ≡ capped_sum self.old.1 1) }
     {
         match self.writer.flush() {
             Ok(()) => Ok(()),
             Err(_) => Err(self.fault()),
         }
-    }
-
-    /// Counts a fault.
-    fn fault(&mut self) -> SinkFault
-        ensures failed { result ≡ SinkFault.Failed }
-        ensures writer { self.new.0 ≡ self.old.0 }
-        ensures faults { self.new.1 ≡ capped_sum self.old.1 1 }
-        ensures bound { self.old.1 < 2 ^ 64 }
-    {
-        self.faults = self.faults.saturating_add(1);
-        SinkFault::Failed
     }
 }
 

@@ -21,15 +21,15 @@ pub trait Tap {
 
     /// Adds to the rows sent.
     fn sent(&mut self, rows: u64)
-        ensures { totals self.new ≡ record (totals self.old) { sent = capped_sum (totals self.old).sent rows } };
+        ensures { let old = totals self.old in totals self.new ≡ record old { sent = capped_sum old.sent rows } };
 
     /// Adds to the rows received.
     fn got(&mut self, rows: u64)
-        ensures { totals self.new ≡ record (totals self.old) { got = capped_sum (totals self.old).got rows } };
+        ensures { let old = totals self.old in totals self.new ≡ record old { got = capped_sum old.got rows } };
 
     /// Adds to the rows listed.
     fn listed(&mut self, rows: u64)
-        ensures { totals self.new ≡ record (totals self.old) { listed = capped_sum (totals self.old).listed rows } };
+        ensures { let old = totals self.old in totals self.new ≡ record old { listed = capped_sum old.listed rows } };
 
     /// The three sums.
     fn totals(&self) -> Totals
