@@ -7,7 +7,6 @@ use Rattle.std.specs.Prelude.{◌≡◌, ◌↔◌, ℕ, ◌⊎◌, Option, List
 use Rattle.std.specs.Io.KnownBytes.{Appends, Keeps}
 use Rattle.rel_base.specs.Keys.{shelf_name_of}
 use Rattle.rel_io.specs.Outside.{Content, Rose, TakesPart}
-use Rattle.rel_io.specs.declared.taps.Totals.{Totals}
 use Rattle.myria_top.specs.declared.asked.Request.{Request}
 use Rattle.myria_top.specs.declared.outcomes.Outcome.{Outcome}
 use Rattle.myria_top.specs.declared.outcomes.Outcome.TheVariants as outcome
@@ -97,7 +96,3 @@ pub record Headline (run : Run) (err : Written) (answer : Outcome) : Type 0 wher
   pub complete : (text : List ℕ) → text_step run.words run.content ≡ goes text → ¬ Rose run.shelf.faults_before run.shelf.faults_after → ¬ FaultsRose run.out → (answer ≡ outcome.Done) ⊎ (answer ≡ outcome.Memory)
   -- Standard error took the line of the answer.
   pub told : TellsLine err (line_of run.words answer)
-
--- the sums of a tap that has counted nothing
-abbrev pub no_rows : Totals
-no_rows = record { sent = 0; got = 0; listed = 0 }

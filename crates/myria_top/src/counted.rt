@@ -1,6 +1,6 @@
 //! The taps of a run.
 ghost use Rattle.std.specs.Prelude.{◌≡◌, All, IfOk, vec_len};
-ghost use Rattle.myria_top.specs.Headline.{no_rows};
+ghost use Rattle.rel_io.specs.Taps.{no_rows};
 
 use rel_base::Memory;
 use rel_io::CountTap;

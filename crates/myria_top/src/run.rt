@@ -1,6 +1,6 @@
 //! One run of the program, from its words to its exit.
 ghost use Rattle.std.specs.Prelude.{◌≡◌, ◌↔◌, All, None, Err, vec_len};
-ghost use Rattle.myria_top.specs.Headline.{no_rows};
+ghost use Rattle.rel_io.specs.Taps.{no_rows};
 ghost use Rattle.myria_top.specs.Headline.{Headline, Explains, IsAskedOf};
 ghost use Rattle.myria_top.specs.Reading as read;
 ghost use Rattle.myria_top.specs.Verdicts.{text_step};

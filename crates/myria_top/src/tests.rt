@@ -12,45 +12,22 @@ use std::sync::Wait;
 use std::test::Fail;
 use std::thread::Threads;
 
-/// A run, and what it has to come to.
-#[derive(Clone, Copy)]
-struct Case<'a> {
-    name: &'a str,
-    words: &'a [&'a str],
-    /// The name and the text of the one file, and of the other.
-    script: (&'a str, &'a str),
-    relation: (&'a str, &'a str),
-    /// The numbers of the fetch and of the write that fail; 0 for none.
-    failing_fetch: u32,
-    failing_write: u32,
-    failing_line: u32,
-    /// The most bytes that the output takes at once.
-    most: u64,
-    status: u8,
-    out: &'a str,
-    err: &'a str,
-}
+/// A file: its name and its text.
+type File<'a> = (&'a str, &'a str);
 
-const SCRIPT: (&str, &str) = ("q", "A = scan(R); store(A, Out);\n");
+/// The numbers of the fetch, of the write and of the write to standard error that fail; 0 for none.
+type Failing = (u32, u32, u32);
 
-const RELATION: (&str, &str) = ("public:adhoc:R.csv", "x:int,y:int\n3,1\n1,2\n2,5\n");
+/// The exit status, the output and the line on standard error.
+type Wanted<'a> = (u8, &'a str, &'a str);
+
+const NAMED: [&str; 2] = ["myria", "q"];
+
+const SCRIPT: File<'static> = ("q", "A = scan(R); store(A, Out);\n");
+
+const RELATION: File<'static> = ("public:adhoc:R.csv", "x:int,y:int\n3,1\n1,2\n2,5\n");
 
 const PRINTED: &str = "-- store public:adhoc:Out 3 rows\nx:int,y:int\n1,2\n2,5\n3,1\n";
-
-/// Everything is there, and nothing fails.
-const GOOD: Case<'static> = Case {
-    name: "scan and store",
-    words: &["myria", "q"],
-    script: SCRIPT,
-    relation: RELATION,
-    failing_fetch: 0,
-    failing_write: 0,
-    failing_line: 0,
-    most: 1000,
-    status: 0,
-    out: PRINTED,
-    err: "",
-};
 
 fn bytes_of(alloc: Global, text: &str) -> Result<Bytes, Memory> {
     let mut bytes = Bytes::new(alloc);
@@ -90,20 +67,23 @@ fn words_of(alloc: Global, words: &[&str]) -> Result<Vec<Text>, Memory> {
     Ok(texts)
 }
 
+/// Runs the words over two files, and compares what comes out. Standard error takes a byte at once.
 fn compare_run<R: Abort + Threads + Wait + Sync>(
     rt: &R,
     alloc: Global,
-    case: &Case<'_>,
+    words: &[&str],
+    script: File<'_>,
+    relation: File<'_>,
+    failing: Failing,
+    wanted: Wanted<'_>,
 ) -> Result<(), Memory> {
-    let (script, relation) = (case.script, case.relation);
     assert!(rt; script.0 != relation.0);
-    assert!(rt; case.most > 0);
-    let failing = one_place(alloc, case.failing_fetch)?;
-    let mut shelf = MemShelf::new(two_files(alloc, script, relation)?, failing);
-    let mut out = MemSink::new(alloc, case.most, one_place(alloc, case.failing_write)?);
-    let mut err = MemSink::new(alloc, 1, one_place(alloc, case.failing_line)?);
+    let contents = two_files(alloc, script, relation)?;
+    let mut shelf = MemShelf::new(contents, one_place(alloc, failing.0)?);
+    let mut out = MemSink::new(alloc, 1000, one_place(alloc, failing.1)?);
+    let mut err = MemSink::new(alloc, 1, one_place(alloc, failing.2)?);
     let mut taps = fresh_taps(alloc)?;
-    let words = words_of(alloc, case.words)?;
+    let words = words_of(alloc, words)?;
     let outcome = run_words(
         rt,
         alloc,
@@ -113,207 +93,110 @@ fn compare_run<R: Abort + Threads + Wait + Sync>(
         &mut err,
         &mut taps,
     );
-    let name = case.name;
-    assert_eq!(rt; outcome.status(), case.status, "{name}");
-    assert_eq!(rt; out.taken(), case.out.as_bytes(), "{name}");
-    assert_eq!(rt; err.taken(), case.err.as_bytes(), "{name}");
+    assert_eq!(rt; outcome.status(), wanted.0);
+    assert_eq!(rt; out.taken(), wanted.1.as_bytes());
+    assert_eq!(rt; err.taken(), wanted.2.as_bytes());
     Ok(())
 }
 
 #[test]
 fn a_run_prints_what_the_script_stores(rt: HostRuntime) -> Result<(), Fail> {
-    let cases = [
-        Case { ..GOOD },
-        Case {
-            name: "no line feed behind the script",
-            script: ("q", "A = scan(R); store(A, Out);"),
-            ..GOOD
-        },
-        Case {
-            name: "an output that takes one byte at once",
-            most: 1,
-            ..GOOD
-        },
-        Case {
-            name: "doubled rows, negative numbers and a name that needs quotes",
-            relation: (
-                "public:adhoc:R.csv",
-                "\"a,b:int\",y:int\r\n7,-1\r\n-8,+2\r\n7,-1",
-            ),
-            out: "-- store public:adhoc:Out 3 rows\n\"a,b:int\",y:int\n-8,2\n7,-1\n7,-1\n",
-            ..GOOD
-        },
-        Case {
-            name: "no rows",
-            relation: ("public:adhoc:R.csv", "x:int"),
-            out: "-- store public:adhoc:Out 0 rows\nx:int\n",
-            ..GOOD
-        },
-    ];
-    for case in &cases {
-        compare_run(&rt, rt.alloc(), case)?;
-    }
+    let alloc = rt.alloc();
+    compare_run(
+        &rt,
+        alloc,
+        &NAMED,
+        SCRIPT,
+        RELATION,
+        (0, 0, 0),
+        (0, PRINTED, ""),
+    )?;
+    // Doubled rows, a minus and a plus, ends of lines with a carriage return, and a name that needs quotes.
+    let odd = (
+        "public:adhoc:R.csv",
+        "\"a,b:int\",y:int\r\n7,-1\r\n-8,+2\r\n7,-1",
+    );
+    let printed = "-- store public:adhoc:Out 3 rows\n\"a,b:int\",y:int\n-8,2\n7,-1\n7,-1\n";
+    compare_run(&rt, alloc, &NAMED, SCRIPT, odd, (0, 0, 0), (0, printed, ""))?;
     Ok(())
 }
 
 #[test]
-fn a_run_that_cannot_read_says_so_and_prints_nothing(rt: HostRuntime) -> Result<(), Fail> {
-    let refused = Case { out: "", ..GOOD };
-    let cases = [
-        Case {
-            name: "no script",
-            script: ("p", ""),
-            status: 2,
-            err: "myria: no script q\n",
-            ..refused
-        },
-        Case {
-            name: "no relation",
-            relation: ("public:adhoc:S.csv", ""),
-            status: 6,
-            err: "myria: no relation public:adhoc:R\n",
-            ..refused
-        },
-        Case {
-            name: "the script can't be read",
-            failing_fetch: 1,
-            status: 11,
-            err: "myria: cannot read q\n",
-            ..refused
-        },
-        Case {
-            name: "the relation can't be read",
-            failing_fetch: 2,
-            status: 11,
-            err: "myria: cannot read public:adhoc:R.csv\n",
-            ..refused
-        },
-        Case {
-            name: "standard error fails at once",
-            script: ("p", ""),
-            failing_line: 1,
-            status: 2,
-            err: "",
-            ..refused
-        },
-        Case {
-            name: "standard error fails later",
-            script: ("p", ""),
-            failing_line: 6,
-            status: 2,
-            err: "myria",
-            ..refused
-        },
-    ];
-    for case in &cases {
-        compare_run(&rt, rt.alloc(), case)?;
-    }
+fn a_run_that_cannot_read_says_so(rt: HostRuntime) -> Result<(), Fail> {
+    let alloc = rt.alloc();
+    let (no_script, no_relation) = (("p", ""), ("public:adhoc:S.csv", ""));
+    let absent = (2, "", "myria: no script q\n");
+    compare_run(&rt, alloc, &NAMED, no_script, RELATION, (0, 0, 0), absent)?;
+    let absent = (6, "", "myria: no relation public:adhoc:R\n");
+    compare_run(&rt, alloc, &NAMED, SCRIPT, no_relation, (0, 0, 0), absent)?;
+    let failed = (11, "", "myria: cannot read q\n");
+    compare_run(&rt, alloc, &NAMED, SCRIPT, RELATION, (1, 0, 0), failed)?;
+    let failed = (11, "", "myria: cannot read public:adhoc:R.csv\n");
+    compare_run(&rt, alloc, &NAMED, SCRIPT, RELATION, (2, 0, 0), failed)?;
+    // Standard error fails at its sixth byte.
+    compare_run(
+        &rt,
+        alloc,
+        &NAMED,
+        no_script,
+        RELATION,
+        (0, 0, 6),
+        (2, "", "myria"),
+    )?;
     Ok(())
 }
 
 #[test]
 fn a_run_that_cannot_write_keeps_what_it_wrote(rt: HostRuntime) -> Result<(), Fail> {
-    let refused = Case {
-        status: 12,
-        err: "myria: cannot write\n",
-        ..GOOD
-    };
-    let cases = [
-        Case {
-            name: "the first write fails",
-            failing_write: 1,
-            out: "",
-            ..refused
-        },
-        Case {
-            name: "the second write fails",
-            failing_write: 2,
-            out: "-- store public:adhoc:Out 3 rows\n",
-            ..refused
-        },
-        Case {
-            name: "the last write fails",
-            failing_write: 5,
-            out: "-- store public:adhoc:Out 3 rows\nx:int,y:int\n1,2\n2,5\n",
-            ..refused
-        },
-    ];
-    for case in &cases {
-        compare_run(&rt, rt.alloc(), case)?;
-    }
+    let alloc = rt.alloc();
+    let line = "-- store public:adhoc:Out 3 rows\n";
+    let refused = (12, line, "myria: cannot write\n");
+    compare_run(&rt, alloc, &NAMED, SCRIPT, RELATION, (0, 2, 0), refused)?;
+    let refused = (12, "", "myria: cannot write\n");
+    compare_run(&rt, alloc, &NAMED, SCRIPT, RELATION, (0, 1, 0), refused)?;
     Ok(())
 }
 
 #[test]
 fn what_is_not_built_is_said_so(rt: HostRuntime) -> Result<(), Fail> {
-    let refused = Case {
-        status: 14,
-        out: "",
-        err: "myria: not built\n",
-        ..GOOD
-    };
-    let cases = [
-        Case {
-            name: "no script is named",
-            words: &["myria"],
-            ..refused
-        },
-        Case {
-            name: "an option",
-            words: &["myria", "-q"],
-            ..refused
-        },
-        Case {
-            name: "two scripts",
-            words: &["myria", "q", "q"],
-            ..refused
-        },
-        Case {
-            name: "another script",
-            script: ("q", "A = scan(R)"),
-            ..refused
-        },
-        Case {
-            name: "a row that is too short",
-            relation: ("public:adhoc:R.csv", "x:int,y:int\n1,2\n3\n"),
-            ..refused
-        },
-    ];
-    for case in &cases {
-        compare_run(&rt, rt.alloc(), case)?;
-    }
+    let alloc = rt.alloc();
+    let refused = (14, "", "myria: not built\n");
+    compare_run(&rt, alloc, &["myria"], SCRIPT, RELATION, (0, 0, 0), refused)?;
+    compare_run(
+        &rt,
+        alloc,
+        &["myria", "-q"],
+        SCRIPT,
+        RELATION,
+        (0, 0, 0),
+        refused,
+    )?;
+    let other = ("q", "A = scan(R)");
+    compare_run(&rt, alloc, &NAMED, other, RELATION, (0, 0, 0), refused)?;
+    let short = ("public:adhoc:R.csv", "x:int,y:int\n1,2\n3\n");
+    compare_run(&rt, alloc, &NAMED, SCRIPT, short, (0, 0, 0), refused)?;
     Ok(())
 }
 
 #[test]
 fn scripts_of_the_one_form_are_read(rt: HostRuntime) -> Result<(), Fail> {
     let alloc = rt.alloc();
-    let table: [(&str, Option<(&str, &str)>); 12] = [
-        ("A = scan(R); store(A, Out);", Some(("R", "Out"))),
-        (
-            "a1 = scan(b2C); store(a1, From3);\n",
-            Some(("b2C", "From3")),
-        ),
-        ("A = scan(R); store(A, Out);\n\n", None),
-        ("A = scan(R); store(B, Out);", None),
-        ("A  = scan(R); store(A, Out);", None),
-        ("A = scan(R);store(A, Out);", None),
-        ("A = scan(R); store(A, From);", None),
-        ("sUm = scan(R); store(sUm, Out);", None),
-        ("A = scan(1R); store(A, Out);", None),
-        ("A = scan(); store(A, Out);", None),
-        ("A_ = scan(R); store(A_, Out);", None),
-        ("", None),
+    let other_scripts = [
+        "A = scan(R); store(A, Out);\n\n",
+        "A = scan(R); store(B, Out);",
+        "A  = scan(R); store(A, Out);",
+        "A = scan(R);store(A, Out);",
+        "A = scan(R); store(A, From);",
+        "sUm = scan(R); store(sUm, Out);",
+        "A = scan(1R); store(A, Out);",
+        "A = scan(); store(A, Out);",
+        "A_ = scan(R); store(A_, Out);",
+        "",
     ];
-    for (script, names) in table {
-        let found = request_of(alloc, script.as_bytes())?;
-        match (&found, names) {
-            (Some(request), Some((scanned, stored))) => {
-                assert_eq!(rt; request.scanned.name.as_str(), scanned, "{script}");
-                assert_eq!(rt; request.stored.name.as_str(), stored, "{script}");
-            }
-            (found, names) => assert_eq!(rt; found.is_some(), names.is_some(), "{script}"),
-        }
+    for script in other_scripts {
+        assert!(rt; request_of(alloc, script.as_bytes())?.is_none(), "{script}");
     }
+    let found = request_of(alloc, b"a1 = scan(b2C); store(a1, From3);\n")?;
+    assert!(rt; found.is_some_and(|request| request.stored.name.as_str() == "From3"));
     Ok(())
 }

@@ -1,6 +1,6 @@
 -- so many taps as turns, and none has counted anything
 use Rattle.std.proofs.Common.{◌≡◌, All, vec_len}
-use Rattle.myria_top.specs.Headline.{no_rows}
+use Rattle.rel_io.specs.Taps.{no_rows}
 use Rattle.myria_top.proofs.counted.fresh_taps.Given as goal
 
 abbrev pub invariant-loop : goal.invariant-loop
