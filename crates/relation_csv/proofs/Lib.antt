@@ -12,3 +12,4 @@ pub mod RowsLemmas
 pub mod RelationLemmas
 pub mod TypeLemmas
 pub mod TextLemmas
+pub mod DecimalLemmas

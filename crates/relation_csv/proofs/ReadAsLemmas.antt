@@ -3,7 +3,7 @@ use Rattle.std.proofs.Common.{◌≡◌, ◌≢◌, ◌↔◌, Option, None, Res
 use Rattle.std.specs.Prelude.{IsErrAnd}
 use Rattle.relation_csv.specs.declared.faults.RelFault.{RelFault}
 use Rattle.relation_csv.specs.declared.faults.RelFault.TheVariants as fault
-use Rattle.relation_csv.specs.RecordsLeft.{IsReadAs}
+use Rattle.relation_csv.specs.Files.{IsReadAs}
 
 -- what `?` answers where it passes an error on
 pub IsReadAs-error : {T : Type 0} (r : Result T RelFault) (e : RelFault) (whole : Option T) → IsErrAnd r (λ x. x ≡ e) → (e ≡ fault.NotBuilt → whole ≡ None) → IsReadAs r whole

@@ -2,7 +2,8 @@
 --
 --   records_of_bytes bytes    the records of a file, the header first
 --   relation_of_bytes bytes   the relation of a file, if the file is good
-use Rattle.std.specs.Prelude.{ℕ, Bool, ◌&&◌, ◌==◌, nat_le, if◌then◌else◌, Option, Some, None, option_map, option_and_then, List, [], ◌∷◌, length}
+--   IsReadAs answer o         what was read is what the definition gives, short of memory
+use Rattle.std.specs.Prelude.{◌≡◌, ⊤, Result, Ok, Err, ℕ, Bool, ◌&&◌, ◌==◌, nat_le, if◌then◌else◌, Option, Some, None, option_map, option_and_then, List, [], ◌∷◌, length}
 use Rattle.std.specs.List.{list_all, zip}
 use Rattle.std.specs.Str.{is_utf8}
 use Rattle.csv.specs.Reading.{default_config, records, strip_bom}
@@ -10,6 +11,8 @@ use Rattle.rel_base.specs.declared.values.Value.{Value}
 use Rattle.rel_base.specs.declared.tables.Column.{Column}
 use Rattle.rel_base.specs.Relations.{Table}
 use Rattle.relation_csv.specs.declared.files.TheConstants.{MOST_COLUMNS, MOST_ROWS}
+use Rattle.relation_csv.specs.declared.faults.RelFault.{RelFault}
+use Rattle.relation_csv.specs.declared.faults.RelFault.TheVariants as fault
 use Rattle.relation_csv.specs.Fields.{column_of_field, value_of_field}
 
 -- a record, as the csv crate sees it: its fields
@@ -66,3 +69,9 @@ relation_of_records (header ∷ others) = option_and_then (relation_under others
 -- the relation of a file, if the file is good
 unfoldable pub relation_of_bytes : List ℕ → Option Table
 relation_of_bytes bytes = relation_of_records (records_of_bytes bytes)
+
+-- what was read is what the definition gives, a fault where it gives nothing, and after `Memory` either may be so
+abbrev pub IsReadAs : {T : Type 0} → Result T RelFault → Option T → Type 0
+IsReadAs (Ok x) given = given ≡ Some x
+IsReadAs (Err fault.NotBuilt) given = given ≡ None
+IsReadAs (Err fault.Memory) given = ⊤

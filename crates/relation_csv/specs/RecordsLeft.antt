@@ -3,9 +3,8 @@
 --   records_left r        the records that reader r has not read yet
 --   IsSteady r            reader r is set up as `records_of_bytes` says, and has not failed
 --   fault_of_kind k       what an error of the csv crate means for a file
---   IsReadAs answer o     what was read is what the definition gives, short of memory
 --   StartsWithNoText rs   the next record is not text
-use Rattle.std.specs.Prelude.{◌≡◌, ℕ, ◌+◌, true, false, ⊤, Option, Some, None, IsSome, Result, Ok, Err, List, [], ◌∷◌, length}
+use Rattle.std.specs.Prelude.{◌≡◌, ℕ, ◌+◌, true, false, Option, Some, None, IsSome, List, [], ◌∷◌, length}
 use Rattle.std.specs.Borrow.{Bor}
 use Rattle.std.specs.Option.{option_map_or}
 use Rattle.csv.specs.Reading.{Ready, default_config, is_flexible, reader_config, reader_state, reader_trim, records_from, source_of}
@@ -51,9 +50,3 @@ fault_of_kind (kind.Deserialize pos err) = fault.NotBuilt
 -- there is a next record, and it is not text
 abbrev pub StartsWithNoText : List Record → Type 0
 StartsWithNoText left = (fields : Record) × (rest : List Record) × (left ≡ fields ∷ rest) × (is_text fields ≡ false)
-
--- what was read is what the definition gives, a fault where it gives nothing, and after `Memory` either may be so
-abbrev pub IsReadAs : {T : Type 0} → Result T RelFault → Option T → Type 0
-IsReadAs (Ok x) given = given ≡ Some x
-IsReadAs (Err fault.NotBuilt) given = given ≡ None
-IsReadAs (Err fault.Memory) given = ⊤

@@ -19,3 +19,6 @@ mod texts;
 pub use faults::RelFault;
 pub use files::{MOST_COLUMNS, MOST_ROWS, read_relation};
 pub use texts::{header_text, row_text};
+
+#[cfg(test)]
+mod tests;

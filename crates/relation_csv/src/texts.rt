@@ -3,6 +3,7 @@
 //! The text is the one that the `csv` crate's writer gives, and it is put together here: that writer holds bytes back
 //! in a buffer of its own, and promises nothing of what was written before an error.
 ghost use Rattle.std.specs.Prelude.{◌≡◌, ℕ, List, [], ◌∷◌, ◌++◌, ◌==◌, if◌then◌else◌, length, map, string_bytes, IfOk, OnOk, OnErr};
+ghost use Rattle.std.specs.Fmt.{signed_decimal};
 ghost use Rattle.csv.specs.Writing.{default_writer, field_text, needs_quotes, row_body, row_text};
 ghost use Rattle.relation_csv.specs.RecordTexts.{Extends, header_field, header_record, row_record, type_name, value_field};
 
@@ -53,10 +54,7 @@ impl Field for Value {
 
     fn push(&self, into: &mut Vec<u8>) -> Result<(), Memory> {
         match self {
-            Value::Int(number) => {
-                let mut buffer = Buffer::new();
-                push_field(buffer.format(*number).as_bytes(), into)
-            }
+            Value::Int(number) => push_int(*number, into),
             Value::Str(text) => push_field(text.as_str().as_bytes(), into),
             Value::Bool(true) => push_field(b"true", into),
             Value::Bool(false) => push_field(b"false", into),
@@ -136,6 +134,16 @@ fn name_of(kind: ColType) -> &'static str
         ColType::Str => "string",
         ColType::Bool => "boolean",
     }
+}
+
+/// Appends a number as a field. No byte of it calls for quotes.
+fn push_int(number: i64, into: &mut Vec<u8>) -> Result<(), Memory>
+    ensures ok { OnOk result (into.new.items ≡ into.old.items ++ field_text default_writer (signed_decimal number)) }
+    ensures err { OnErr result (Extends into.old.items into.new.items) }
+{
+    let mut buffer = Buffer::new();
+    into.extend_from_slice(buffer.format(number).as_bytes())?;
+    Ok(())
 }
 
 /// Appends a field, in quotes where it needs them.
