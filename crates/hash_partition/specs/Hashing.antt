@@ -16,7 +16,7 @@ use Rattle.rel_base.specs.declared.values.Value.TheVariants as variant
 abbrev pub dimension_seed : ℕ → ℕ → ℕ
 dimension_seed seed dimension = (seed + dimension + 1) % 2 ^ 64
 
--- from 1 to the modulus less 1, so that no two codes have one hash
+-- from 1 to the modulus less 1
 abbrev pub multiplier : ℕ → ℕ
 multiplier s = 1 + ((s * 6364136223846793005) % 2 ^ 64) % (modulus - 1)
 

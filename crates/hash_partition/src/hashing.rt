@@ -1,17 +1,17 @@
 //! The hashes of values and of keys.
 //!
-//! Source: Carter and Wegman, "Universal Classes of Hash Functions", 1979: each dimension has a hash `a * code + b`
-//! modulo a prime. Its `a` and `b` are made from the seed by multipliers of Knuth's generator MMIX, in place of being drawn.
+//! Source: Carter and Wegman, "Universal Classes of Hash Functions", 1979: a hash is `a * code + b` by a prime modulus.
+//! Here `a` and `b` are not drawn but made from the hash seed, by the constants of Knuth's generator MMIX.
 ghost use Rattle.std.specs.Prelude.{◌≡◌, ◌+◌, ◌-◌, ◌*◌, ◌%◌, ◌^◌, ◌<◌, ◌≤◌, length, All};
 ghost use Rattle.hash_partition.specs.Hashing.{dimension_seed, multiplier, offset, coordinate_of, key_of, key_code_of, home_of};
 ghost use Rattle.rel_base.specs.Codes.{modulus, mixed_with};
 
 use rel_base::{Places, Row, Value};
 
-/// The factor that the seed of a dimension becomes a multiplier by.
+/// What the seed of a dimension is multiplied by for the multiplier of its hash.
 const MULTIPLIER_FACTOR: u64 = 6_364_136_223_846_793_005;
 
-/// The factor that the seed of a dimension becomes an offset by.
+/// What the seed of a dimension is multiplied by for the offset of its hash.
 const OFFSET_FACTOR: u64 = 1_442_695_040_888_963_407;
 
 /// The coordinate of a value with this code, in a dimension that is spread over so many parts.
