@@ -2,7 +2,7 @@
 use Rattle.std.proofs.Common.{◌≡◌, ℕ, ℤ, pos, negsuc, true, false, List, [], ◌∷◌, map, codes, refl}
 use Rattle.hash_partition.specs.Cells.{IsCell, cell_number}
 use Rattle.hash_partition.specs.Hashing.{dimension_seed, multiplier, offset, hash_of, coordinate_of, key_code_of, home_of}
-use Rattle.rel_base.specs.Codes.{modulus, code_of}
+use Rattle.rel_base.specs.Codes.{code_of}
 use Rattle.rel_base.specs.declared.values.Value.{Value}
 use Rattle.rel_base.specs.declared.values.Value.TheVariants as variant
 

@@ -2,8 +2,8 @@
 //!
 //! Source: Carter and Wegman, "Universal Classes of Hash Functions", 1979: a hash is `a * code + b` by a prime modulus.
 //! Here `a` and `b` are not drawn but made from the hash seed, by the constants of Knuth's generator MMIX.
-ghost use Rattle.std.specs.Prelude.{◌≡◌, ◌+◌, ◌-◌, ◌*◌, ◌%◌, ◌^◌, ◌<◌, ◌≤◌, length, All};
-ghost use Rattle.hash_partition.specs.Hashing.{dimension_seed, multiplier, offset, coordinate_of, key_of, key_code_of, home_of};
+ghost use Rattle.std.specs.Prelude.{◌≡◌, ◌%◌, ◌^◌, ◌<◌, ◌≤◌, length, All};
+ghost use Rattle.hash_partition.specs.Hashing.{coordinate_of, key_of, key_code_of, home_of};
 ghost use Rattle.rel_base.specs.Codes.{modulus, mixed_with};
 
 use rel_base::{Places, Row, Value};

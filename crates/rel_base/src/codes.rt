@@ -1,5 +1,5 @@
 //! Codes of values, by which rows are spread over workers.
-ghost use Rattle.std.specs.Prelude.{◌≡◌, ◌+◌, ◌-◌, ◌^◌, ◌<◌};
+ghost use Rattle.std.specs.Prelude.{◌≡◌, ◌-◌, ◌^◌, ◌<◌};
 ghost use Rattle.rel_base.specs.Codes.{modulus, code_of_int, mixed_with, code_of_bytes};
 
 use crate::Value;
