@@ -1,6 +1,7 @@
 -- The words of this crate, lowest first.
 pub mod Values
 pub mod ValueLaws
+pub mod Codes
 pub mod Bags
 pub mod Relations
 pub mod Keys

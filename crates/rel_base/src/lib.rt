@@ -9,6 +9,7 @@
 //! Read `specs/Values.antt`, `specs/Bags.antt` and `specs/Relations.antt`, then `list.rt`.
 #![tactic(auto)]
 
+mod codes;
 mod copying;
 mod failure;
 mod list;

@@ -124,3 +124,25 @@ fn a_list_grows_at_its_end_and_is_sorted_in_place(rt: HostRuntime) -> Result<(),
     assert_eq!(rt; numbers.len(), 2);
     Ok(())
 }
+
+#[test]
+fn each_value_has_its_code(rt: HostRuntime) -> Result<(), Fail> {
+    let alloc = rt.alloc();
+    let numbers = [
+        (4, 4),
+        (-1, 2_305_843_009_213_693_950),
+        (i64::MIN, 2_305_843_009_213_693_947),
+        (i64::MAX, 3),
+    ];
+    for (number, code) in numbers {
+        assert_eq!(rt; Value::Int(number).code(), code, "{number}");
+    }
+    for (text, code) in [("", 0), ("a", 98), ("ab", 25_285)] {
+        let value = Value::Str(Text::of(alloc, text)?);
+        assert_eq!(rt; value.code(), code, "{text}");
+    }
+    for (truth, code) in [(false, 0), (true, 1)] {
+        assert_eq!(rt; Value::Bool(truth).code(), code, "{truth}");
+    }
+    Ok(())
+}
