@@ -4,7 +4,7 @@
 --   shelf_name_of k       the name of the file that holds the relation of a key
 --   holds_key files k     whether a file of this key is among the files
 --   HasDistinctKeys       no two files have one key
-use Rattle.std.specs.Prelude.{◌≡◌, ℕ, Bool, true, false, ◌&&◌, not, List, [], ◌∷◌, ◌++◌, codes, nat_eq}
+use Rattle.std.specs.Prelude.{◌≡◌, ℕ, Bool, true, ◌&&◌, not, List, [], ◌∷◌, ◌++◌, codes, nat_eq}
 use Rattle.std.specs.List.{list_any}
 use Rattle.std.specs.Cmp.Lexicographic.{pointwise}
 use Rattle.rel_base.specs.declared.names.Key.{Key}

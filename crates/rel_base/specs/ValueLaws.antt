@@ -1,13 +1,12 @@
 -- The laws of the order of values and of rows: both are total, and only equal ones tie.
-use Rattle.std.specs.Prelude.{◌≡◌, Bool, true, false, List, refl}
+use Rattle.std.specs.Prelude.{◌≡◌, true, false, refl}
 use Rattle.std.specs.declared.cmp.Ordering.{Ordering}
 use Rattle.std.specs.declared.cmp.Ordering.TheVariants.{Equal}
 use Rattle.std.specs.Cmp.{IsTotalOrder, then_total, on_total, nat_cmp_total, int_cmp_total, bool_cmp_total}
 use Rattle.std.specs.Cmp.Lexicographic.{lists_total, nat_list_cmp_total}
 use Rattle.std.specs.FinMap.{IsAntisymmetric, int_cmp-IsAntisymmetric, nat_cmp-IsAntisymmetric, slice_cmp-IsAntisymmetric}
-use Rattle.std.specs.Ordering.{bool_cmp, nat_cmp, then_cmp, on, ordering_then}
-use Rattle.std.proofs.Common.{ap, sym}
-use Rattle.rel_base.specs.declared.values.Value.{Value}
+use Rattle.std.specs.Ordering.{bool_cmp, ordering_then}
+use Rattle.std.proofs.Common.{ap}
 use Rattle.rel_base.specs.declared.values.Value.TheVariants as variant
 use Rattle.rel_base.specs.Values.{value_order, row_order, type_rank, number_of, bytes_of, truth_of}
 

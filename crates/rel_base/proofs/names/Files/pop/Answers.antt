@@ -1,4 +1,4 @@
-use Rattle.std.proofs.Common.{◌≡◌, ◌∙◌, sym, ap, true}
+use Rattle.std.proofs.Common.{◌∙◌, sym, ap}
 use Rattle.std.specs.Option.{option_to_list}
 use Rattle.rel_base.specs.Keys.{distinct_keys}
 use Rattle.rel_base.proofs.KeyLemmas.{distinct_keys-front}

@@ -1,4 +1,4 @@
-use Rattle.std.proofs.Common.{◌≡◌, ◌∙◌, ap, subst, sym, true, false, List, [], ◌∷◌, ◌++◌, Result, Ok, Err, OnOk, OnErr}
+use Rattle.std.proofs.Common.{◌≡◌, ◌∙◌, ap, true, false, List, [], ◌∷◌, ◌++◌, Result, Ok, Err, OnOk, OnErr}
 use Rattle.rel_base.specs.declared.failure.Memory.{Memory}
 use Rattle.rel_base.specs.Keys.{File, distinct_keys, holds_key}
 use Rattle.rel_base.proofs.KeyLemmas.{distinct_keys-push}

@@ -1,6 +1,5 @@
-use Rattle.std.proofs.Common.{◌≡◌, ◌∙◌, ap, List}
+use Rattle.std.proofs.Common.{◌∙◌, ap}
 use Rattle.std.proofs.lemmas.List.Sorted.{All-permutation}
-use Rattle.rel_base.specs.declared.values.Value.{Value}
 use Rattle.rel_base.specs.Bags.{sorted}
 use Rattle.rel_base.specs.Relations.{Table, HasTypes}
 use Rattle.rel_base.specs.ValueLaws.{row_order_total, row_order-IsAntisymmetric}
