@@ -1,4 +1,5 @@
 mod PieceLemmas
 mod ReadingLemmas
+mod RequestLemmas
 mod VerdictLemmas
 mod WorkedRows

@@ -1,5 +1,5 @@
 //! The one script that runs today: a relation is scanned and stored.
-ghost use Rattle.std.specs.Prelude.{◌≡◌, ◌≤◌, length, IsTrue, IfOk, IfSome, option_map};
+ghost use Rattle.std.specs.Prelude.{◌≡◌, ◌≤◌, ◌↔◌, Some, length, IsTrue, IfOk, IfSome, option_map};
 ghost use Rattle.std.specs.Char.{is_ascii_alphanumeric};
 ghost use Rattle.std.specs.List.{list_all, list_any, prefix_len};
 ghost use Rattle.std.specs.Str.{str_eq_ignore_ascii_case, IsAscii};
@@ -36,6 +36,11 @@ pub fn request_of(alloc: Global, script: &[u8]) -> Result<Option<Request>, Memor
     let stored = adhoc_key(alloc, stored)?;
     Ok(Some(Request { scanned, stored }))
 }
+
+/// Law: a script has a request exactly where it is the text that asks so, and it has one at most.
+pub fn request_is_what_is_asked(script: &[u8], request: &Request)
+    ensures { (form.request_of script.now ≡ Some request.now) ↔ form.AsksFor script.now request.now }
+{}
 
 /// The key of a bare name.
 fn adhoc_key(alloc: Global, name: &[u8]) -> Result<Key, Memory>

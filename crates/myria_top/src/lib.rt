@@ -19,7 +19,7 @@ mod run;
 #[cfg(test)]
 mod tests;
 
-pub use asked::{Request, request_of};
+pub use asked::{Request, request_is_what_is_asked, request_of};
 pub use counted::{TAPS, fresh_taps};
 pub use messages::tell;
 pub use outcomes::{Outcome, Part};

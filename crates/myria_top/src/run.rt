@@ -1,5 +1,6 @@
 //! One run of the program, from its words to its exit.
 ghost use Rattle.std.specs.Prelude.{◌≡◌, ◌↔◌, All, None, Err, vec_len};
+ghost use Rattle.rel_base.specs.Bags.{sorted};
 ghost use Rattle.rel_io.specs.Taps.{no_rows};
 ghost use Rattle.myria_top.specs.Headline.{Headline, Explains, IsAskedOf};
 ghost use Rattle.myria_top.specs.Reading as read;
@@ -9,7 +10,7 @@ use crate::messages::tell;
 use crate::pieces::Pieces;
 use crate::reading::{read_scanned, read_script, script_name};
 use crate::{Outcome, Part, TAPS};
-use rel_base::Text;
+use rel_base::{Relation, Text};
 use rel_io::{Shelf, Sink, SinkFault, Tap};
 use std::alloc::Global;
 use std::sync::Wait;
@@ -116,13 +117,22 @@ fn prepared<F: Shelf>(alloc: Global, words: &[Text], shelf: &mut F) -> Result<Pi
         Ok(request) => request,
         Err(refusal) => return Err(refusal),
     };
-    let mut relation = match read_scanned(alloc, shelf, &request.scanned) {
-        Ok(relation) => relation,
+    let found = match read_scanned(alloc, shelf, &request.scanned) {
+        Ok(found) => found,
         Err(refusal) => return Err(refusal),
     };
-    relation.sort();
+    let relation = in_order(found);
     match Pieces::of_relation(alloc, &request.stored, &relation) {
         Ok(text) => Ok(text),
         Err(_) => Err(Outcome::Memory),
     }
+}
+
+/// The relation with its rows in ascending order.
+fn in_order(mut relation: Relation) -> Relation
+    ensures schema { result.schema ≡ relation.schema }
+    ensures rows { result.rows ≡ sorted relation.rows }
+{
+    relation.sort();
+    relation
 }
