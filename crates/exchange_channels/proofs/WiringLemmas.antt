@@ -1,0 +1,52 @@
+-- How a wiring is made of its keepers.
+use Rattle.std.proofs.Common.{◌≡◌, ℕ, zero, suc, ◌+◌, ◌<◌, List, [], ◌∷◌, length, get_or, map, replicate, All, Some, refl, sym, ◌∙◌, ap, arith}
+use Rattle.std.specs.Prelude.{slice_get}
+use Rattle.std.proofs.lemmas.List.{length-map}
+use Rattle.std.proofs.lemmas.List.Elements.{All-map}
+use Rattle.exchange_channels.specs.CellRule.{with_next_sender}
+use Rattle.exchange_channels.specs.Ports.{PortState}
+use Rattle.exchange_channels.specs.Wirings.{new_outlet}
+use Rattle.exchange_channels.specs.Outlets.{outlet_of, places_of, wiring_of, IsRunning}
+use Rattle.exchange_channels.specs.Keeps.{IsKept, receiver_of, next_sender_of, keeper_with_sender}
+use Rattle.exchange_channels.proofs.PortLemmas.{map_same, map-map}
+
+map-const : {X Y : Type 0} (y : Y) (xs : List X) → map (λ _. y) xs ≡ replicate (length xs) y
+map-const y [] = refl
+map-const y (x ∷ xs) = ap (λ l. y ∷ l) (map-const y xs)
+
+-- what is at a place of the mapped list
+pub slice_get-map : {X Y : Type 0} (f : X → Y) (xs : List X) (k : ℕ) (d : X) → k < length xs → slice_get (map f xs) k ≡ Some (f (get_or xs k d))
+slice_get-map f [] k d below = absurd (omega arith)
+slice_get-map f (x ∷ xs) zero d below = refl
+slice_get-map f (x ∷ xs) (suc k) d below = slice_get-map f xs k d (omega arith)
+
+-- each cell made one more sender
+module _ (old new : List PortState) (long : length new ≡ length old) (each : (k : ℕ) (d : PortState) → k < length old → get_or new k d ≡ keeper_with_sender (get_or old k d)) where
+  pub kept_more : (capacity number : ℕ) → All (IsKept capacity number) old → All (IsKept capacity (number + 1)) new
+  kept_more capacity number kept k d below =
+      let here : k < length old = omega arith in
+      ap (λ (p : PortState). p.knows) (each k d here) ∙ ap with_next_sender (kept k d here)
+
+  pub places_kept : places_of new ≡ places_of old
+  places_kept = map_same (λ p. p.place) (λ p. p.place) old new long (λ k d below. ap (λ (p : PortState). p.place) (each k d below))
+
+module _ (cells : List PortState) where
+  -- the ends of the next sender belong to it, and it may send
+  pub next_sender_runs : (capacity number : ℕ) → All (IsKept capacity number) cells → All (IsRunning number) (map next_sender_of cells)
+  next_sender_runs capacity number kept =
+      All-map (IsRunning number) next_sender_of cells (λ k d below. record { of_sender = ap (λ v. v.number) (kept k d below); no_end = refl })
+
+  -- the outlet of the next sender has sent nothing
+  pub outlet_of-next_sender : (number senders capacity : ℕ) → outlet_of number senders capacity (map next_sender_of cells) ≡ new_outlet (wiring_of cells senders capacity) number
+  outlet_of-next_sender number senders capacity = λ i. record {
+    wiring = record { places = map-map next_sender_of (λ p. p.place) cells i; senders = senders; capacity = capacity };
+    sender = number;
+    sent = (map-map next_sender_of (λ p. p.knows.sent) cells ∙ map-const [] cells ∙ ap (λ n. replicate n []) (sym (length-map cells (λ (p : PortState). p.place)))) i;
+  }
+
+  -- the receivers are at the channels of the keepers, and have taken nothing
+  pub places_of-receivers : places_of (map receiver_of cells) ≡ places_of cells
+  places_of-receivers = map-map receiver_of (λ p. p.place) cells
+
+  pub receivers_fresh : All (λ (p : PortState). p.knows.got ≡ []) (map receiver_of cells)
+  receivers_fresh = All-map (λ (p : PortState). p.knows.got ≡ []) receiver_of cells (λ k d below. refl)

@@ -1,0 +1,42 @@
+-- What an intake keeps.
+use Rattle.std.specs.Prelude.{◌≡◌, ℕ, ◌<◌, Bool, true, false, List, [], length, Result, replicate, Option, None, Some, IfOk, slice_get, slice_index_or}
+use Rattle.std.specs.List.{list_any}
+use Rattle.rel_base.specs.declared.failure.Memory.{Memory}
+use Rattle.rel_io.specs.Outside.{capped_sum}
+use Rattle.rel_io.specs.declared.taps.Totals.{Totals}
+use Rattle.shuffle_core.specs.Inbox.{of_sender}
+use Rattle.exchange_channels.specs.declared.messages.Batch.{Batch}
+use Rattle.exchange_channels.specs.Messages.{sender_of, is_end, drained_of}
+use Rattle.exchange_channels.specs.Ports.{PortState}
+use Rattle.exchange_channels.specs.Wirings.{WiringState, HasEachEnd}
+
+-- the port is that of this cell of the wiring
+abbrev pub IsOfCell : WiringState → ℕ → PortState → Type 0
+IsOfCell wiring cell port = slice_get wiring.places cell ≡ Some port.place
+
+-- an intake has taken nothing, and noted no end mark
+pub record IsIntake (wiring : WiringState) (cell : ℕ) (port : PortState) (ended : List Bool) : Type 0 where
+  pub of_cell : IsOfCell wiring cell port
+  pub nothing_taken : port.knows.got ≡ []
+  pub no_end_noted : ended ≡ replicate wiring.senders false
+
+-- the end of an intake has taken the end mark of each sender
+pub record IsIntakeEnd (wiring : WiringState) (cell : ℕ) (port : PortState) : Type 0 where
+  pub of_cell : IsOfCell wiring cell port
+  pub each_end : HasEachEnd wiring.senders port.knows.got
+
+-- what was taken so far, the senders whose end marks were noted, and the batches that were kept, or that memory was refused
+pub record TakingState : Type 0 where
+  pub port : PortState
+  pub ended : List Bool
+  pub drained : Result (List (ℕ × Batch)) Memory
+
+-- an end mark is noted only where it was taken, and the batches that were kept are all that were taken
+pub record IsTaking (t : TakingState) : Type 0 where
+  pub ends_taken : (s : ℕ) → s < length t.ended → slice_index_or t.ended s false ≡ true → list_any is_end (of_sender sender_of s t.port.knows.got) ≡ true
+  pub all_kept : IfOk t.drained (λ drained. drained ≡ drained_of t.port.knows.got)
+
+-- the sums of a tap once it was told the rows of a batch; an end mark tells it nothing
+abbrev pub told : Totals → Option Batch → Totals
+told sums None = sums
+told sums (Some batch) = record sums { got = capped_sum sums.got (length batch.rows) }

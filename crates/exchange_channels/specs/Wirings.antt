@@ -1,0 +1,99 @@
+-- A wiring of cells and senders, and what contracts see of its ends.
+--
+--   WiringState                        the channels of the cells, the number of senders, the capacity
+--   OutletState, IntakeState           what an outlet has sent to each cell; what an intake has taken
+--   new_outlet, new_intake             an outlet that has sent nothing; an intake that has taken nothing
+--   AreOutletEnds, AreIntakeEnds       these are all the ends of a wiring, in order
+--   HasEachEnd got senders             the end mark of each sender was taken
+--   ReceiptState, receipt_of           what a receipt shows
+--   IsDelivered outs taken             a cell took of each sender what it sent there, in its order, and nothing else
+use Rattle.std.specs.Prelude.{◌≡◌, ℕ, ◌<◌, IsTrue, List, [], ◌∷◌, ◌++◌, length, map, replicate, All, slice_index_or, slice_set}
+use Rattle.std.specs.List.{list_any, range_with_len}
+use Rattle.shuffle_core.specs.Inbox.{of_sender}
+use Rattle.exchange_channels.specs.declared.messages.Batch.{Batch}
+use Rattle.exchange_channels.specs.declared.messages.Message.{Message}
+use Rattle.exchange_channels.specs.Messages.{sender_of, is_end, end_of, batches_of}
+use Rattle.exchange_channels.specs.Ports.{Place}
+
+-- a wiring: the channel of each cell, the number of senders, and how many messages may wait in a channel
+pub record WiringState : Type 0 where
+  pub places : List Place
+  pub senders : ℕ
+  pub capacity : ℕ
+
+-- an outlet: its wiring, the number of its sender, and for each cell what it sent there
+pub record OutletState : Type 0 where
+  pub wiring : WiringState
+  pub sender : ℕ
+  pub sent : List (List Message)
+
+-- an intake: its wiring, the number of its cell, and what it took
+pub record IntakeState : Type 0 where
+  pub wiring : WiringState
+  pub cell : ℕ
+  pub got : List Message
+
+-- a receipt: how many messages might wait, and for each cell and each sender the batches that went there
+pub record ReceiptState : Type 0 where
+  pub capacity : ℕ
+  pub batches : List (List (List Batch))
+
+-- the number of cells
+abbrev pub cells_of : WiringState → ℕ
+cells_of wiring = length wiring.places
+
+-- the outlet of a sender that has sent nothing
+abbrev pub new_outlet : WiringState → ℕ → OutletState
+new_outlet wiring sender = record { wiring = wiring; sender = sender; sent = replicate (cells_of wiring) [] }
+
+-- the intake of a cell that has taken nothing
+abbrev pub new_intake : WiringState → ℕ → IntakeState
+new_intake wiring cell = record { wiring = wiring; cell = cell; got = [] }
+
+-- what an outlet sent to a cell
+abbrev pub sent_to : OutletState → ℕ → List Message
+sent_to outlet cell = slice_index_or outlet.sent cell []
+
+-- the outlet once it sent a message to a cell
+abbrev pub with_sent_to : OutletState → ℕ → Message → OutletState
+with_sent_to outlet cell message = record outlet { sent = slice_set outlet.sent cell (sent_to outlet cell ++ message ∷ []) }
+
+-- the outlet once it sent its end mark to each cell
+abbrev pub with_ends : OutletState → OutletState
+with_ends outlet = record outlet { sent = map (λ messages. messages ++ end_of outlet.sender ∷ []) outlet.sent }
+
+-- the end mark of each sender is among the messages
+abbrev pub HasEachEnd : ℕ → List Message → Type 0
+HasEachEnd senders got = (s : ℕ) → s < senders → IsTrue (list_any is_end (of_sender sender_of s got))
+
+-- these are the ends of all outlets of the wiring, in order of their senders
+pub record AreOutletEnds (wiring : WiringState) (outs : List OutletState) : Type 0 where
+  pub count : length outs ≡ wiring.senders
+  pub of_wiring : All (λ out. out.wiring ≡ wiring) outs
+  pub in_order : (k : ℕ) (d : OutletState) → k < length outs → (slice_index_or outs k d).sender ≡ k
+
+-- these are the ends of all intakes of the wiring, in order of their cells
+pub record AreIntakeEnds (wiring : WiringState) (ins : List IntakeState) : Type 0 where
+  pub count : length ins ≡ cells_of wiring
+  pub of_wiring : All (λ taken. taken.wiring ≡ wiring) ins
+  pub in_order : (k : ℕ) (d : IntakeState) → k < length ins → (slice_index_or ins k d).cell ≡ k
+
+-- what the receipt shows: for each cell and each sender, the batches that the sender sent there
+abbrev pub receipt_of : WiringState → List OutletState → ReceiptState
+receipt_of wiring outs = record {
+  capacity = wiring.capacity;
+  batches = map (λ cell. map (λ out. batches_of (sent_to out cell)) outs) (range_with_len 0 (cells_of wiring));
+}
+
+-- what a cell took is, of each sender, what the sender sent there, in its order, and nothing else
+pub record IsDelivered (outs : List OutletState) (taken : IntakeState) : Type 0 where
+  pub all_taken : (s : ℕ) (d : OutletState) → s < length outs → of_sender sender_of s taken.got ≡ sent_to (slice_index_or outs s d) taken.cell
+  pub no_stranger : All (λ message. message.sender < length outs) taken.got
+
+-- a wiring was made of so many cells and senders and of this capacity: an outlet for each sender and an intake for each cell, in order
+pub record IsWired (keep : WiringState) (outlets : List OutletState) (intakes : List IntakeState) (cells senders capacity : ℕ) : Type 0 where
+  pub same_cells : cells_of keep ≡ cells
+  pub same_senders : keep.senders ≡ senders
+  pub same_capacity : keep.capacity ≡ capacity
+  pub all_outlets : outlets ≡ map (new_outlet keep) (range_with_len 0 senders)
+  pub all_intakes : intakes ≡ map (new_intake keep) (range_with_len 0 cells)

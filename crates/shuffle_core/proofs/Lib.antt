@@ -1,0 +1,3 @@
+pub mod InboxLemmas
+pub mod MachineLemmas
+pub mod WorkedRows
