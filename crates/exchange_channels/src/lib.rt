@@ -35,6 +35,3 @@ pub use laws::{a_send_is_a_send, a_take_is_a_take, numbered_inbox_is_an_inbox};
 pub use messages::{Batch, Drained, Message};
 pub use outlets::{Outlet, OutletEnd};
 pub use wiring::{Intakes, Keep, Outlets, Wiring, wire};
-
-#[cfg(test)]
-mod tests;

@@ -1,7 +1,0 @@
-use Rattle.myrial_parser.proofs.CountLemmas.{signed-count, prefixed-count}
-use Rattle.myrial_parser.proofs.SeparatedLemmas.{separated-complete}
-use Rattle.myrial_parser.proofs.LevelLemmas.{expression-unique}
-use Rattle.myrial_parser.proofs.laws.an_expression_has_one_tree.Goals as goal
-
-pub returns : goal.returns
-returns c = expression-unique

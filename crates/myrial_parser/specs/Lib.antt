@@ -1,6 +1,0 @@
--- The words of this crate, lowest first.
-pub mod Terminals
-pub mod Phrases
-pub mod Grammar
-pub mod Descent
-pub mod Pieces
