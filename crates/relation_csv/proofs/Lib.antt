@@ -13,3 +13,5 @@ pub mod RelationLemmas
 pub mod TypeLemmas
 pub mod TextLemmas
 pub mod DecimalLemmas
+pub mod MarkLemmas
+pub mod RoundTripLemmas

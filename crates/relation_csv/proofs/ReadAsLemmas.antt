@@ -6,7 +6,8 @@ use Rattle.relation_csv.specs.declared.faults.RelFault.TheVariants as fault
 use Rattle.relation_csv.specs.Files.{IsReadAs}
 
 -- what `?` answers where it passes an error on
-pub IsReadAs-error : {T : Type 0} (r : Result T RelFault) (e : RelFault) (whole : Option T) → IsErrAnd r (λ x. x ≡ e) → (e ≡ fault.NotBuilt → whole ≡ None) → IsReadAs r whole
+pub IsReadAs-error : {T : Type 0} (r : Result T RelFault) (e : RelFault) (whole : Option T) → IsErrAnd r (λ x. x ≡ e)
+    → (e ≡ fault.NotBuilt → whole ≡ None) → IsReadAs r whole
 IsReadAs-error (Ok x) e whole same none = absurd same
 IsReadAs-error (Err fault.NotBuilt) fault.NotBuilt whole same none = none same
 IsReadAs-error (Err fault.NotBuilt) fault.Memory whole same none = cc

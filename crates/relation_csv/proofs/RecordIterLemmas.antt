@@ -15,13 +15,16 @@ use Rattle.csv.specs.declared.record.StringRecordIter.{StringRecordIter}
 
 -- what a step of the iterator gives
 abbrev pub field_steps : StringRecordIter → Option (Bor (List ℕ)) → StringRecordIter → Type 0
-field_steps a r b = (b.row ≡ a.row) × (option_map (λ s. s.now) r ≡ field_at (fields_of a.row.now) a.at) × IfSome r (λ _. b.at ≡ a.at + 1)
+field_steps a r b =
+    (b.row ≡ a.row) × (option_map (λ s. s.now) r ≡ field_at (fields_of a.row.now) a.at)
+    × IfSome r (λ _. b.at ≡ a.at + 1)
 
 -- the fields that an iterator has yet to give
 abbrev pub fields_ahead : StringRecordIter → List (List ℕ)
 fields_ahead s = drop s.at (fields_of s.row.now)
 
-drop-field_at : (fields : List (List ℕ)) (i : ℕ) (x : List ℕ) → Some x ≡ field_at fields i → drop i fields ≡ x ∷ drop (i + 1) fields
+drop-field_at : (fields : List (List ℕ)) (i : ℕ) (x : List ℕ) → Some x ≡ field_at fields i
+    → drop i fields ≡ x ∷ drop (i + 1) fields
 unfolding field_at
 drop-field_at [] i x e = cc
 drop-field_at (f ∷ fs) zero x e = let same : x ≡ f = cc in ap (λ y. y ∷ fs) (sym same)
@@ -39,18 +42,22 @@ YieldsList-ahead : (s : StringRecordIter) → YieldsList field_steps (λ (f : Bo
 YieldsList-ahead s =
     YieldsList-from_shown field_steps (λ f. f.now) fields_ahead
     (λ a b step. drop-no_field (fields_of a.row.now) a.at step.1)
-    (λ a f b step. drop-field_at (fields_of a.row.now) a.at f.now step.1 ∙ ap (λ fs. f.now ∷ fs) (sym (rw (step.0, step.2) refl)))
+    (λ a f b step. drop-field_at (fields_of a.row.now) a.at f.now step.1
+    ∙ ap (λ fs. f.now ∷ fs) (sym (rw (step.0, step.2) refl)))
     s
 
 -- an iterator at its start gives all fields
-pub YieldsList-from_record : (s : StringRecordIter) (fields : List (List ℕ)) → s.at ≡ 0 → fields_of s.row.now ≡ fields → YieldsList field_steps (λ (f : Bor (List ℕ)). f.now) s fields
+pub YieldsList-from_record : (s : StringRecordIter) (fields : List (List ℕ)) → s.at ≡ 0 → fields_of s.row.now ≡ fields
+    → YieldsList field_steps (λ (f : Bor (List ℕ)). f.now) s fields
 YieldsList-from_record s fields at is =
     let all : fields_ahead s ≡ fields = rw at is in
     rw all at (YieldsList-ahead s)
 
 -- a loop over columns and fields has them in pairs
-pub YieldsList-from_pairs : (z : Zip (Iter Column) StringRecordIter) (schema : List Column) (fields : List (List ℕ)) → iter_rest (zip_first z) ≡ schema
+pub YieldsList-from_pairs : (z : Zip (Iter Column) StringRecordIter) (schema : List Column) (fields : List (List ℕ))
+    → iter_rest (zip_first z) ≡ schema
     → (zip_second z).at ≡ 0 → fields_of (zip_second z).row.now ≡ fields
     → YieldsList (zips fronts field_steps) (λ (p : Bor Column × Bor (List ℕ)). (p.0.now, p.1.now)) z (zip schema fields)
 YieldsList-from_pairs z schema fields columns at is =
-    YieldsList-from_zip {s = z} (YieldsList-from_slice {s = zip_first z} schema columns) (YieldsList-from_record (zip_second z) fields at is)
+    YieldsList-from_zip {s = z} (YieldsList-from_slice {s = zip_first z} schema columns)
+    (YieldsList-from_record (zip_second z) fields at is)

@@ -18,7 +18,8 @@ use Rattle.relation_csv.specs.Files.{Record, is_text}
 use Rattle.relation_csv.specs.RecordsLeft.{IsSteady, StartsWithNoText, bytes_in, fault_of_kind, records_after, records_left}
 
 -- what follows a record is shorter than what it was read from, if that had a byte
-next_record-shorter : (cfg : Config) (s : State) (fields : List (List ℕ)) (field : List ℕ) (c : ℕ) (rest : List ℕ) (p : Read)
+next_record-shorter : (cfg : Config) (s : State) (fields : List (List ℕ)) (field : List ℕ) (c : ℕ) (rest : List ℕ)
+    (p : Read)
     → next_record cfg s fields field (c ∷ rest) ≡ Some p → length p.2 ≤ length rest
 unfolding next_record
 next_record-shorter cfg s fields field c [] p e = by (is_end (step cfg s c).1) (ends_at_end (step cfg s c).0) refl refl
@@ -27,16 +28,20 @@ next_record-shorter cfg s fields field c [] p e = by (is_end (step cfg s c).1) (
     by true d end last = let q = rw end at e in let h : [] ≡ p.2 = cc in omega (arith, ap length h)
     by false true end last = let q = rw (end, last) at e in let h : [] ≡ p.2 = cc in omega (arith, ap length h)
     by false false end last = let q = rw (end, last) at e in cc
-next_record-shorter cfg s fields field c (d ∷ rest) p e = by (is_end (step cfg s c).1) refl (next_record-shorter cfg (step cfg s c).0 (fields_after (step cfg s c).1 fields field) (field_after (step cfg s c).1 c field) d rest p)
+next_record-shorter cfg s fields field c (d ∷ rest) p e = by (is_end (step cfg s c).1) refl
+    (next_record-shorter cfg (step cfg s c).0 (fields_after (step cfg s c).1 fields field)
+    (field_after (step cfg s c).1 c field) d rest p)
   where
     by : (b : Bool) → is_end (step cfg s c).1 ≡ b
-        → (next_record cfg (step cfg s c).0 (fields_after (step cfg s c).1 fields field) (field_after (step cfg s c).1 c field) (d ∷ rest) ≡ Some p → length p.2 ≤ length rest)
+        → (next_record cfg (step cfg s c).0 (fields_after (step cfg s c).1 fields field)
+        (field_after (step cfg s c).1 c field) (d ∷ rest) ≡ Some p → length p.2 ≤ length rest)
         → length p.2 ≤ suc (length rest)
     by true end more = let q = rw end at e in let h : d ∷ rest ≡ p.2 = cc in omega (arith, ap length h)
     by false end more = let h = more (rw end at e) in omega arith
 
 -- a record that the end of the text ends leaves no byte, and a record may start there
-next_record-at_end : (cfg : Config) (s : State) (p : Read) → next_record cfg s [] [] [] ≡ Some p → (st.StartRecord ≡ p.1) × ([] ≡ p.2)
+next_record-at_end : (cfg : Config) (s : State) (p : Read) → next_record cfg s [] [] [] ≡ Some p
+    → (st.StartRecord ≡ p.1) × ([] ≡ p.2)
 unfolding next_record
 next_record-at_end cfg s p e = by (ends_at_end s) refl
   where
@@ -51,18 +56,21 @@ records_from-at_end cfg zero = refl
 records_from-at_end cfg (suc n) = refl
 
 -- as many turns as there are bytes, and one more, find all records
-records_from-enough : (cfg : Config) (n m : ℕ) (s : State) (xs : List ℕ) → length xs < n → length xs < m → records_from cfg n s xs ≡ records_from cfg m s xs
+records_from-enough : (cfg : Config) (n m : ℕ) (s : State) (xs : List ℕ) → length xs < n → length xs < m
+    → records_from cfg n s xs ≡ records_from cfg m s xs
 unfolding records_from
 records_from-enough cfg zero m s xs a b = absurd (omega arith)
 records_from-enough cfg (suc n) zero s xs a b = absurd (omega arith)
 records_from-enough cfg (suc n) (suc m) s [] a b = by (next_record cfg s [] [] []) refl
   where
-    by : (o : Option Read) → next_record cfg s [] [] [] ≡ o → records_next (records_from cfg n) o ≡ records_next (records_from cfg m) o
+    by : (o : Option Read) → next_record cfg s [] [] [] ≡ o
+        → records_next (records_from cfg n) o ≡ records_next (records_from cfg m) o
     by None e = refl
     by (Some p) e =
         let (start, gone) = next_record-at_end cfg s p e in
         rw (← start, ← gone, records_from-at_end, records_from-at_end) refl
-records_from-enough cfg (suc n) (suc m) s (c ∷ rest) a b = by (next_record cfg s [] [] (c ∷ rest)) refl (records_from-enough cfg n m)
+records_from-enough cfg (suc n) (suc m) s (c ∷ rest) a b = by (next_record cfg s [] [] (c ∷ rest)) refl
+    (records_from-enough cfg n m)
   where
     by : (o : Option Read) → next_record cfg s [] [] (c ∷ rest) ≡ o
         → ((t : State) (ys : List ℕ) → length ys < n → length ys < m → records_from cfg n t ys ≡ records_from cfg m t ys)
@@ -73,7 +81,8 @@ records_from-enough cfg (suc n) (suc m) s (c ∷ rest) a b = by (next_record cfg
         ap (λ rs. p.0 ∷ rs) (more p.1 p.2 (omega arith) (omega arith))
 
 -- where a record follows, it is the first of those that follow
-records_after-Some : (s : State) (xs : List ℕ) (p : Read) → next_record default_config s [] [] xs ≡ Some p → records_after s xs ≡ p.0 ∷ records_after p.1 p.2
+pub records_after-Some : (s : State) (xs : List ℕ) (p : Read) → next_record default_config s [] [] xs ≡ Some p
+    → records_after s xs ≡ p.0 ∷ records_after p.1 p.2
 unfolding records_from
 records_after-Some s [] p e =
     let (start, gone) = next_record-at_end default_config s p e in
@@ -81,65 +90,78 @@ records_after-Some s [] p e =
 records_after-Some s (c ∷ rest) p e =
     let one : length (c ∷ rest) + 1 ≡ suc (length (c ∷ rest)) = omega arith in
     let shorter = next_record-shorter default_config s [] [] c rest p e in
-    rw (one, e) (ap (λ rs. p.0 ∷ rs) (records_from-enough default_config (length (c ∷ rest)) (length p.2 + 1) p.1 p.2 (omega arith) (omega arith)))
+    rw (one, e) (ap (λ rs. p.0 ∷ rs) (records_from-enough default_config (length (c ∷ rest)) (length p.2 + 1) p.1 p.2
+    (omega arith) (omega arith)))
 
 -- where none follows, there is none
-records_after-None : (s : State) (xs : List ℕ) → next_record default_config s [] [] xs ≡ None → records_after s xs ≡ []
+pub records_after-None : (s : State) (xs : List ℕ) → next_record default_config s [] [] xs ≡ None
+    → records_after s xs ≡ []
 unfolding records_from
 records_after-None s xs e = let one : length xs + 1 ≡ suc (length xs) = omega arith in rw (one, e) refl
 
 -- a read that found a record
-read-found : (s s2 : State) (xs : List ℕ) (known : Option (List ℕ)) (fields : Record) → ReadsNext default_config s (Some xs) known true fields s2
+read-found : (s s2 : State) (xs : List ℕ) (known : Option (List ℕ)) (fields : Record)
+    → ReadsNext default_config s (Some xs) known true fields s2
     → (ys : List ℕ) × (known ≡ Some ys) × (records_after s xs ≡ fields ∷ records_after s2 ys)
 read-found s s2 xs None fields r = absurd r
 read-found s s2 xs (Some ys) fields r = (ys, refl, by (next_record default_config s [] [] xs) refl r)
   where
-    by : (o : Option Read) → next_record default_config s [] [] xs ≡ o → NextIs o true fields s2 ys → records_after s xs ≡ fields ∷ records_after s2 ys
+    by : (o : Option Read) → next_record default_config s [] [] xs ≡ o → NextIs o true fields s2 ys
+        → records_after s xs ≡ fields ∷ records_after s2 ys
     by None e n = cc n
     by (Some p) e n = let (found, first, state, left) = n in rw (first, state, left) (records_after-Some s xs p e)
 
 -- a read that found none
-read-none : (s s2 : State) (xs : List ℕ) (known : Option (List ℕ)) (fields : Record) → ReadsNext default_config s (Some xs) known false fields s2
+read-none : (s s2 : State) (xs : List ℕ) (known : Option (List ℕ)) (fields : Record)
+    → ReadsNext default_config s (Some xs) known false fields s2
     → records_after s xs ≡ []
 read-none s s2 xs None fields r = absurd r
 read-none s s2 xs (Some ys) fields r = by (next_record default_config s [] [] xs) refl r
   where
-    by : (o : Option Read) → next_record default_config s [] [] xs ≡ o → NextIs o false fields s2 ys → records_after s xs ≡ []
+    by : (o : Option Read) → next_record default_config s [] [] xs ≡ o → NextIs o false fields s2 ys
+        → records_after s xs ≡ []
     by None e n = records_after-None s xs e
     by (Some p) e n = cc n.0
 
 -- a steady reader that finds a record gives the first of the records that it had left
-records_left-found : (old new : Reader (Bor (List ℕ))) (fields : Record) → IsSteady old → ReadRecord bytes_in old new true fields
+records_left-found : (old new : Reader (Bor (List ℕ))) (fields : Record) → IsSteady old
+    → ReadRecord bytes_in old new true fields
     → records_left old ≡ fields ∷ records_left new
 unfolding records_left
 records_left-found old new fields steady r = by (source_of bytes_in old) refl steady.source_known
   where
     by : (o : Option (List ℕ)) → source_of bytes_in old ≡ o → IsSome o
-        → option_map_or (records_after old.state) (source_of bytes_in old) [] ≡ fields ∷ option_map_or (records_after new.state) (source_of bytes_in new) []
+        → option_map_or (records_after old.state) (source_of bytes_in old) [] ≡ fields ∷ option_map_or
+        (records_after new.state) (source_of bytes_in new) []
     by None e some = cc
     by (Some xs) e some =
-        let (ys, known, next) = read-found old.state new.state xs (pending_of (bytes_in new.rdr) new) fields (rw (steady.config, e) at r.0) in
+        let (ys, known, next) = read-found old.state new.state xs (pending_of (bytes_in new.rdr) new) fields
+        (rw (steady.config, e) at r.0) in
         rw (e, r.1, known) next
 
 -- a steady reader that finds none had none left
-records_left-none : (old new : Reader (Bor (List ℕ))) (fields : Record) → IsSteady old → ReadRecord bytes_in old new false fields
+records_left-none : (old new : Reader (Bor (List ℕ))) (fields : Record) → IsSteady old
+    → ReadRecord bytes_in old new false fields
     → records_left old ≡ []
 unfolding records_left
 records_left-none old new fields steady r = by (source_of bytes_in old) refl steady.source_known
   where
-    by : (o : Option (List ℕ)) → source_of bytes_in old ≡ o → IsSome o → option_map_or (records_after old.state) (source_of bytes_in old) [] ≡ []
+    by : (o : Option (List ℕ)) → source_of bytes_in old ≡ o → IsSome o
+        → option_map_or (records_after old.state) (source_of bytes_in old) [] ≡ []
     by None e some = cc
     by (Some xs) e some =
         rw e (read-none old.state new.state xs (pending_of (bytes_in new.rdr) new) fields (rw (steady.config, e) at r.0))
 
 -- a steady reader gives the first of the records that it had left, or tells that none was left
-pub records_left-read : (found : Bool) (old new : Reader (Bor (List ℕ))) (fields : Record) → IsSteady old → ReadRecord bytes_in old new found fields
+pub records_left-read : (found : Bool) (old new : Reader (Bor (List ℕ))) (fields : Record) → IsSteady old
+    → ReadRecord bytes_in old new found fields
     → records_left old ≡ cond found (fields ∷ records_left new) []
 records_left-read true old new fields steady r = records_left-found old new fields steady r
 records_left-read false old new fields steady r = records_left-none old new fields steady r
 
 -- a steady reader that took a record had it left first
-records_left-took : (old new : Reader (Bor (List ℕ))) (fields : Record) → IsSteady old → TookRecord bytes_in old new fields
+records_left-took : (old new : Reader (Bor (List ℕ))) (fields : Record) → IsSteady old
+    → TookRecord bytes_in old new fields
     → (rest : List Record) × (records_left old ≡ fields ∷ rest)
 unfolding records_left
 records_left-took old new fields steady r = by (source_of bytes_in old) refl steady.source_known
@@ -148,7 +170,8 @@ records_left-took old new fields steady r = by (source_of bytes_in old) refl ste
         → (rest : List Record) × (option_map_or (records_after old.state) (source_of bytes_in old) [] ≡ fields ∷ rest)
     by None e some = cc
     by (Some xs) e some =
-        let (ys, known, next) = read-found old.state new.state xs (pending_of (bytes_in new.rdr) new) fields (rw (steady.config, e) at r) in
+        let (ys, known, next) = read-found old.state new.state xs (pending_of (bytes_in new.rdr) new) fields
+        (rw (steady.config, e) at r) in
         (records_after new.state ys, ap (λ o. option_map_or (records_after old.state) o []) e ∙ next)
 
 -- the csv crate's word for text is this crate's
@@ -174,11 +197,13 @@ is_text-not fields not_text = by (is_text fields) refl
     by false e = refl
 
 -- an error that is a fault of the file tells of a next record that is not text
-pub records_left-not_text : (old new : Reader (Bor (List ℕ))) (k : ErrorKind) → IsSteady old → ExplainsRead bytes_in old new true k
+pub records_left-not_text : (old new : Reader (Bor (List ℕ))) (k : ErrorKind) → IsSteady old
+    → ExplainsRead bytes_in old new true k
     → fault_of_kind k ≡ fault.NotBuilt → StartsWithNoText (records_left old)
 records_left-not_text old new (kind.Io e) steady x f = cc
 records_left-not_text old new kind.OutOfMemory steady x f = cc
-records_left-not_text old new (kind.UnequalLengths pos expected len) steady x f = let a = x.0 in let b = steady.flexible in cc
+records_left-not_text old new (kind.UnequalLengths pos expected len)
+    steady x f = let a = x.0 in let b = steady.flexible in cc
 records_left-not_text old new (kind.Utf8 pos err) steady x f =
     let (reads_text, fields, took, not_text) = x in
     let (rest, left) = records_left-took old new fields steady took in

@@ -10,20 +10,24 @@ module _ (bytes : List ℕ) where
   unfolding relation_of_bytes
   relation_of_bytes-no_record none = rw none refl
 
-  pub relation_of_bytes-no_schema : (header : Record) (others : List Record) → records_of_bytes bytes ≡ header ∷ others → schema_of_record header ≡ None
+  pub relation_of_bytes-no_schema : (header : Record) (others : List Record)
+      → records_of_bytes bytes ≡ header ∷ others → schema_of_record header ≡ None
       → relation_of_bytes bytes ≡ None
   unfolding relation_of_bytes
   relation_of_bytes-no_schema header others all none = rw (all, none) refl
 
   pub relation_of_bytes-no_text : StartsWithNoText (records_of_bytes bytes) → relation_of_bytes bytes ≡ None
-  relation_of_bytes-no_text (header, others, all, no_text) = relation_of_bytes-no_schema header others all (rw no_text refl)
+  relation_of_bytes-no_text (header, others, all, no_text) = relation_of_bytes-no_schema header others all
+      (rw no_text refl)
 
-  pub relation_of_bytes-no_rows : (header : Record) (others : List Record) (schema : List Column) → records_of_bytes bytes ≡ header ∷ others
+  pub relation_of_bytes-no_rows : (header : Record) (others : List Record) (schema : List Column)
+      → records_of_bytes bytes ≡ header ∷ others
       → schema_of_record header ≡ Some schema → rows_of_records schema others ≡ None → relation_of_bytes bytes ≡ None
   unfolding relation_of_bytes
   relation_of_bytes-no_rows header others schema all named none = rw (all, named, none) refl
 
-  pub relation_of_bytes-Some : (header : Record) (others : List Record) (schema : List Column) (rows : List (List Value)) → records_of_bytes bytes ≡ header ∷ others
+  pub relation_of_bytes-Some : (header : Record) (others : List Record) (schema : List Column)
+      (rows : List (List Value)) → records_of_bytes bytes ≡ header ∷ others
       → schema_of_record header ≡ Some schema → rows_of_records schema others ≡ Some rows
       → relation_of_bytes bytes ≡ Some (record { schema = schema; rows = rows })
   unfolding relation_of_bytes

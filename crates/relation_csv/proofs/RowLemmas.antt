@@ -6,12 +6,16 @@ use Rattle.rel_base.specs.declared.values.Value.{Value}
 use Rattle.relation_csv.specs.Files.{Record, each_or_none, is_text, row_of_record, value_under}
 use Rattle.relation_csv.proofs.SchemaLemmas.{cond-None}
 
-pub row_of_record-fault : (schema : List Column) (fields : Record) → each_or_none value_under (zip schema fields) ≡ None → row_of_record schema fields ≡ None
-row_of_record-fault schema fields e = cond-None (is_text fields && eqb (length fields) (length schema)) (each_or_none value_under (zip schema fields)) e
+pub row_of_record-fault : (schema : List Column) (fields : Record)
+    → each_or_none value_under (zip schema fields) ≡ None → row_of_record schema fields ≡ None
+row_of_record-fault schema fields e = cond-None (is_text fields && eqb (length fields) (length schema))
+    (each_or_none value_under (zip schema fields)) e
 
-pub row_of_record-other_length : (schema : List Column) (fields : Record) → is_text fields ≡ true → length fields ≢ length schema → row_of_record schema fields ≡ None
+pub row_of_record-other_length : (schema : List Column) (fields : Record) → is_text fields ≡ true
+    → length fields ≢ length schema → row_of_record schema fields ≡ None
 row_of_record-other_length schema fields text other = rw (text, ne_eqb (length fields) (length schema) other) refl
 
-pub row_of_record-Some : (schema : List Column) (fields : Record) (row : List Value) → is_text fields ≡ true → length fields ≡ length schema
+pub row_of_record-Some : (schema : List Column) (fields : Record) (row : List Value) → is_text fields ≡ true
+    → length fields ≡ length schema
     → each_or_none value_under (zip schema fields) ≡ Some row → row_of_record schema fields ≡ Some row
 row_of_record-Some schema fields row text same e = rw (text, eq-eqb (length fields) (length schema) same) e

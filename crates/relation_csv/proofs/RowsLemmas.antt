@@ -17,25 +17,31 @@ pub record HasRows (schema : List Column) (before left : List Record) (rows : Li
   pub read : each_or_none (row_of_record schema) done ≡ Some rows
   pub few : length rows ≤ MOST_ROWS
 
-module _ (schema : List Column) (before left : List Record) (rows : List (List Value)) (h : HasRows schema before left rows) where
+module _ (schema : List Column) (before left : List Record) (rows : List (List Value))
+    (h : HasRows schema before left rows) where
   -- a record that is no row is a fault of the whole
-  pub rows_of_records-fault : (fields : Record) (rest : List Record) → left ≡ fields ∷ rest → row_of_record schema fields ≡ None → rows_of_records schema before ≡ None
+  pub rows_of_records-fault : (fields : Record) (rest : List Record) → left ≡ fields ∷ rest
+      → row_of_record schema fields ≡ None → rows_of_records schema before ≡ None
   rows_of_records-fault fields rest next e =
       cond-None (leb (length before) MOST_ROWS) (each_or_none (row_of_record schema) before)
-      (ap (each_or_none (row_of_record schema)) (h.split ∙ ap (λ rs. h.done ++ rs) next) ∙ each_or_none-fault (row_of_record schema) h.done fields rest e)
+      (ap (each_or_none (row_of_record schema)) (h.split ∙ ap (λ rs. h.done ++ rs) next)
+      ∙ each_or_none-fault (row_of_record schema) h.done fields rest e)
 
   pub rows_of_records-no_text : StartsWithNoText left → rows_of_records schema before ≡ None
   rows_of_records-no_text (fields, rest, next, no_text) = rows_of_records-fault fields rest next (rw no_text refl)
 
   -- a record more than may be is one too
-  pub rows_of_records-too_many : (fields : Record) (rest : List Record) → left ≡ fields ∷ rest → length rows ≡ MOST_ROWS → rows_of_records schema before ≡ None
+  pub rows_of_records-too_many : (fields : Record) (rest : List Record) → left ≡ fields ∷ rest
+      → length rows ≡ MOST_ROWS → rows_of_records schema before ≡ None
   rows_of_records-too_many fields rest next full =
       let size = length-each_or_none (row_of_record schema) h.done rows h.read in
-      let all : length before ≡ length h.done + length (fields ∷ rest) = ap length (h.split ∙ ap (λ rs. h.done ++ rs) next) ∙ length-append h.done (fields ∷ rest) in
+      let all : length before ≡ length h.done + length (fields ∷ rest) = ap length
+      (h.split ∙ ap (λ rs. h.done ++ rs) next) ∙ length-append h.done (fields ∷ rest) in
       rw (lt-leb (length before) MOST_ROWS (omega arith)) refl
 
   -- one record more is read
-  pub HasRows-push : (fields : Record) (rest : List Record) (row : List Value) → left ≡ fields ∷ rest → length rows < MOST_ROWS → row_of_record schema fields ≡ Some row
+  pub HasRows-push : (fields : Record) (rest : List Record) (row : List Value) → left ≡ fields ∷ rest
+      → length rows < MOST_ROWS → row_of_record schema fields ≡ Some row
       → HasRows schema before rest (rows ++ row ∷ [])
   HasRows-push fields rest row next room e = record {
     done = h.done ++ fields ∷ [];

@@ -7,6 +7,7 @@ use Rattle.rel_base.specs.declared.tables.Column.{Column}
 use Rattle.relation_csv.specs.Fields.{int_of_field, column_of_field}
 use Rattle.relation_csv.specs.Files.{relation_of_bytes}
 use Rattle.relation_csv.specs.RecordTexts.{header_record, row_record}
+use Rattle.relation_csv.specs.RoundTrip.{file_text}
 use Rattle.relation_csv.proofs.OnLiterals.{files_on_literals}
 
 abbrev int_column : List ℕ → Column
@@ -109,3 +110,9 @@ row_with_an_empty_string = refl
 lone_empty_string : row_record (variant.Str [] ∷ []) ≡ codes "\"\"\n"
 unfolding files_on_literals
 lone_empty_string = refl
+
+-- the file of a relation, written
+file_of_three_rows : file_text (record { schema = int_column (codes "x") ∷ int_column (codes "y") ∷ []; rows = pair 3 1 ∷ pair 1 2 ∷ pair 2 5 ∷ [] })
+    ≡ codes "x:int,y:int\n3,1\n1,2\n2,5\n"
+unfolding files_on_literals
+file_of_three_rows = refl

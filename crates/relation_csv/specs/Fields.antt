@@ -54,5 +54,6 @@ type_of_name name = if bytes_eq name (codes "int") then Some kind.Int else None
 abbrev pub column_of_field : List ℕ → Option Column
 column_of_field field =
     if list_any is_colon field
-    then option_map (λ t. record { name = before_last is_colon field; kind = t }) (type_of_name (after_last is_colon field))
+    then option_map (λ t. record { name = before_last is_colon field; kind = t })
+    (type_of_name (after_last is_colon field))
     else None

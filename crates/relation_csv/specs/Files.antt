@@ -36,16 +36,19 @@ records_of_bytes bytes = records default_config (strip_bom bytes)
 abbrev pub is_text : Record → Bool
 is_text fields = list_all is_utf8 fields
 
--- the columns of a header: text, not too many fields, each of which names a column
+-- the columns of a header: text, not too many fields (a record has one at least), each of which names a column
 abbrev pub schema_of_record : Record → Option (List Column)
 schema_of_record header =
-    if is_text header && nat_le (length header) MOST_COLUMNS then each_or_none column_of_field header else None
+    if is_text header && nat_le (length header) MOST_COLUMNS
+    then each_or_none column_of_field header
+    else None
 
 -- the value that a field writes under its column
 abbrev pub value_under : Column × List ℕ → Option Value
 value_under p = value_of_field p.0.kind p.1
 
--- the row of a later record: text, as many fields as there are columns, each of which writes a value of its column's type
+-- the row of a later record: text, as many fields as there are columns, each of which writes a value of its column's
+-- type; what writes an int is text
 abbrev pub row_of_record : List Column → Record → Option (List Value)
 row_of_record schema fields =
     if is_text fields && (length fields == length schema)
@@ -59,7 +62,8 @@ rows_of_records schema others =
 
 -- the relation of these columns, and of the rows of these records
 abbrev pub relation_under : List Record → List Column → Option Table
-relation_under others schema = option_map (λ rows. record { schema = schema; rows = rows }) (rows_of_records schema others)
+relation_under others schema =
+    option_map (λ rows. record { schema = schema; rows = rows }) (rows_of_records schema others)
 
 -- the relation of a list of records: the first is the header, and the others are the rows
 abbrev pub relation_of_records : List Record → Option Table
@@ -70,7 +74,7 @@ relation_of_records (header ∷ others) = option_and_then (relation_under others
 unfoldable pub relation_of_bytes : List ℕ → Option Table
 relation_of_bytes bytes = relation_of_records (records_of_bytes bytes)
 
--- what was read is what the definition gives, a fault where it gives nothing, and after `Memory` either may be so
+-- what was read is what the definition gives, a fault where it gives nothing; after `Memory` either may be so
 abbrev pub IsReadAs : {T : Type 0} → Result T RelFault → Option T → Type 0
 IsReadAs (Ok x) given = given ≡ Some x
 IsReadAs (Err fault.NotBuilt) given = given ≡ None

@@ -3,3 +3,4 @@ pub mod Fields
 pub mod Files
 pub mod RecordsLeft
 pub mod RecordTexts
+pub mod RoundTrip

@@ -4,7 +4,7 @@
 --   IsSteady r            reader r is set up as `records_of_bytes` says, and has not failed
 --   fault_of_kind k       what an error of the csv crate means for a file
 --   StartsWithNoText rs   the next record is not text
-use Rattle.std.specs.Prelude.{◌≡◌, ℕ, ◌+◌, true, false, Option, Some, None, IsSome, List, [], ◌∷◌, length}
+use Rattle.std.specs.Prelude.{◌≡◌, ℕ, ◌+◌, true, false, Option, Some, IsSome, List, [], ◌∷◌, length}
 use Rattle.std.specs.Borrow.{Bor}
 use Rattle.std.specs.Option.{option_map_or}
 use Rattle.csv.specs.Reading.{Ready, default_config, is_flexible, reader_config, reader_state, reader_trim, records_from, source_of}
@@ -49,4 +49,5 @@ fault_of_kind (kind.Deserialize pos err) = fault.NotBuilt
 
 -- there is a next record, and it is not text
 abbrev pub StartsWithNoText : List Record → Type 0
-StartsWithNoText left = (fields : Record) × (rest : List Record) × (left ≡ fields ∷ rest) × (is_text fields ≡ false)
+StartsWithNoText left =
+    (fields : Record) × (rest : List Record) × (left ≡ fields ∷ rest) × (is_text fields ≡ false)

@@ -2,8 +2,7 @@
 ghost use Rattle.std.specs.Prelude.{◌≡◌, true};
 ghost use Rattle.csv.specs.Records.{fields_of};
 ghost use Rattle.relation_csv.specs.Fields.{column_of_field, int_of_field, type_of_name, value_of_field};
-ghost use Rattle.relation_csv.specs.Files.{is_text, row_of_record, schema_of_record};
-ghost use Rattle.relation_csv.specs.Files.{IsReadAs};
+ghost use Rattle.relation_csv.specs.Files.{IsReadAs, is_text, row_of_record, schema_of_record};
 
 use crate::{MOST_COLUMNS, RelFault};
 use csv::StringRecord;

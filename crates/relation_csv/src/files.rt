@@ -25,7 +25,8 @@ pub const MOST_ROWS: u32 = 4_194_304;
 /// are no such file are `NotBuilt`.
 pub fn read_relation(alloc: Global, bytes: &[u8]) -> Result<Relation, RelFault>
     ensures relation { IfOk result (λ relation. relation_of_bytes bytes.now ≡ Some relation) }
-    ensures not_built_exactly { result ≢ Err RelFault.Memory → (result ≡ Err RelFault.NotBuilt ↔ (relation_of_bytes bytes.now ≡ None)) }
+    ensures not_built_exactly { result ≢ Err RelFault.Memory
+        → (result ≡ Err RelFault.NotBuilt ↔ (relation_of_bytes bytes.now ≡ None)) }
 {
     let mut reader = reader_of(alloc, bytes);
     let mut fields = StringRecord::new(alloc);

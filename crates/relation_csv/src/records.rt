@@ -27,7 +27,8 @@ pub(crate) fn read_next(
 ) -> Result<bool, RelFault>
     requires { IsSteady reader.old }
     ensures steady { OnOk result (IsSteady reader.new) }
-    ensures next { IfOk result (λ found. records_left reader.old ≡ (if found then fields_of fields.new ∷ records_left reader.new else [])) }
+    ensures next { IfOk result (λ found. records_left reader.old
+        ≡ (if found then fields_of fields.new ∷ records_left reader.new else [])) }
     ensures text { OnOk result (is_text (fields_of fields.new) ≡ true) }
     ensures not_text { (result ≡ Err RelFault.NotBuilt) → StartsWithNoText (records_left reader.old) }
 {

@@ -106,30 +106,33 @@ fn seventeen_columns_are_refused(rt: HostRuntime) -> Result<(), Fail> {
     Ok(())
 }
 
+fn column(alloc: Global, name: &str, kind: ColType) -> Result<Column, Memory> {
+    let name = Text::of(alloc, name)?;
+    Ok(Column { name, kind })
+}
+
+fn row(alloc: Global, name: &str, number: i64, truth: bool) -> Result<Row, Memory> {
+    let mut row = Row::new(alloc);
+    row.push(Value::Str(Text::of(alloc, name)?))?;
+    row.push(Value::Int(number))?;
+    row.push(Value::Bool(truth))?;
+    Ok(row)
+}
+
 #[test]
 fn all_types_are_written(rt: HostRuntime) -> Result<(), Fail> {
     let alloc = rt.alloc();
     let mut schema = Schema::new(alloc);
-    for (name, kind) in [
-        ("name", ColType::Str),
-        ("n", ColType::Int),
-        ("ok", ColType::Bool),
-    ] {
-        let name = Text::of(alloc, name)?;
-        schema.push(Column { name, kind })?;
-    }
+    schema.push(column(alloc, "name", ColType::Str)?)?;
+    schema.push(column(alloc, "n", ColType::Int)?)?;
+    schema.push(column(alloc, "ok", ColType::Bool)?)?;
     let mut text = Vec::from_slice(alloc, b"> ")?;
     header_text(&schema, &mut text)?;
-    for (name, number, truth) in [("a,\nb", i64::MIN, true), ("", 7, false)] {
-        let mut row = Row::new(alloc);
-        row.push(Value::Str(Text::of(alloc, name)?))?;
-        row.push(Value::Int(number))?;
-        row.push(Value::Bool(truth))?;
-        row_text(&row, &mut text)?;
-    }
-    let mut empty = Row::new(alloc);
-    empty.push(Value::Str(Text::of(alloc, "")?))?;
-    row_text(&empty, &mut text)?;
+    row_text(&row(alloc, "a,\nb", i64::MIN, true)?, &mut text)?;
+    row_text(&row(alloc, "", 7, false)?, &mut text)?;
+    let mut blank = Row::new(alloc);
+    blank.push(Value::Str(Text::of(alloc, "")?))?;
+    row_text(&blank, &mut text)?;
     row_text(&Row::new(alloc), &mut text)?;
     let written =
         b"> name:string,n:int,ok:boolean\n\"a,\nb\",-9223372036854775808,true\n,7,false\n\"\"\n\"\"\n";

@@ -2,7 +2,7 @@
 //!
 //! The text is the one that the `csv` crate's writer gives, and it is put together here: that writer holds bytes back
 //! in a buffer of its own, and promises nothing of what was written before an error.
-ghost use Rattle.std.specs.Prelude.{◌≡◌, ℕ, List, [], ◌∷◌, ◌++◌, ◌==◌, if◌then◌else◌, length, map, string_bytes, IfOk, OnOk, OnErr};
+ghost use Rattle.std.specs.Prelude.{◌≡◌, ℕ, List, [], ◌++◌, ◌==◌, if◌then◌else◌, codes, length, map, string_bytes, IfOk, OnOk, OnErr};
 ghost use Rattle.std.specs.Fmt.{signed_decimal};
 ghost use Rattle.csv.specs.Writing.{default_writer, field_text, needs_quotes, row_body, row_text};
 ghost use Rattle.relation_csv.specs.RecordTexts.{Extends, header_field, header_record, row_record, type_name, value_field};
@@ -34,7 +34,8 @@ trait Field {
 
     /// Appends the field, or after `Memory` a part of it.
     fn push(&self, into: &mut Vec<u8>) -> Result<(), Memory>
-        ensures ok { OnOk result (into.new.items ≡ into.old.items ++ field_text default_writer (bytes self.now)) }
+        ensures ok { OnOk result
+            (into.new.items ≡ into.old.items ++ field_text default_writer (bytes self.now)) }
         ensures err { OnErr result (Extends into.old.items into.new.items) };
 }
 
@@ -64,7 +65,8 @@ impl Field for Value {
 
 /// Appends the record of these fields. After `Memory` the bytes are as they were.
 fn append_record<F: Field>(fields: &[F], into: &mut Vec<u8>) -> Result<(), Memory>
-    ensures ok { OnOk result (into.new.items ≡ into.old.items ++ row_text default_writer (map F.bytes fields.now)) }
+    ensures ok { OnOk result
+        (into.new.items ≡ into.old.items ++ row_text default_writer (map F.bytes fields.now)) }
     ensures err { OnErr result (into.new.items ≡ into.old.items) }
 {
     let before = into.len();
@@ -79,7 +81,8 @@ fn append_record<F: Field>(fields: &[F], into: &mut Vec<u8>) -> Result<(), Memor
 
 /// Appends the record of these fields, or after `Memory` a part of it.
 fn push_record<F: Field>(fields: &[F], into: &mut Vec<u8>) -> Result<(), Memory>
-    ensures ok { OnOk result (into.new.items ≡ into.old.items ++ row_text default_writer (map F.bytes fields.now)) }
+    ensures ok { OnOk result
+        (into.new.items ≡ into.old.items ++ row_text default_writer (map F.bytes fields.now)) }
     ensures err { OnErr result (Extends into.old.items into.new.items) }
 {
     let before = into.len();
@@ -89,7 +92,8 @@ fn push_record<F: Field>(fields: &[F], into: &mut Vec<u8>) -> Result<(), Memory>
 
 /// Appends these fields with commas between them, or after `Memory` a part of them.
 fn push_fields<F: Field>(fields: &[F], into: &mut Vec<u8>) -> Result<(), Memory>
-    ensures ok { OnOk result (into.new.items ≡ into.old.items ++ row_body default_writer (map F.bytes fields.now)) }
+    ensures ok { OnOk result
+        (into.new.items ≡ into.old.items ++ row_body default_writer (map F.bytes fields.now)) }
     ensures err { OnErr result (Extends into.old.items into.new.items) }
 {
     let [first, rest @ ..] = fields else {
@@ -105,7 +109,8 @@ fn push_fields<F: Field>(fields: &[F], into: &mut Vec<u8>) -> Result<(), Memory>
 
 /// Ends the record that began at `before`; one that shows nothing gets two quotes.
 fn end_record(before: usize, into: &mut Vec<u8>) -> Result<(), Memory>
-    ensures ok { OnOk result (into.new.items ≡ into.old.items ++ ((if length into.old.items == before then 34 ∷ 34 ∷ [] else []) ++ 10 ∷ [])) }
+    ensures ok { OnOk result (into.new.items
+        ≡ into.old.items ++ ((if length into.old.items == before then codes "\"\"" else []) ++ codes "\n")) }
     ensures err { OnErr result (Extends into.old.items into.new.items) }
 {
     if into.len() == before {
@@ -138,7 +143,8 @@ fn name_of(kind: ColType) -> &'static str
 
 /// Appends a number as a field. No byte of it calls for quotes.
 fn push_int(number: i64, into: &mut Vec<u8>) -> Result<(), Memory>
-    ensures ok { OnOk result (into.new.items ≡ into.old.items ++ field_text default_writer (signed_decimal number)) }
+    ensures ok { OnOk result
+        (into.new.items ≡ into.old.items ++ field_text default_writer (signed_decimal number)) }
     ensures err { OnErr result (Extends into.old.items into.new.items) }
 {
     let mut buffer = Buffer::new();

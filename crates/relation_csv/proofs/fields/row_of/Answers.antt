@@ -15,17 +15,21 @@ returns-in_err-value c =
     let schema = c.args.schema.now in
     let fields = fields_of c.args.fields.now in
     let all = YieldsList-from_pairs c.into_iter-column-iterator.result schema fields (cc) (cc) (cc) in
-    let turn = YieldsList-turn all c.loop-column.yielded c.loop-column.column-iterator c.loop-column.yielded_by c.next.result c.next.new.self (c.in-Some.column, c.in-Some.field) c.in-Some.is c.next.ensures.steps in
+    let turn = YieldsList-turn all c.loop-column.yielded c.loop-column.column-iterator c.loop-column.yielded_by
+    c.next.result c.next.new.self (c.in-Some.column, c.in-Some.field) c.in-Some.is c.next.ensures.steps in
     IsReadAs-part _ c.in_err-value.field-0.0 _ _ c.from_residual.ensures.1 c.in_err-value.ensures
-    (λ e. row_of_record-fault schema fields (each_or_none-fault_at value_under (zip schema fields) _ (c.in-Some.column.now, c.in-Some.field.now) turn.0 turn.1 e))
+    (λ e. row_of_record-fault schema fields (each_or_none-fault_at value_under (zip schema fields) _
+    (c.in-Some.column.now, c.in-Some.field.now) turn.0 turn.1 e))
 
 pub push-requires : goal.push-requires
 push-requires c =
     let schema = c.args.schema.now in
     let fields = fields_of c.args.fields.now in
     let all = YieldsList-from_pairs c.into_iter-column-iterator.result schema fields (cc) (cc) (cc) in
-    let turn = YieldsList-turn all c.loop-column.yielded c.loop-column.column-iterator c.loop-column.yielded_by c.next.result c.next.new.self (c.in-Some.column, c.in-Some.field) c.in-Some.is c.next.ensures.steps in
-    let size = length-each_or_none value_under (take (length c.loop-column.yielded) (zip schema fields)) c.loop-column.row c.loop-column.invariant in
+    let turn = YieldsList-turn all c.loop-column.yielded c.loop-column.column-iterator c.loop-column.yielded_by
+    c.next.result c.next.new.self (c.in-Some.column, c.in-Some.field) c.in-Some.is c.next.ensures.steps in
+    let size = length-each_or_none value_under (take (length c.loop-column.yielded) (zip schema fields))
+    c.loop-column.row c.loop-column.invariant in
     let same : length fields ≡ length schema = cc in
     let bound = c.as_slice.ensures.bound in
     omega (arith, length-take (length c.loop-column.yielded) (zip schema fields), length-zip schema fields)
@@ -35,9 +39,11 @@ loop-column-preserved c =
     let schema = c.args.schema.now in
     let fields = fields_of c.args.fields.now in
     let all = YieldsList-from_pairs c.into_iter-column-iterator.result schema fields (cc) (cc) (cc) in
-    let turn = YieldsList-turn all c.loop-column.yielded c.loop-column.column-iterator c.loop-column.yielded_by c.next.result c.next.new.self (c.in-Some.column, c.in-Some.field) c.in-Some.is c.next.ensures.steps in
+    let turn = YieldsList-turn all c.loop-column.yielded c.loop-column.column-iterator c.loop-column.yielded_by
+    c.next.result c.next.new.self (c.in-Some.column, c.in-Some.field) c.in-Some.is c.next.ensures.steps in
     rw (length_push, c.in_ok-push.ensures.ok)
-    (each_or_none-next value_under (zip schema fields) (length c.loop-column.yielded) (c.in-Some.column.now, c.in-Some.field.now) c.loop-column.row c.in_ok-value.value turn.0 turn.1
+    (each_or_none-next value_under (zip schema fields) (length c.loop-column.yielded)
+    (c.in-Some.column.now, c.in-Some.field.now) c.loop-column.row c.in_ok-value.value turn.0 turn.1
     c.loop-column.invariant c.in_ok-value.ensures)
 
 pub returns : goal.returns
@@ -45,7 +51,10 @@ returns c =
     let schema = c.args.schema.now in
     let fields = fields_of c.args.fields.now in
     let all = YieldsList-from_pairs c.into_iter-column-iterator.result schema fields (cc) (cc) (cc) in
-    let end = YieldsList-end all c.loop-column.yielded c.loop-column.column-iterator c.loop-column.yielded_by c.next.result c.next.new.self c.in-None.is c.next.ensures.steps in
-    let whole : take (length c.loop-column.yielded) (zip schema fields) ≡ zip schema fields = take_all (length c.loop-column.yielded) (zip schema fields) (omega arith) in
+    let end = YieldsList-end all c.loop-column.yielded c.loop-column.column-iterator c.loop-column.yielded_by
+    c.next.result c.next.new.self c.in-None.is c.next.ensures.steps in
+    let whole : take (length c.loop-column.yielded) (zip schema fields) ≡ zip schema fields = take_all
+    (length c.loop-column.yielded) (zip schema fields) (omega arith) in
     let same : length fields ≡ length schema = cc in
-    row_of_record-Some schema fields c.loop-column.row c.requires same (sym (ap (each_or_none value_under) whole) ∙ c.loop-column.invariant)
+    row_of_record-Some schema fields c.loop-column.row c.requires same
+    (sym (ap (each_or_none value_under) whole) ∙ c.loop-column.invariant)

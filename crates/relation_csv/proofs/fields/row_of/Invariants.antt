@@ -5,4 +5,5 @@ use Rattle.relation_csv.specs.Files.{each_or_none, value_under}
 use Rattle.relation_csv.proofs.fields.row_of.Given as goal
 
 abbrev pub invariant-loop-column : goal.invariant-loop-column
-invariant-loop-column l = each_or_none value_under (take (length l.yielded) (zip l.schema (fields_of l.fields))) ≡ Some l.row
+invariant-loop-column l = each_or_none value_under
+    (take (length l.yielded) (zip l.schema (fields_of l.fields))) ≡ Some l.row

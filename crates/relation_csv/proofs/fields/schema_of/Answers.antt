@@ -15,14 +15,17 @@ returns-in_err-column c =
     let fields = fields_of c.args.header.now in
     let it = c.into_iter-field-iterator.ensures.into_iter_gives in
     let all = YieldsList-from_record c.into_iter-field-iterator.result fields it.1 (ap fields_of it.0) in
-    let turn = YieldsList-turn all c.loop-field.yielded _ c.loop-field.yielded_by _ _ c.in-Some.field c.in-Some.is c.next.ensures.steps in
+    let turn = YieldsList-turn all c.loop-field.yielded _ c.loop-field.yielded_by _ _ c.in-Some.field c.in-Some.is
+    c.next.ensures.steps in
     IsReadAs-part _ c.in_err-column.field-0.0 _ _ c.from_residual.ensures.1 c.in_err-column.ensures
-    (λ e. schema_of_record-fault fields (each_or_none-fault_at column_of_field fields _ c.in-Some.field.now turn.0 turn.1 e))
+    (λ e. schema_of_record-fault fields (each_or_none-fault_at column_of_field fields _ c.in-Some.field.now turn.0
+    turn.1 e))
 
 pub push-requires : goal.push-requires
 push-requires c =
     let fields = fields_of c.args.header.now in
-    let size = length-each_or_none column_of_field (take (length c.loop-field.yielded) fields) c.loop-field.schema c.loop-field.invariant in
+    let size = length-each_or_none column_of_field (take (length c.loop-field.yielded) fields)
+    c.loop-field.schema c.loop-field.invariant in
     omega (arith, length-take (length c.loop-field.yielded) fields)
 
 pub loop-field-preserved : goal.loop-field-preserved
@@ -30,9 +33,11 @@ loop-field-preserved c =
     let fields = fields_of c.args.header.now in
     let it = c.into_iter-field-iterator.ensures.into_iter_gives in
     let all = YieldsList-from_record c.into_iter-field-iterator.result fields it.1 (ap fields_of it.0) in
-    let turn = YieldsList-turn all c.loop-field.yielded _ c.loop-field.yielded_by _ _ c.in-Some.field c.in-Some.is c.next.ensures.steps in
+    let turn = YieldsList-turn all c.loop-field.yielded _ c.loop-field.yielded_by _ _ c.in-Some.field c.in-Some.is
+    c.next.ensures.steps in
     rw (length_push, c.in_ok-push.ensures.ok)
-    (each_or_none-next column_of_field fields (length c.loop-field.yielded) c.in-Some.field.now c.loop-field.schema c.in_ok-column.column turn.0 turn.1
+    (each_or_none-next column_of_field fields (length c.loop-field.yielded)
+    c.in-Some.field.now c.loop-field.schema c.in_ok-column.column turn.0 turn.1
     c.loop-field.invariant c.in_ok-column.ensures)
 
 pub returns : goal.returns
@@ -41,5 +46,7 @@ returns c =
     let it = c.into_iter-field-iterator.ensures.into_iter_gives in
     let all = YieldsList-from_record c.into_iter-field-iterator.result fields it.1 (ap fields_of it.0) in
     let end = YieldsList-end all c.loop-field.yielded _ c.loop-field.yielded_by _ _ c.in-None.is c.next.ensures.steps in
-    let whole : take (length c.loop-field.yielded) fields ≡ fields = take_all (length c.loop-field.yielded) fields (omega arith) in
-    schema_of_record-Some fields c.loop-field.schema c.requires (omega arith) (sym (ap (each_or_none column_of_field) whole) ∙ c.loop-field.invariant)
+    let whole : take (length c.loop-field.yielded) fields ≡ fields = take_all (length c.loop-field.yielded) fields
+    (omega arith) in
+    schema_of_record-Some fields c.loop-field.schema c.requires (omega arith)
+    (sym (ap (each_or_none column_of_field) whole) ∙ c.loop-field.invariant)

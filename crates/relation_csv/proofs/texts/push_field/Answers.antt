@@ -14,9 +14,12 @@ loop-byte-preserved c =
     let whole = c.in_ok-push-3.ensures.items in
     elim c.if-byte-eq34.branch [
       | then-byte-eq34+in_ok-push-2 w ↦
-          escaped-quote c.push.new.self.items c.loop-byte.into.items w.push-then-byte-eq34.new.self.items c.push-in-loop-byte.new.self.items c.args.field.now c.loop-byte.byte-index
-          c.loop-byte-test.true w.if-byte-eq34.true c.loop-byte.invariant w.in_ok-push-2.ensures.items (rw w.into-is at whole)
+          escaped-quote c.push.new.self.items c.loop-byte.into.items w.push-then-byte-eq34.new.self.items
+          c.push-in-loop-byte.new.self.items c.args.field.now c.loop-byte.byte-index
+          c.loop-byte-test.true w.if-byte-eq34.true c.loop-byte.invariant w.in_ok-push-2.ensures.items
+          (rw w.into-is at whole)
       | else-byte-eq34 w ↦
-          escaped-other c.push.new.self.items c.loop-byte.into.items c.push-in-loop-byte.new.self.items c.args.field.now c.loop-byte.byte-index
+          escaped-other c.push.new.self.items c.loop-byte.into.items c.push-in-loop-byte.new.self.items
+          c.args.field.now c.loop-byte.byte-index
           c.loop-byte-test.true w.if-byte-eq34.false c.loop-byte.invariant (rw w.into-is at whole)
     ]

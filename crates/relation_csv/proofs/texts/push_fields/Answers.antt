@@ -10,10 +10,12 @@ loop-field-init g c = sym (append-nil c.push.new.into.items)
 
 pub returns-in_err-push-3-clause-err : goal.returns-in_err-push-3-clause-err
 returns-in_err-push-3-clause-err g c =
-    OnErr-from _ (Extends-loop c.args.into.now.items _ _ c.push.new.into.items c.loop-field.into.items c.push-in-loop-field.new.self.items c.push-in-loop-field-2.new.into.items
+    OnErr-from _ (Extends-loop c.args.into.now.items _ _ c.push.new.into.items c.loop-field.into.items
+    c.push-in-loop-field.new.self.items c.push-in-loop-field-2.new.into.items
     c.in_ok-push.ensures.ok c.loop-field.invariant c.in_ok-push-2.ensures.items c.in_err-push-3.ensures.err)
 
 pub loop-field-preserved : goal.loop-field-preserved
 loop-field-preserved g c =
-    fields_text-next g.F.Field.bytes _ c.loop-field.field-index c.field-item.result c.push.new.into.items c.loop-field.into.items c.push-in-loop-field.new.self.items c.push-in-loop-field-2.new.into.items
+    fields_text-next g.F.Field.bytes _ c.loop-field.field-index c.field-item.result c.push.new.into.items
+    c.loop-field.into.items c.push-in-loop-field.new.self.items c.push-in-loop-field-2.new.into.items
     c.loop-field-test.true c.field-item.is c.loop-field.invariant c.in_ok-push-2.ensures.items c.in_ok-push-3.ensures.ok

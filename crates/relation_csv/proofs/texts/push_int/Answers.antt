@@ -8,4 +8,5 @@ returns-clause-ok c =
     let fits = c.ranges.number in
     let text = simp to_z-of_z at c.format.ensures.text in
     rw (field_text-signed c.args.number fits)
-    (c.in_ok-extend_from_slice.ensures.items ∙ ap (λ (bytes : List ℕ). c.args.into.now.items ++ bytes) (c.as_bytes.ensures.value ∙ text))
+    (c.in_ok-extend_from_slice.ensures.items ∙ ap (λ (bytes : List ℕ). c.args.into.now.items ++ bytes)
+    (c.as_bytes.ensures.value ∙ text))
