@@ -1,3 +1,4 @@
+pub mod EachLemmas
 pub mod SortedLemmas
 pub mod KeyLemmas
 pub mod WorkedRows

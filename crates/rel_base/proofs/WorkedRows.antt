@@ -1,9 +1,12 @@
 -- Worked cases of this crate's words, each proved by computing.
 use Rattle.std.proofs.Common.{◌≡◌, ℤ, pos, negsuc, false, List, [], ◌∷◌, refl, codes}
 use Rattle.std.specs.declared.cmp.Ordering.TheVariants.{Less, Greater}
+use Rattle.std.specs.Fmt.{digits}
 use Rattle.rel_base.specs.declared.values.Value.{Value}
 use Rattle.rel_base.specs.declared.values.Value.TheVariants as variant
+use Rattle.rel_base.specs.declared.faults.RunFault.TheVariants as fault
 use Rattle.rel_base.specs.Bags.{sorted}
+use Rattle.rel_base.specs.Faults.{fault_text}
 use Rattle.rel_base.specs.Keys.{shelf_name_of}
 use Rattle.rel_base.specs.Values.{value_order, row_order}
 
@@ -38,3 +41,11 @@ doubled_row_kept = refl
 
 pub shelf_name-adhoc : shelf_name_of (record { user = codes "public"; program = codes "adhoc"; name = codes "R" }) ≡ codes "public:adhoc:R.csv"
 shelf_name-adhoc = refl
+
+pub fault_text-rows : fault_text (fault.TooManyRows 3) ≡ codes "statement 3: too many rows"
+unfolding digits
+fault_text-rows = refl
+
+pub fault_text-sum : fault_text (fault.AggregateOverflow 256) ≡ codes "statement 256: aggregate overflow"
+unfolding digits
+fault_text-sum = refl

@@ -1,7 +1,9 @@
 -- The words of this crate, lowest first.
+pub mod Each
 pub mod Values
 pub mod ValueLaws
 pub mod Codes
 pub mod Bags
 pub mod Relations
 pub mod Keys
+pub mod Faults

@@ -3,15 +3,19 @@
 //! Stands on std and on `smallvec`, which keeps short rows inline. Nothing here reads, writes or waits.
 //!
 //! Promises: values and rows are ordered by `value_order` and `row_order`; a copy equals its original; a relation's
-//! rows always have its columns' types. A list is seen by contracts as the list of its items.
-//! Not promised: that memory is there. `Memory` is the one error of this crate, and no clause says when it comes.
+//! rows always have its columns' types. A list is seen by contracts as the list of its items, and `Steps` as the number
+//! of steps that were counted in its ledger.
+//! Not promised: that memory is there. `Memory` is the one error of this crate, and no clause says when it comes; what
+//! the faults of a run mean is said where scripts are run.
 //!
 //! Read `specs/Values.antt`, `specs/Bags.antt` and `specs/Relations.antt`, then `list.rt`.
 #![tactic(auto)]
 
 mod codes;
 mod copying;
+mod counting;
 mod failure;
+mod faults;
 mod list;
 mod names;
 mod tables;
@@ -22,10 +26,12 @@ mod tuples;
 mod values;
 
 pub use copying::Duplicate;
+pub use counting::Steps;
 pub use failure::Memory;
+pub use faults::RunFault;
 pub use list::{Items, Places};
-pub use names::{Files, Key, Keys};
-pub use tables::{Column, Relation, Rows, Schema, sorted_permutation_is_unique};
+pub use names::{Files, Key, Keys, Stored};
+pub use tables::{Column, Parts, Relation, Rows, Schema, Spread, sorted_permutation_is_unique};
 pub use texts::Text;
 pub use tuples::Row;
 pub use values::{ColType, Value};

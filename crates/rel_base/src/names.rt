@@ -61,6 +61,9 @@ impl Duplicate for Key {
     }
 }
 
+/// What the stores of a script stored, in the order of the stores. Unlike in `Files`, a key may stand more than once.
+pub type Stored = Items<(Key, Relation)>;
+
 /// Relations under distinct keys, in the order in which they came.
 #[derive(Drop)]
 pub struct Files {

@@ -21,6 +21,12 @@ pub type Schema = Items<Column>;
 /// Rows, in the order in which they stand; the same row may stand more than once.
 pub type Rows = Items<Row>;
 
+/// A list of rows for each worker, in the order of the workers.
+pub type Spread = Items<Rows>;
+
+/// A list of rows for each atom of a join, in the order of the atoms.
+pub type Parts = Items<Rows>;
+
 impl Duplicate for Column {
     fn copy(&self, alloc: Global) -> Result<Column, Memory> {
         let name = self.name.copy(alloc)?;

@@ -1,8 +1,14 @@
 //! Each public call once, with ample memory, and the worked orders.
+ghost use Rattle.std.specs.Prelude.{◌≡◌, ◌<◌};
+
 use crate::{
-    ColType, Column, Duplicate, Files, Items, Key, Memory, Relation, Row, Rows, Schema, Text, Value,
+    ColType, Column, Duplicate, Files, Items, Key, Memory, Relation, Row, Rows, RunFault, Schema,
+    Steps, Text, Value,
 };
 use std::alloc::Global;
+use std::marker::Brand;
+use std::mem::size_of;
+use std::sync::ledger::{Blank, Ledger};
 use std::test::Fail;
 
 fn row_of(alloc: Global, numbers: &[i64]) -> Result<Row, Memory> {
@@ -39,29 +45,37 @@ fn rows_are_ordered_column_by_column(rt: HostRuntime) -> Result<(), Fail> {
     Ok(())
 }
 
+fn text_value(alloc: Global, text: &str) -> Result<Value, Memory> {
+    let text = Text::of(alloc, text)?;
+    Ok(Value::Str(text))
+}
+
+/// Value number `place` of eleven values in ascending order.
+fn value_in_order(alloc: Global, place: u32) -> Result<Value, Memory> {
+    match place {
+        0 => Ok(Value::Int(i64::MIN)),
+        1 => Ok(Value::Int(-1)),
+        2 => Ok(Value::Int(9)),
+        3 => Ok(Value::Int(10)),
+        4 => text_value(alloc, ""),
+        5 => text_value(alloc, "10"),
+        6 => text_value(alloc, "9"),
+        7 => text_value(alloc, "a"),
+        8 => text_value(alloc, "é"),
+        9 => Ok(Value::Bool(false)),
+        _ => Ok(Value::Bool(true)),
+    }
+}
+
 #[test]
 fn values_are_ordered_by_type_and_then_within_it(rt: HostRuntime) -> Result<(), Fail> {
     let alloc = rt.alloc();
-    let ascending = [
-        Value::Int(i64::MIN),
-        Value::Int(-1),
-        Value::Int(9),
-        Value::Int(10),
-        Value::Str(Text::of(alloc, "")?),
-        Value::Str(Text::of(alloc, "10")?),
-        Value::Str(Text::of(alloc, "9")?),
-        Value::Str(Text::of(alloc, "a")?),
-        Value::Str(Text::of(alloc, "é")?),
-        Value::Bool(false),
-        Value::Bool(true),
-    ];
-    for i in 0..ascending.len() {
-        for j in 0..ascending.len() {
-            assert_eq!(rt;
-                ascending[i].cmp(&ascending[j]),
-                i.cmp(&j),
-                "values {i} and {j}"
-            );
+    for i in 0..11 {
+        for j in 0..11 {
+            let first = value_in_order(alloc, i)?;
+            let second = value_in_order(alloc, j)?;
+            assert_eq!(rt; first.cmp(&second), i.cmp(&j), "values {i} and {j}");
+            assert_eq!(rt; first == second, i == j);
         }
     }
     Ok(())
@@ -144,5 +158,46 @@ fn each_value_has_its_code(rt: HostRuntime) -> Result<(), Fail> {
     for (truth, code) in [(false, 0), (true, 1)] {
         assert_eq!(rt; Value::Bool(truth).code(), code, "{truth}");
     }
+    Ok(())
+}
+
+fn count_to_two<L: Ledger>(ledger: Blank)
+    requires name { ledger.name ≡ L.name }
+    requires parts { ledger.parts ≡ L.parts }
+    requires some_part { 0 < ledger.parts }
+{
+    let mut steps = Steps::<L>::start(ledger);
+    steps.tick();
+    steps.tick();
+}
+
+#[test]
+fn counted_steps_take_no_bytes(rt: HostRuntime) {
+    count_to_two::<Brand>(Blank::new(1));
+    assert_eq!(rt; size_of::<Steps<Brand>>(), 0);
+}
+
+#[test]
+fn a_fault_names_its_statement(rt: HostRuntime) -> Result<(), Fail> {
+    let alloc = rt.alloc();
+    let rows = RunFault::TooManyRows { statement: 3 };
+    assert_eq!(rt;
+        rows.to_string(alloc)?.as_str(),
+        "statement 3: too many rows"
+    );
+    let overflow = RunFault::Overflow { statement: 12 };
+    assert_eq!(rt;
+        overflow.to_string(alloc)?.as_str(),
+        "statement 12: overflow"
+    );
+    let sum = RunFault::AggregateOverflow { statement: 256 };
+    assert_eq!(rt;
+        sum.to_string(alloc)?.as_str(),
+        "statement 256: aggregate overflow"
+    );
+    assert_eq!(rt;
+        RunFault::from(Memory).to_string(alloc)?.as_str(),
+        "out of memory"
+    );
     Ok(())
 }

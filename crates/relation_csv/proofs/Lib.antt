@@ -3,7 +3,6 @@ pub mod WorkedRows
 pub mod RecordsLeftLemmas
 pub mod IntLemmas
 pub mod ColumnLemmas
-pub mod EachLemmas
 pub mod RecordIterLemmas
 pub mod ReadAsLemmas
 pub mod SchemaLemmas

@@ -23,7 +23,8 @@ use Rattle.rel_base.specs.declared.tables.Column.{Column}
 use Rattle.rel_base.specs.Relations.{HasTypes, Table, fits_schema, same_type, type_of}
 use Rattle.relation_csv.specs.declared.files.TheConstants.{MOST_ROWS}
 use Rattle.relation_csv.specs.Fields.{column_of_field, fits_int, int_of_field, signed_number, value_of_field}
-use Rattle.relation_csv.specs.Files.{Record, each_or_none, is_text, records_of_bytes, relation_of_bytes, row_of_record, value_under}
+use Rattle.rel_base.specs.Each.{each_or_none}
+use Rattle.relation_csv.specs.Files.{Record, is_text, records_of_bytes, relation_of_bytes, row_of_record, value_under}
 use Rattle.relation_csv.specs.RecordsLeft.{records_after}
 use Rattle.relation_csv.specs.RecordTexts.{header_field, header_record, row_record, type_name, value_field}
 use Rattle.relation_csv.specs.RoundTrip.{IsIntRelation, file_text, is_held, is_int_column}

@@ -3,7 +3,8 @@ use Rattle.std.proofs.Common.{◌≡◌, ◌&&◌, ◌≢◌, eqb, true, Some, N
 use Rattle.std.proofs.lemmas.Bool.{eq-eqb, ne_eqb}
 use Rattle.rel_base.specs.declared.tables.Column.{Column}
 use Rattle.rel_base.specs.declared.values.Value.{Value}
-use Rattle.relation_csv.specs.Files.{Record, each_or_none, is_text, row_of_record, value_under}
+use Rattle.rel_base.specs.Each.{each_or_none}
+use Rattle.relation_csv.specs.Files.{Record, is_text, row_of_record, value_under}
 use Rattle.relation_csv.proofs.SchemaLemmas.{cond-None}
 
 pub row_of_record-fault : (schema : List Column) (fields : Record)

@@ -5,9 +5,10 @@ use Rattle.std.proofs.lemmas.List.{append-nil}
 use Rattle.rel_base.specs.declared.tables.Column.{Column}
 use Rattle.rel_base.specs.declared.values.Value.{Value}
 use Rattle.relation_csv.specs.declared.files.TheConstants.{MOST_ROWS}
-use Rattle.relation_csv.specs.Files.{Record, each_or_none, row_of_record, rows_of_records}
+use Rattle.rel_base.specs.Each.{each_or_none}
+use Rattle.relation_csv.specs.Files.{Record, row_of_record, rows_of_records}
 use Rattle.relation_csv.specs.RecordsLeft.{StartsWithNoText}
-use Rattle.relation_csv.proofs.EachLemmas.{each_or_none-fault, each_or_none-push, length-each_or_none}
+use Rattle.rel_base.proofs.EachLemmas.{each_or_none-fault, each_or_none-push, length-each_or_none}
 use Rattle.relation_csv.proofs.SchemaLemmas.{cond-None}
 
 -- of the records `before`, those that are not left have these rows

@@ -4,7 +4,8 @@ use Rattle.std.proofs.lemmas.Bool.{le-leb, lt-leb}
 use Rattle.rel_base.specs.declared.tables.Column.{Column}
 use Rattle.relation_csv.specs.declared.files.TheConstants.{MOST_COLUMNS}
 use Rattle.relation_csv.specs.Fields.{column_of_field}
-use Rattle.relation_csv.specs.Files.{Record, each_or_none, is_text, schema_of_record}
+use Rattle.rel_base.specs.Each.{each_or_none}
+use Rattle.relation_csv.specs.Files.{Record, is_text, schema_of_record}
 
 -- nothing under a test is nothing
 pub cond-None : {X : Type 0} (test : Bool) (o : Option X) → o ≡ None → cond test o None ≡ None

@@ -11,7 +11,8 @@ use Rattle.rel_base.specs.declared.values.Value.TheVariants as variant
 use Rattle.rel_base.specs.Relations.{HasTypes, fits_schema, same_type, type_of}
 use Rattle.relation_csv.specs.Fields.{int_of_field, value_of_field}
 use Rattle.relation_csv.specs.declared.files.TheConstants.{MOST_ROWS}
-use Rattle.relation_csv.specs.Files.{Record, each_or_none, is_text, row_of_record, rows_of_records, value_under}
+use Rattle.rel_base.specs.Each.{each_or_none}
+use Rattle.relation_csv.specs.Files.{Record, is_text, row_of_record, rows_of_records, value_under}
 
 -- a test under which something stands holds
 cond-Some : {X : Type 0} (test : Bool) (o : Option X) (x : X) → cond test o None ≡ Some x → (test ≡ true) × (o ≡ Some x)

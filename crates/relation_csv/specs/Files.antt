@@ -9,6 +9,7 @@ use Rattle.std.specs.Str.{is_utf8}
 use Rattle.csv.specs.Reading.{default_config, records, strip_bom}
 use Rattle.rel_base.specs.declared.values.Value.{Value}
 use Rattle.rel_base.specs.declared.tables.Column.{Column}
+use Rattle.rel_base.specs.Each.{each_or_none}
 use Rattle.rel_base.specs.Relations.{Table}
 use Rattle.relation_csv.specs.declared.files.TheConstants.{MOST_COLUMNS, MOST_ROWS}
 use Rattle.relation_csv.specs.declared.faults.RelFault.{RelFault}
@@ -18,15 +19,6 @@ use Rattle.relation_csv.specs.Fields.{column_of_field, value_of_field}
 -- a record, as the csv crate sees it: its fields
 abbrev pub Record : Type 0
 Record = List (List ℕ)
-
--- an item more, where there is one, before the others
-abbrev pub put_before : {X : Type 0} → Option X → Option (List X) → Option (List X)
-put_before first rest = option_and_then (λ x. option_map (λ xs. x ∷ xs) rest) first
-
--- what f makes of each item, if it makes something of each
-abbrev pub each_or_none : {X Y : Type 0} → (X → Option Y) → List X → Option (List Y)
-each_or_none f [] = Some []
-each_or_none f (x ∷ xs) = put_before (f x) (each_or_none f xs)
 
 -- every record of a file, as the csv crate reads them by default, the header being a record as the others are
 abbrev pub records_of_bytes : List ℕ → List Record

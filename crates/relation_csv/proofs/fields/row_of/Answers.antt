@@ -1,7 +1,8 @@
 use Rattle.std.proofs.Common.{◌≡◌, ◌∙◌, length, take, zip, sym, ap, arith, length-take}
 use Rattle.csv.specs.Records.{fields_of}
-use Rattle.relation_csv.specs.Files.{each_or_none, value_under}
-use Rattle.relation_csv.proofs.EachLemmas.{each_or_none-fault_at, each_or_none-next, length-each_or_none}
+use Rattle.rel_base.specs.Each.{each_or_none}
+use Rattle.relation_csv.specs.Files.{value_under}
+use Rattle.rel_base.proofs.EachLemmas.{each_or_none-fault_at, each_or_none-next, length-each_or_none}
 use Rattle.relation_csv.proofs.ReadAsLemmas.{IsReadAs-part}
 use Rattle.relation_csv.proofs.RecordIterLemmas.{YieldsList-from_pairs}
 use Rattle.relation_csv.proofs.RowLemmas.{row_of_record-Some, row_of_record-fault}

@@ -1,8 +1,8 @@
 use Rattle.std.proofs.Common.{◌≡◌, ◌∙◌, length, take, sym, ap, arith, length-take}
 use Rattle.csv.specs.Records.{fields_of}
 use Rattle.relation_csv.specs.Fields.{column_of_field}
-use Rattle.relation_csv.specs.Files.{each_or_none}
-use Rattle.relation_csv.proofs.EachLemmas.{each_or_none-fault_at, each_or_none-next, length-each_or_none}
+use Rattle.rel_base.specs.Each.{each_or_none}
+use Rattle.rel_base.proofs.EachLemmas.{each_or_none-fault_at, each_or_none-next, length-each_or_none}
 use Rattle.relation_csv.proofs.ReadAsLemmas.{IsReadAs-part}
 use Rattle.relation_csv.proofs.RecordIterLemmas.{YieldsList-from_record}
 use Rattle.relation_csv.proofs.SchemaLemmas.{schema_of_record-Some, schema_of_record-fault}

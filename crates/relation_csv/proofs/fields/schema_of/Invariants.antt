@@ -2,7 +2,7 @@
 use Rattle.std.proofs.Common.{◌≡◌, Some, length, take}
 use Rattle.csv.specs.Records.{fields_of}
 use Rattle.relation_csv.specs.Fields.{column_of_field}
-use Rattle.relation_csv.specs.Files.{each_or_none}
+use Rattle.rel_base.specs.Each.{each_or_none}
 use Rattle.relation_csv.proofs.fields.schema_of.Given as goal
 
 abbrev pub invariant-loop-field : goal.invariant-loop-field

@@ -1,7 +1,7 @@
 -- `each_or_none`, item by item.
 use Rattle.std.proofs.Common.{◌≡◌, ◌∙◌, ℕ, zero, suc, ◌+◌, ◌<◌, Option, Some, None, List, [], ◌∷◌, ◌++◌, length, get_or, take, refl, sym, ap, arith}
 use Rattle.std.proofs.lemmas.List.{take_more}
-use Rattle.relation_csv.specs.Files.{each_or_none, put_before}
+use Rattle.rel_base.specs.Each.{each_or_none, put_before}
 
 module _ {X Y : Type 0} (f : X → Option Y) where
   -- one more item, of which something is made
