@@ -1,2 +1,8 @@
--- The words of this crate.
+-- The words of this crate, lowest first.
 pub mod Trees
+pub mod Scalars
+pub mod Combinations
+pub mod Bags
+pub mod Groups
+pub mod Classes
+pub mod KeptRows

@@ -9,11 +9,13 @@
 #![tactic(auto)]
 
 mod expressions;
+mod laws;
 mod operators;
 mod relations;
 mod statements;
 
 pub use expressions::{ColRef, Expr};
+pub use laws::linked_columns_share_a_class;
 pub use operators::{AggOp, BinOp};
 pub use relations::{EmitItem, EmitItems, FromItem, FromItems, Operand, RelExpr};
 pub use statements::{Script, Stmt};
