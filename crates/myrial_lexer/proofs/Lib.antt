@@ -1,3 +1,5 @@
 pub mod DigitLemmas
 pub mod CutLemmas
+pub mod FrontLemmas
+pub mod SliceLemmas
 pub mod WorkedRows

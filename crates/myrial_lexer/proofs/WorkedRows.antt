@@ -2,7 +2,8 @@
 use Rattle.std.specs.Prelude.{◌≡◌, ◌++◌, [], ◌∷◌, Ok, Err, codes, refl}
 use Rattle.myrial_lexer.specs.declared.faults.LexWhat.TheVariants.{BadChar, OpenString, NumberTooLarge}
 use Rattle.myrial_lexer.specs.declared.kinds.TokenKind.TheVariants.{Word, Int, Str, Eq, Ne, Le}
-use Rattle.myrial_lexer.specs.Tokens.{tokens_of, line_at}
+use Rattle.myrial_lexer.specs.Tokens.{tokens_of, line_at, slice_of}
+use Rattle.myrial_lexer.specs.Slices.{unquoted}
 
 -- a comment takes the rest of its line
 pub a_comment_behind_a_word : tokens_of (codes "a--b") ≡ Ok (record { kind = Word; start = 0; end = 1 } ∷ [])
@@ -43,3 +44,13 @@ bad_char = refl
 -- lines are counted from 1
 pub second_line : line_at (codes "a" ++ 10 ∷ codes "#") 2 ≡ 2
 second_line = refl
+
+-- the slice of a token, and what stands between the quotes of a string
+pub slice_of_a_string : slice_of (codes "x = 'a b'") (record { kind = Str; start = 4; end = 9 }) ≡ codes "'a b'"
+slice_of_a_string = refl
+
+pub between_quotes : unquoted (codes "'a b'") ≡ codes "a b"
+between_quotes = refl
+
+pub between_two_quotes_alone : unquoted (codes "''") ≡ []
+between_two_quotes_alone = refl
