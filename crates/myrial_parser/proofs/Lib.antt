@@ -1,0 +1,14 @@
+pub mod RuleLemmas
+pub mod ExpressionLemmas
+pub mod LevelLemmas
+pub mod DigitLemmas
+pub mod CountLemmas
+pub mod SeparatedLemmas
+pub mod PieceLemmas
+pub mod FaultLemmas
+pub mod ReadingLemmas
+pub mod RelationSound
+pub mod RelationComplete
+pub mod StatementLemmas
+pub mod TurnLemmas
+pub mod WorkedRows

@@ -1,0 +1,304 @@
+-- Relation expressions: each phrase is read by the descent.
+use Rattle.std.proofs.Common.{◌≡◌, ℕ, zero, suc, ◌+◌, ◌<◌, Bool, true, false, cond, ◌&&◌, List, [], ◌∷◌, ◌++◌, drop, length, Option, Some, None, unwrap_or, codes, refl, sym, ap, ◌∙◌, append_assoc, add-one, length-append, arith}
+use Rattle.rel_base.specs.declared.values.ColType.{ColType}
+use Rattle.rel_base.specs.declared.names.Key.{Key}
+use Rattle.rel_base.specs.declared.tables.Column.{Column}
+use Rattle.myrial_ast.specs.declared.operators.BinOp.{BinOp}
+use Rattle.myrial_ast.specs.declared.relations.Operand.{Operand}
+use Rattle.myrial_ast.specs.declared.relations.Operand.TheVariants as source
+use Rattle.myrial_ast.specs.declared.relations.FromItem.{FromItem}
+use Rattle.myrial_ast.specs.Trees as tree
+use Rattle.myrial_ast.specs.Trees.{Tree, EmitTree, RelTree}
+use Rattle.myrial_parser.specs.declared.terminals.Symbol.{Symbol}
+use Rattle.myrial_parser.specs.declared.terminals.Symbol.TheVariants as s
+use Rattle.myrial_parser.specs.Terminals.{Terminal, Fixed, Name, Number, Quoted}
+use Rattle.myrial_parser.specs.Phrases.{Separated}
+use Rattle.myrial_parser.specs.Grammar as g
+use Rattle.myrial_parser.specs.Grammar.{IsKey, own_key, program_key, user_key, IsSource, named_source, scanned_source, IsColumnDefinition, typed, IsItem, unaliased, aliased, IsCondition, absent, present, IsEmit, all_columns, columns_of, unnamed, named, IsExpression, IsRelation, type_of, own_name}
+use Rattle.myrial_parser.specs.Descent as d
+use Rattle.myrial_parser.specs.Descent.{Input, Outcome, Rule, ◌>>=◌, is_symbol, sees, expect, name, in_parens, key_behind, key_behind_two, kind_of, name_behind_as, same_symbol}
+use Rattle.myrial_parser.proofs.RuleLemmas.{Complete, stops, either, stops-left, stops-right, same_rest, sees-is}
+use Rattle.myrial_parser.proofs.SeparatedLemmas.{is_comma, separated-complete}
+use Rattle.myrial_parser.proofs.ExpressionLemmas.{is_dot}
+use Rattle.myrial_parser.proofs.LevelLemmas.{past_product, past_sum, past_comparison, past_conjunction, past_expression, expression-read, expression-refuses_star}
+use Rattle.myrial_parser.proofs.RelationSound.{IsTwo, both_sources}
+
+-- ---- what goes on
+
+-- nothing goes on with a phrase
+abbrev pub nothing : Terminal → Bool
+nothing x = false
+
+pub stops-nothing : (i : Input) → stops nothing i ≡ true
+stops-nothing [] = refl
+stops-nothing (x ∷ i) = refl
+
+-- a symbol goes on with a phrase
+abbrev pub is_it : Symbol → Terminal → Bool
+is_it symbol x = is_symbol symbol (Some x)
+
+pub unseen : (symbol : Symbol) (i : Input) → stops (is_it symbol) i ≡ true → sees symbol i ≡ false
+unseen symbol [] e = refl
+unseen symbol (x ∷ i) e = by (is_it symbol x) e
+  where
+    by : (t : Bool) → cond t false true ≡ true → t ≡ false
+    by true e = absurd (cc)
+    by false e = refl
+
+-- a phrase that is read has a terminal, where none is read of nothing
+pub some-from_complete : {A : Type 0} (rule : Rule A) (Is : Input → A → Type 0) (goes_on : Terminal → Bool) → Complete rule Is goes_on → rule [] ≡ None → (ts : Input) (a : A) → Is ts a → 0 < length ts
+some-from_complete rule Is goes_on complete none [] a h = let some = complete.reads [] a [] h refl in absurd (cc)
+some-from_complete rule Is goes_on complete none (x ∷ ts) a h = omega arith
+
+-- ---- parentheses
+
+-- what stands in parentheses is read
+pub in_parens-all : {A B : Type 0} (node : A → B) (rule : Rule A) (Is : Input → A → Type 0) (goes_on : Terminal → Bool) → Complete rule Is goes_on → goes_on (Fixed s.CloseParen) ≡ false
+    → (ts : Input) (a : A) (rest : Input) → Is ts a → in_parens node rule (Fixed s.OpenParen ∷ (ts ++ Fixed s.CloseParen ∷ []) ++ rest) ≡ Some (node a, rest)
+unfolding same_symbol
+in_parens-all {A = A} node rule Is goes_on complete closing ts a rest h =
+    ap (λ (o : Outcome A). o >>= λ b end. expect s.CloseParen end >>= λ _ behind. Some (node b, behind))
+    (ap rule (append_assoc ts (Fixed s.CloseParen ∷ []) rest) ∙ complete.reads ts a (Fixed s.CloseParen ∷ rest) h (ap (λ b. cond b false true) closing))
+
+-- ---- keys and operands
+
+key-all : (ts : Input) (k : Key) (rest : Input) → IsKey ts k → stops (is_it s.Colon) rest ≡ true → d.key (ts ++ rest) ≡ Some (k, rest)
+unfolding d.key same_symbol
+key-all _ _ rest (own_key n) st =
+    ap (λ t. cond t (name (drop 1 rest) >>= λ m end. key_behind_two n m end) (Some (record { user = codes "public"; program = codes "adhoc"; name = n }, rest))) (unseen s.Colon rest st)
+key-all _ _ rest (program_key p n) st =
+    ap (λ t. cond t (name (drop 1 rest) >>= λ m end. Some (record { user = p; program = n; name = m }, end)) (Some (record { user = codes "public"; program = p; name = n }, rest))) (unseen s.Colon rest st)
+key-all _ _ rest (user_key u p n) st = refl
+
+pub key-complete : Complete d.key IsKey (is_it s.Colon)
+key-complete = record { reads = key-all }
+
+colon-apart : is_it s.Colon (Fixed s.CloseParen) ≡ false
+unfolding same_symbol
+colon-apart = refl
+
+source-all : (ts : Input) (o : Operand) (rest : Input) → IsSource ts o → stops nothing rest ≡ true → d.source (ts ++ rest) ≡ Some (o, rest)
+unfolding d.source same_symbol
+source-all _ _ rest (named_source n) st = refl
+source-all _ _ rest (scanned_source ts k h) st = in_parens-all source.Scan d.key IsKey (is_it s.Colon) key-complete colon-apart ts k rest h
+
+pub source-complete : Complete d.source IsSource nothing
+source-complete = record { reads = source-all }
+
+two_sources-all : (ts : Input) (p : Operand × Operand) (rest : Input) → IsTwo ts p → stops nothing rest ≡ true → d.two_sources (ts ++ rest) ≡ Some (p, rest)
+unfolding d.two_sources same_symbol
+two_sources-all _ _ rest (both_sources ts us o p h k) st =
+    ap d.two_sources (append_assoc ts (Fixed s.Comma ∷ us) rest)
+    ∙ ap (λ (r : Outcome Operand). r >>= λ left rest. expect s.Comma rest >>= λ _ behind. d.source behind >>= λ right end. Some ((left, right), end)) (source-all ts o (Fixed s.Comma ∷ us ++ rest) h refl)
+    ∙ ap (λ (r : Outcome Operand). r >>= λ right end. Some ((o, right), end)) (source-all us p rest k st)
+
+pub two_sources-complete : Complete d.two_sources IsTwo nothing
+two_sources-complete = record { reads = two_sources-all }
+
+-- ---- columns of `empty`
+
+column_definition-all : (ts : Input) (c : Column) (rest : Input) → IsColumnDefinition ts c → stops nothing rest ≡ true → d.column_definition (ts ++ rest) ≡ Some (c, rest)
+unfolding d.column_definition same_symbol
+column_definition-all _ _ rest (typed n word k e) st = ap (λ (o : Option ColType). kind_of o rest >>= λ k end. Some (record { name = n; kind = k }, end)) e
+
+pub column_definition-complete : Complete d.column_definition IsColumnDefinition nothing
+column_definition-complete = record { reads = column_definition-all }
+
+no_column : d.column_definition [] ≡ None
+unfolding d.column_definition
+no_column = refl
+
+pub column_definitions-complete : Complete d.column_definitions (Separated IsColumnDefinition) (either nothing is_comma)
+unfolding d.column_definitions
+column_definitions-complete =
+    separated-complete d.column_definition IsColumnDefinition nothing column_definition-complete refl (some-from_complete d.column_definition IsColumnDefinition nothing column_definition-complete no_column)
+
+-- ---- items
+
+name_behind_as-none : (rest : Input) → stops (is_it s.As) rest ≡ true → name_behind_as rest ≡ Some (None, rest)
+name_behind_as-none rest st = ap (λ t. cond t (name (drop 1 rest) >>= λ n end. Some (Some n, end)) (Some (None, rest))) (unseen s.As rest st)
+
+item-all : (ts : Input) (b : FromItem) (rest : Input) → IsItem ts b → stops (is_it s.As) rest ≡ true → d.item (ts ++ rest) ≡ Some (b, rest)
+unfolding d.item same_symbol
+item-all ts _ rest (unaliased _ o h) st =
+    ap (λ (r : Outcome Operand). r >>= λ o rest. name_behind_as rest >>= λ alias end. Some (record { source = o; alias = unwrap_or alias (own_name o) }, end)) (source-all ts o rest h (stops-nothing rest))
+    ∙ ap (λ (r : Outcome (Option (List ℕ))). r >>= λ alias end. Some (record { source = o; alias = unwrap_or alias (own_name o) }, end)) (name_behind_as-none rest st)
+item-all _ _ rest (aliased ts o n h) st =
+    ap d.item (append_assoc ts (Fixed s.As ∷ Name n ∷ []) rest)
+    ∙ ap (λ (r : Outcome Operand). r >>= λ o rest. name_behind_as rest >>= λ alias end. Some (record { source = o; alias = unwrap_or alias (own_name o) }, end)) (source-all ts o (Fixed s.As ∷ Name n ∷ rest) h refl)
+
+pub item-complete : Complete d.item IsItem (is_it s.As)
+item-complete = record { reads = item-all }
+
+no_item : d.item [] ≡ None
+unfolding d.item d.source
+no_item = refl
+
+as-apart : is_it s.As (Fixed s.Comma) ≡ false
+unfolding same_symbol
+as-apart = refl
+
+pub items-complete : Complete d.items (Separated IsItem) (either (is_it s.As) is_comma)
+unfolding d.items
+items-complete = separated-complete d.item IsItem (is_it s.As) item-complete as-apart (some-from_complete d.item IsItem (is_it s.As) item-complete no_item)
+
+-- ---- conditions and emit items
+
+whole_expression-all : (ts : Input) (a : Tree) (rest : Input) → IsExpression ts a → stops past_expression rest ≡ true → d.whole_expression (ts ++ rest) ≡ Some (a, rest)
+unfolding d.whole_expression
+whole_expression-all ts a rest h st =
+    let lens = length-append ts rest in
+    ap (λ n. d.expression n (ts ++ rest)) (add-one (length (ts ++ rest))) ∙ expression-read (length (ts ++ rest)) ts a rest (omega arith) h st
+
+pub whole_expression-complete : Complete d.whole_expression IsExpression past_expression
+whole_expression-complete = record { reads = whole_expression-all }
+
+-- a condition is read in front of the word `emit`
+pub condition-all : (us : Input) (c : Option Tree) (rest : Input) → IsCondition us c → d.condition (us ++ Fixed s.Emit ∷ rest) ≡ Some (c, Fixed s.Emit ∷ rest)
+unfolding d.condition same_symbol
+condition-all _ _ rest absent = refl
+condition-all _ _ rest (present ts e h) = ap (λ (o : Outcome Tree). o >>= λ a rest. Some (Some a, rest)) (whole_expression-all ts e (Fixed s.Emit ∷ rest) h refl)
+
+-- no expression begins with a dot
+dot_refused : (inner : Rule Tree) (i : Input) → d.disjunction inner (Fixed s.Dot ∷ i) ≡ None
+unfolding d.disjunction d.conjunction d.negation d.comparison d.sum d.product d.signed d.primary same_symbol
+dot_refused inner i = refl
+
+expression-refuses_dot : (n : ℕ) (i : Input) → d.expression n (Fixed s.Dot ∷ i) ≡ None
+unfolding d.expression
+expression-refuses_dot zero i = refl
+expression-refuses_dot (suc n) i = dot_refused (d.expression n) i
+
+-- an opening parenthesis begins no expression where none can follow it
+chain-none : (sign : Terminal → Option BinOp) (operand : Rule Tree) (i : Input) → operand i ≡ None → d.chain sign operand i ≡ None
+chain-none sign operand i h = ap (λ (o : Outcome Tree). o >>= λ left rest. d.chain_from sign operand (length rest) left rest) h
+
+pair-none : (sign : Terminal → Option BinOp) (operand : Rule Tree) (i : Input) → operand i ≡ None → d.pair sign operand i ≡ None
+pair-none sign operand i h = ap (λ (o : Outcome Tree). o >>= λ left rest. d.pair_by sign operand left (d.operator_ahead sign rest) rest) h
+
+open_refused : (inner : Rule Tree) (i : Input) → inner i ≡ None → d.disjunction inner (Fixed s.OpenParen ∷ i) ≡ None
+unfolding d.disjunction d.conjunction d.negation d.comparison d.sum d.product d.signed d.primary same_symbol
+open_refused inner i h =
+    let all = Fixed s.OpenParen ∷ i in
+    let primary : d.primary inner all ≡ None = ap (λ (o : Outcome Tree). o >>= λ a rest. expect s.CloseParen rest >>= λ _ end. Some (a, end)) h in
+    let product = chain-none g.product_sign (d.signed inner) all primary in
+    let sum = chain-none g.sum_sign (d.product inner) all product in
+    let comparison = pair-none g.comparison_sign (d.sum inner) all sum in
+    let conjunction = chain-none g.and_sign (d.negation inner) all comparison in
+    chain-none g.or_sign (d.conjunction inner) all conjunction
+
+-- no expression begins with a terminal, a dot and a star, or ends in front of the dot
+dotted : (inner : Rule Tree) → ((i : Input) → inner (Fixed s.Dot ∷ i) ≡ None) → (x : Terminal) (i : Input) (a : Tree) (rest : Input)
+    → d.disjunction inner (x ∷ Fixed s.Dot ∷ Fixed s.Star ∷ i) ≡ Some (a, rest) → stops is_dot rest ≡ true → ⊥
+unfolding d.disjunction d.conjunction d.negation d.comparison d.sum d.product d.signed d.primary same_symbol
+dotted inner refuses (Name n) i a rest e st = cc
+dotted inner refuses (Number n) i a rest e st = let same = ap (stops is_dot) (same_rest _ a (Fixed s.Dot ∷ Fixed s.Star ∷ i) rest e) in cc
+dotted inner refuses (Quoted n) i a rest e st = let same = ap (stops is_dot) (same_rest _ a (Fixed s.Dot ∷ Fixed s.Star ∷ i) rest e) in cc
+dotted inner refuses (Fixed s.True) i a rest e st = let same = ap (stops is_dot) (same_rest _ a (Fixed s.Dot ∷ Fixed s.Star ∷ i) rest e) in cc
+dotted inner refuses (Fixed s.False) i a rest e st = let same = ap (stops is_dot) (same_rest _ a (Fixed s.Dot ∷ Fixed s.Star ∷ i) rest e) in cc
+dotted inner refuses (Fixed s.OpenParen) i a rest e st = let none = open_refused inner (Fixed s.Dot ∷ Fixed s.Star ∷ i) (refuses (Fixed s.Star ∷ i)) in let other : Some (a, rest) ≡ None = sym e ∙ none in cc
+dotted inner refuses (Fixed _) i a rest e st = cc
+
+-- no expression is read where all columns of an alias are emitted
+not_dotted : (n : ℕ) (i : Input) (a : Tree) (rest : Input) → d.expression n i ≡ Some (a, rest) → stops is_dot rest ≡ true → sees s.Dot (drop 1 i) ≡ true → sees s.Star (drop 2 i) ≡ true → ⊥
+unfolding d.expression
+not_dotted zero i a rest e st dot star = cc
+not_dotted (suc n) [] a rest e st dot star = cc
+not_dotted (suc n) (x ∷ i) a rest e st dot star =
+    let is = sees-is s.Dot i dot ∙ ap (λ (ts : Input). Fixed s.Dot ∷ ts) (sees-is s.Star (drop 1 i) star) in
+    dotted (d.expression n) (expression-refuses_dot n) x (drop 1 (drop 1 i)) a rest (ap (λ (ts : Input). d.disjunction (d.expression n) (x ∷ ts)) (sym is) ∙ e) st
+
+-- where an expression is read, none of the other emit items is
+emit-on : (i : Input) (a : Tree) (rest : Input) → d.whole_expression i ≡ Some (a, rest) → stops is_dot rest ≡ true → d.emit i ≡ d.emitted i
+unfolding d.emit d.whole_expression
+emit-on i a rest e st = ap (λ t. cond t (Some (tree.All, drop 1 i)) (cond (sees s.Dot (drop 1 i) && sees s.Star (drop 2 i)) (d.emitted_alias i) (d.emitted i))) (no_star (sees s.Star i) refl)
+    ∙ ap (λ t. cond t (d.emitted_alias i) (d.emitted i)) (no_alias (sees s.Dot (drop 1 i)) (sees s.Star (drop 2 i)) refl refl)
+  where
+    no_star : (t : Bool) → sees s.Star i ≡ t → t ≡ false
+    no_star false is = refl
+    no_star true is = let none = ap (d.expression (length i + 1)) (sees-is s.Star i is) ∙ expression-refuses_star (length i + 1) (drop 1 i) in absurd (cc)
+
+    no_alias : (t u : Bool) → sees s.Dot (drop 1 i) ≡ t → sees s.Star (drop 2 i) ≡ u → (t && u) ≡ false
+    no_alias false u is at = refl
+    no_alias true false is at = refl
+    no_alias true true is at = absurd (not_dotted (length i + 1) i a rest e st is at)
+
+stops-dot : (i : Input) → stops past_expression i ≡ true → stops is_dot i ≡ true
+stops-dot i st = stops-left is_dot _ i (stops-left past_product _ i (stops-left past_sum _ i (stops-left past_comparison _ i (stops-left past_conjunction _ i st))))
+
+emit-all : (ts : Input) (b : EmitTree) (rest : Input) → IsEmit ts b → stops (either past_expression (is_it s.As)) rest ≡ true → d.emit (ts ++ rest) ≡ Some (b, rest)
+unfolding d.emit d.emitted d.emitted_alias same_symbol
+emit-all _ _ rest all_columns st = refl
+emit-all _ _ rest (columns_of alias) st = refl
+emit-all ts _ rest (unnamed _ e h) st =
+    let here = stops-left past_expression (is_it s.As) rest st in
+    let whole = whole_expression-all ts e rest h here in
+    emit-on (ts ++ rest) e rest whole (stops-dot rest here)
+    ∙ ap (λ (o : Outcome Tree). o >>= λ a rest. name_behind_as rest >>= λ n end. Some (tree.One a n, end)) whole
+    ∙ ap (λ (o : Outcome (Option (List ℕ))). o >>= λ n end. Some (tree.One e n, end)) (name_behind_as-none rest (stops-right past_expression (is_it s.As) rest st))
+emit-all _ _ rest (named ts e n h) st =
+    let whole = whole_expression-all ts e (Fixed s.As ∷ Name n ∷ rest) h refl in
+    ap d.emit (append_assoc ts (Fixed s.As ∷ Name n ∷ []) rest)
+    ∙ emit-on (ts ++ Fixed s.As ∷ Name n ∷ rest) e (Fixed s.As ∷ Name n ∷ rest) whole refl
+    ∙ ap (λ (o : Outcome Tree). o >>= λ a rest. name_behind_as rest >>= λ n end. Some (tree.One a n, end)) whole
+
+pub emit-complete : Complete d.emit IsEmit (either past_expression (is_it s.As))
+emit-complete = record { reads = emit-all }
+
+no_emit : d.emit [] ≡ None
+unfolding d.emit d.emitted d.whole_expression d.expression d.disjunction d.conjunction d.negation d.comparison d.sum d.product d.signed d.primary same_symbol
+no_emit = refl
+
+comma-apart : either past_expression (is_it s.As) (Fixed s.Comma) ≡ false
+unfolding same_symbol
+comma-apart = refl
+
+pub emits-complete : Complete d.emits (Separated IsEmit) (either (either past_expression (is_it s.As)) is_comma)
+unfolding d.emits
+emits-complete =
+    separated-complete d.emit IsEmit (either past_expression (is_it s.As)) emit-complete comma-apart (some-from_complete d.emit IsEmit (either past_expression (is_it s.As)) emit-complete no_emit)
+
+-- ---- relation expressions
+
+-- a condition or the word `emit` ends the items
+condition-stops : (us : Input) (c : Option Tree) (rest : Input) → IsCondition us c → stops (either (is_it s.As) is_comma) (us ++ Fixed s.Emit ∷ rest) ≡ true
+unfolding same_symbol
+condition-stops _ _ rest absent = refl
+condition-stops _ _ rest (present ts e h) = refl
+
+comprehension-all : (ts us vs : Input) (items : List FromItem) (condition : Option Tree) (emits : List EmitTree) (rest : Input) → Separated IsItem ts items → IsCondition us condition → Separated IsEmit vs emits
+    → d.comprehension (Fixed s.From ∷ (ts ++ us ++ Fixed s.Emit ∷ vs ++ Fixed s.CloseBracket ∷ []) ++ rest) ≡ Some (tree.From items condition emits, rest)
+unfolding d.comprehension same_symbol
+comprehension-all ts us vs items condition emits rest h k l =
+    ap (λ (i : Input). d.comprehension (Fixed s.From ∷ i)) joined
+    ∙ ap (λ (o : Outcome (List FromItem)). o >>= λ from rest. d.condition rest >>= λ where_ rest. expect s.Emit rest >>= λ _ rest. d.emits rest >>= λ all rest. expect s.CloseBracket rest >>= λ _ end. Some (tree.From from where_ all, end))
+    (items-complete.reads ts items (us ++ (Fixed s.Emit ∷ (vs ++ (Fixed s.CloseBracket ∷ rest)))) h (condition-stops us condition (vs ++ Fixed s.CloseBracket ∷ rest) k))
+    ∙ ap (λ (o : Outcome (Option Tree)). o >>= λ where_ rest. expect s.Emit rest >>= λ _ rest. d.emits rest >>= λ all rest. expect s.CloseBracket rest >>= λ _ end. Some (tree.From items where_ all, end))
+    (condition-all us condition (vs ++ Fixed s.CloseBracket ∷ rest) k)
+    ∙ ap (λ (o : Outcome (List EmitTree)). o >>= λ all rest. expect s.CloseBracket rest >>= λ _ end. Some (tree.From items condition all, end)) (emits-complete.reads vs emits (Fixed s.CloseBracket ∷ rest) l refl)
+  where
+    joined : (((ts ++ us) ++ (Fixed s.Emit ∷ vs)) ++ (Fixed s.CloseBracket ∷ [])) ++ rest ≡ ts ++ (us ++ (Fixed s.Emit ∷ (vs ++ (Fixed s.CloseBracket ∷ rest))))
+    joined = simp append_assoc
+
+two-all : (node : Operand → Operand → RelTree) (ts us : Input) (o p : Operand) (rest : Input) → IsSource ts o → IsSource us p
+    → in_parens (λ (q : Operand × Operand). node q.0 q.1) d.two_sources (Fixed s.OpenParen ∷ (ts ++ Fixed s.Comma ∷ us ++ Fixed s.CloseParen ∷ []) ++ rest) ≡ Some (node o p, rest)
+two-all node ts us o p rest h k =
+    in_parens-all (λ (q : Operand × Operand). node q.0 q.1) d.two_sources IsTwo nothing two_sources-complete refl (ts ++ Fixed s.Comma ∷ us) (o, p) rest (both_sources ts us o p h k)
+
+columns-apart : either nothing is_comma (Fixed s.CloseParen) ≡ false
+unfolding same_symbol
+columns-apart = refl
+
+relation-all : (ts : Input) (b : RelTree) (rest : Input) → IsRelation ts b → stops nothing rest ≡ true → d.relation (ts ++ rest) ≡ Some (b, rest)
+unfolding d.relation d.source same_symbol
+relation-all _ _ rest (g.copied _ _ (named_source n)) st = refl
+relation-all _ _ rest (g.copied _ _ (scanned_source ts k h)) st = ap (λ (r : Outcome Operand). r >>= λ o rest. Some (tree.Copy o, rest)) (in_parens-all source.Scan d.key IsKey (is_it s.Colon) key-complete colon-apart ts k rest h)
+relation-all _ _ rest (g.emptied ts columns h) st =
+    in_parens-all tree.Empty d.column_definitions (Separated IsColumnDefinition) (either nothing is_comma) column_definitions-complete columns-apart ts columns rest h
+relation-all _ _ rest (g.distinct ts o h) st = in_parens-all tree.Distinct d.source IsSource nothing source-complete refl ts o rest h
+relation-all _ _ rest (g.union_all ts us o p h k) st = two-all tree.UnionAll ts us o p rest h k
+relation-all _ _ rest (g.difference ts us o p h k) st = two-all tree.Diff ts us o p rest h k
+relation-all _ _ rest (g.comprehension ts us vs items condition emits h k l) st = comprehension-all ts us vs items condition emits rest h k l
+
+pub relation-complete : Complete d.relation IsRelation nothing
+relation-complete = record { reads = relation-all }

@@ -1,0 +1,368 @@
+-- Relation expressions: what the descent reads is such a phrase.
+use Rattle.std.proofs.Common.{◌≡◌, ℕ, ◌+◌, Bool, true, false, cond, ◌&&◌, List, [], ◌∷◌, ◌++◌, drop, length, Option, Some, None, unwrap_or, codes, refl, sym, ap, subst, ◌∙◌, append_assoc, append-nil}
+use Rattle.rel_base.specs.declared.values.ColType.{ColType}
+use Rattle.rel_base.specs.declared.names.Key.{Key}
+use Rattle.myrial_ast.specs.declared.relations.Operand.{Operand}
+use Rattle.myrial_ast.specs.declared.relations.Operand.TheVariants as source
+use Rattle.myrial_ast.specs.Trees as tree
+use Rattle.myrial_ast.specs.Trees.{Tree, EmitTree, RelTree}
+use Rattle.myrial_parser.specs.declared.terminals.Symbol.{Symbol}
+use Rattle.myrial_parser.specs.declared.terminals.Symbol.TheVariants as s
+use Rattle.myrial_parser.specs.Terminals.{Fixed, Name, Number, Quoted}
+use Rattle.myrial_parser.specs.Phrases.{Separated}
+use Rattle.myrial_parser.specs.Grammar as g
+use Rattle.myrial_parser.specs.Grammar.{IsKey, own_key, program_key, user_key, IsSource, named_source, scanned_source, IsColumnDefinition, typed, IsItem, unaliased, aliased, IsCondition, absent, present, IsEmit, all_columns, columns_of, unnamed, named, IsExpression, Expression, IsRelation, type_of, own_name}
+use Rattle.myrial_parser.specs.Descent as d
+use Rattle.myrial_parser.specs.Descent.{Input, first, Outcome, Rule, ◌>>=◌, sees, expect, name, in_parens, key_behind_two, key_behind, kind_of, name_behind_as}
+use Rattle.myrial_parser.proofs.RuleLemmas.{Reading, Sound, steps, same_value, same_rest, finish, sees-is, expect-is, name-is}
+use Rattle.myrial_parser.proofs.SeparatedLemmas.{separated-sound}
+use Rattle.myrial_parser.proofs.LevelLemmas.{expression-sound}
+
+-- ---- a symbol or a name, and what is read behind it
+
+-- the symbol that had to come next, and the terminals behind it
+pub record Expected {B : Type 0} (symbol : Symbol) (f : Rule B) (i : Input) (b : B) (rest : Input) : Type 0 where
+  pub behind : Input
+  pub split : i ≡ Fixed symbol ∷ behind
+  pub on : f behind ≡ Some (b, rest)
+
+pub expect-then : {B : Type 0} (symbol : Symbol) (f : Rule B) (i : Input) (b : B) (rest : Input) → (expect symbol i >>= λ _ behind. f behind) ≡ Some (b, rest) → Expected symbol f i b rest
+expect-then symbol f i b rest e =
+    let two = steps (expect symbol i) (λ _ behind. f behind) b rest e in
+    record { behind = two.middle; split = expect-is symbol i two.value two.middle two.start; on = two.end }
+
+-- the name that had to come next, and the terminals behind it
+pub record Named {B : Type 0} (f : List ℕ → Rule B) (i : Input) (b : B) (rest : Input) : Type 0 where
+  pub text : List ℕ
+  pub behind : Input
+  pub split : i ≡ Name text ∷ behind
+  pub on : f text behind ≡ Some (b, rest)
+
+pub name-then : {B : Type 0} (f : List ℕ → Rule B) (i : Input) (b : B) (rest : Input) → (name i >>= f) ≡ Some (b, rest) → Named f i b rest
+name-then f i b rest e =
+    let two = steps (name i) f b rest e in
+    record { text = two.value; behind = two.middle; split = name-is i two.value two.middle two.start; on = two.end }
+
+-- ---- parentheses
+
+-- what stands in parentheses, and the terminals behind them
+pub record Enclosed {A B : Type 0} (Is : Input → A → Type 0) (node : A → B) (i : Input) (b : B) (rest : Input) : Type 0 where
+  pub inside : Input
+  pub value : A
+  pub split : i ≡ Fixed s.OpenParen ∷ inside ++ Fixed s.CloseParen ∷ rest
+  pub is : Is inside value
+  pub same : node value ≡ b
+
+pub in_parens-reads : {A B : Type 0} (node : A → B) (rule : Rule A) (Is : Input → A → Type 0) → Sound rule Is → (i : Input) (b : B) (rest : Input) → in_parens node rule i ≡ Some (b, rest) → Enclosed Is node i b rest
+in_parens-reads node rule Is sound i b rest e =
+    let start = expect-then s.OpenParen (λ behind. rule behind >>= λ a end. expect s.CloseParen end >>= λ _ behind. Some (node a, behind)) i b rest e in
+    let two = steps (rule start.behind) (λ a end. expect s.CloseParen end >>= λ _ behind. Some (node a, behind)) b rest start.on in
+    let r = sound.reads start.behind two.value two.middle two.start in
+    let end = expect-then s.CloseParen (λ behind. Some (node two.value, behind)) two.middle b rest two.end in
+    let last = end.split ∙ ap (λ (ts : Input). Fixed s.CloseParen ∷ ts) (same_rest (node two.value) b end.behind rest end.on) in
+    record {
+      inside = r.front;
+      value = two.value;
+      split = start.split ∙ ap (λ (ts : Input). Fixed s.OpenParen ∷ ts) (r.split ∙ ap (λ (ts : Input). r.front ++ ts) last);
+      is = r.is;
+      same = same_value (node two.value) b end.behind rest end.on;
+    }
+
+-- a phrase of a word and what stands in parentheses behind it
+pub word-reads : {A B : Type 0} (symbol : Symbol) (Is : Input → A → Type 0) (node : A → B) (Phrase : Input → B → Type 0)
+    → ((ts : Input) (a : A) → Is ts a → Phrase (Fixed symbol ∷ Fixed s.OpenParen ∷ ts ++ Fixed s.CloseParen ∷ []) (node a))
+    → (i : Input) (b : B) (rest : Input) → sees symbol i ≡ true → Enclosed Is node (drop 1 i) b rest → Reading Phrase i b rest
+word-reads symbol Is node Phrase make i b rest is c =
+    record {
+      front = Fixed symbol ∷ Fixed s.OpenParen ∷ c.inside ++ Fixed s.CloseParen ∷ [];
+      split = sees-is symbol i is ∙ ap (λ (ts : Input). Fixed symbol ∷ ts) (c.split ∙ ap (λ (ts : Input). Fixed s.OpenParen ∷ ts) (sym (append_assoc c.inside (Fixed s.CloseParen ∷ []) rest)));
+      is = subst (λ t. Phrase (Fixed symbol ∷ Fixed s.OpenParen ∷ c.inside ++ Fixed s.CloseParen ∷ []) t) c.same (make c.inside c.value c.is);
+    }
+
+-- ---- keys and operands
+
+key_behind_two-reads : (u p : List ℕ) (i : Input) (k : Key) (rest : Input) → key_behind_two u p i ≡ Some (k, rest) → Reading (λ ts k. IsKey (Name u ∷ Fixed s.Colon ∷ Name p ∷ ts) k) i k rest
+key_behind_two-reads u p i k rest e = by (sees s.Colon i) refl e
+  where
+    by : (t : Bool) → sees s.Colon i ≡ t
+        → ◌≡◌ {A = Outcome Key} (cond t (name (drop 1 i) >>= λ n rest. Some (record { user = u; program = p; name = n }, rest)) (Some (record { user = codes "public"; program = u; name = p }, i))) (Some (k, rest))
+        → Reading (λ ts k. IsKey (Name u ∷ Fixed s.Colon ∷ Name p ∷ ts) k) i k rest
+    by false is e = finish (λ ts k. IsKey (Name u ∷ Fixed s.Colon ∷ Name p ∷ ts) k) i [] i _ k rest refl (program_key u p) e
+    by true is e =
+        let n = name-then (λ n rest. Some (record { user = u; program = p; name = n }, rest)) (drop 1 i) k rest e in
+        finish (λ ts k. IsKey (Name u ∷ Fixed s.Colon ∷ Name p ∷ ts) k) i (Fixed s.Colon ∷ Name n.text ∷ []) n.behind _ k rest
+        (sees-is s.Colon i is ∙ ap (λ (ts : Input). Fixed s.Colon ∷ ts) n.split) (user_key u p n.text) n.on
+
+key_behind-reads : (u : List ℕ) (i : Input) (k : Key) (rest : Input) → key_behind u i ≡ Some (k, rest) → Reading (λ ts k. IsKey (Name u ∷ ts) k) i k rest
+key_behind-reads u i k rest e = by (sees s.Colon i) refl e
+  where
+    by : (t : Bool) → sees s.Colon i ≡ t
+        → ◌≡◌ {A = Outcome Key} (cond t (name (drop 1 i) >>= λ n rest. key_behind_two u n rest) (Some (record { user = codes "public"; program = codes "adhoc"; name = u }, i))) (Some (k, rest))
+        → Reading (λ ts k. IsKey (Name u ∷ ts) k) i k rest
+    by false is e = finish (λ ts k. IsKey (Name u ∷ ts) k) i [] i _ k rest refl (own_key u) e
+    by true is e =
+        let n = name-then (λ n rest. key_behind_two u n rest) (drop 1 i) k rest e in
+        let r = key_behind_two-reads u n.text n.behind k rest n.on in
+        record {
+          front = Fixed s.Colon ∷ Name n.text ∷ r.front;
+          split = sees-is s.Colon i is ∙ ap (λ (ts : Input). Fixed s.Colon ∷ ts) (n.split ∙ ap (λ (ts : Input). Name n.text ∷ ts) r.split);
+          is = r.is;
+        }
+
+pub key-sound : Sound d.key IsKey
+unfolding d.key
+key-sound = record {
+  reads = λ i k rest e.
+      let n = name-then (λ n rest. key_behind n rest) i k rest e in
+      let r = key_behind-reads n.text n.behind k rest n.on in
+      record { front = Name n.text ∷ r.front; split = n.split ∙ ap (λ (ts : Input). Name n.text ∷ ts) r.split; is = r.is };
+}
+
+source-reads : (i : Input) (o : Operand) (rest : Input) → d.source i ≡ Some (o, rest) → Reading IsSource i o rest
+unfolding d.source
+source-reads i o rest e = by (sees s.Scan i) refl e
+  where
+    by : (t : Bool) → sees s.Scan i ≡ t → ◌≡◌ {A = Outcome Operand} (cond t (in_parens source.Scan d.key (drop 1 i)) (name i >>= λ n rest. Some (source.Named n, rest))) (Some (o, rest)) → Reading IsSource i o rest
+    by false is e =
+        let n = name-then (λ n rest. Some (source.Named n, rest)) i o rest e in
+        finish IsSource i (Name n.text ∷ []) n.behind _ o rest n.split (named_source n.text) n.on
+    by true is e = word-reads s.Scan IsKey source.Scan IsSource scanned_source i o rest is (in_parens-reads source.Scan d.key IsKey key-sound (drop 1 i) o rest e)
+
+pub source-sound : Sound d.source IsSource
+source-sound = record { reads = source-reads }
+
+-- two operands with a comma between them
+pub data IsTwo : Input → Operand × Operand → Type 0 where
+  both_sources : (ts us : Input) (o p : Operand) → IsSource ts o → IsSource us p → IsTwo (ts ++ Fixed s.Comma ∷ us) (o, p)
+
+pub two_sources-sound : Sound d.two_sources IsTwo
+unfolding d.two_sources
+two_sources-sound = record {
+  reads = λ i b rest e.
+      let l = steps (d.source i) (λ left rest. expect s.Comma rest >>= λ _ behind. d.source behind >>= λ right end. Some ((left, right), end)) b rest e in
+      let left = source-reads i l.value l.middle l.start in
+      let comma = expect-then s.Comma (λ behind. d.source behind >>= λ right end. Some ((l.value, right), end)) l.middle b rest l.end in
+      let r = steps (d.source comma.behind) (λ right end. Some ((l.value, right), end)) b rest comma.on in
+      let right = source-reads comma.behind r.value r.middle r.start in
+      let split = left.split ∙ ap (λ (ts : Input). left.front ++ ts) (comma.split ∙ ap (λ (ts : Input). Fixed s.Comma ∷ ts) right.split) ∙ sym (append_assoc left.front (Fixed s.Comma ∷ right.front) r.middle) in
+      finish IsTwo i (left.front ++ Fixed s.Comma ∷ right.front) r.middle (l.value, r.value) b rest split (both_sources left.front right.front l.value r.value left.is right.is) r.end;
+}
+
+-- ---- columns of `empty`
+
+kind_of-is : (o : Option ColType) (i : Input) (k : ColType) (rest : Input) → kind_of o i ≡ Some (k, rest) → (o ≡ Some k) × (i ≡ rest)
+kind_of-is None i k rest e = absurd (cc)
+kind_of-is (Some kind) i k rest e = (ap Some (same_value kind k i rest e), same_rest kind k i rest e)
+
+-- the word of a type, and the terminals behind it
+record Typed (i : Input) (k : ColType) (rest : Input) : Type 0 where
+  word : List ℕ
+  split : i ≡ Name word ∷ rest
+  is : type_of word ≡ Some k
+
+kind-reads : (i : Input) (k : ColType) (rest : Input) → d.kind i ≡ Some (k, rest) → Typed i k rest
+kind-reads [] k rest e = absurd (cc)
+kind-reads (Name word ∷ i) k rest e = let p = kind_of-is (type_of word) i k rest e in record { word = word; split = ap (λ (ts : Input). Name word ∷ ts) p.1; is = p.0 }
+kind-reads (Number n ∷ i) k rest e = absurd (cc)
+kind-reads (Quoted n ∷ i) k rest e = absurd (cc)
+kind-reads (Fixed n ∷ i) k rest e = absurd (cc)
+
+pub column_definition-sound : Sound d.column_definition IsColumnDefinition
+unfolding d.column_definition
+column_definition-sound = record {
+  reads = λ i c rest e.
+      let n = name-then (λ n rest. expect s.Colon rest >>= λ _ behind. d.kind behind >>= λ k end. Some (record { name = n; kind = k }, end)) i c rest e in
+      let colon = expect-then s.Colon (λ behind. d.kind behind >>= λ k end. Some (record { name = n.text; kind = k }, end)) n.behind c rest n.on in
+      let k = steps (d.kind colon.behind) (λ k end. Some (record { name = n.text; kind = k }, end)) c rest colon.on in
+      let w = kind-reads colon.behind k.value k.middle k.start in
+      let split = n.split ∙ ap (λ (ts : Input). Name n.text ∷ ts) (colon.split ∙ ap (λ (ts : Input). Fixed s.Colon ∷ ts) w.split) in
+      finish IsColumnDefinition i (Name n.text ∷ Fixed s.Colon ∷ Name w.word ∷ []) k.middle _ c rest split (typed n.text w.word k.value w.is) k.end;
+}
+
+pub column_definitions-sound : Sound d.column_definitions (Separated IsColumnDefinition)
+unfolding d.column_definitions
+column_definitions-sound = separated-sound d.column_definition IsColumnDefinition column_definition-sound
+
+-- ---- items
+
+-- a name behind `as`, or nothing
+pub data IsAlias : Input → Option (List ℕ) → Type 0 where
+  no_alias : IsAlias [] None
+  an_alias : (n : List ℕ) → IsAlias (Fixed s.As ∷ Name n ∷ []) (Some n)
+
+pub name_behind_as-sound : Sound name_behind_as IsAlias
+name_behind_as-sound = record { reads = λ i o rest e. by i o rest (sees s.As i) refl e }
+  where
+    by : (i : Input) (o : Option (List ℕ)) (rest : Input) (t : Bool) → sees s.As i ≡ t
+        → ◌≡◌ {A = Outcome (Option (List ℕ))} (cond t (name (drop 1 i) >>= λ n rest. Some (Some n, rest)) (Some (None, i))) (Some (o, rest)) → Reading IsAlias i o rest
+    by i o rest false is e = finish IsAlias i [] i None o rest refl no_alias e
+    by i o rest true is e =
+        let n = name-then (λ n rest. Some (Some n, rest)) (drop 1 i) o rest e in
+        finish IsAlias i (Fixed s.As ∷ Name n.text ∷ []) n.behind (Some n.text) o rest (sees-is s.As i is ∙ ap (λ (ts : Input). Fixed s.As ∷ ts) n.split) (an_alias n.text) n.on
+
+item-is : (ts us : Input) (o : Operand) (alias : Option (List ℕ)) → IsSource ts o → IsAlias us alias → IsItem (ts ++ us) (record { source = o; alias = unwrap_or alias (own_name o) })
+item-is ts _ o _ h no_alias = subst (λ (us : Input). IsItem us (record { source = o; alias = own_name o })) (sym (append-nil ts)) (unaliased ts o h)
+item-is ts _ o _ h (an_alias n) = aliased ts o n h
+
+pub item-sound : Sound d.item IsItem
+unfolding d.item
+item-sound = record {
+  reads = λ i b rest e.
+      let two = steps (d.source i) (λ o rest. name_behind_as rest >>= λ alias end. Some (record { source = o; alias = unwrap_or alias (own_name o) }, end)) b rest e in
+      let left = source-reads i two.value two.middle two.start in
+      let more = steps (name_behind_as two.middle) (λ alias end. Some (record { source = two.value; alias = unwrap_or alias (own_name two.value) }, end)) b rest two.end in
+      let right = name_behind_as-sound.reads two.middle more.value more.middle more.start in
+      let split = left.split ∙ ap (λ (ts : Input). left.front ++ ts) right.split ∙ sym (append_assoc left.front right.front more.middle) in
+      finish IsItem i (left.front ++ right.front) more.middle _ b rest split (item-is left.front right.front two.value more.value left.is right.is) more.end;
+}
+
+pub items-sound : Sound d.items (Separated IsItem)
+unfolding d.items
+items-sound = separated-sound d.item IsItem item-sound
+
+-- ---- conditions and emit items
+
+pub whole_expression-sound : Sound d.whole_expression IsExpression
+unfolding d.whole_expression
+whole_expression-sound = record {
+  reads = λ i a rest e.
+      let r = (expression-sound (length i + 1)).reads i a rest e in
+      record { front = r.front; split = r.split; is = (length i + 1, r.is) };
+}
+
+pub condition-sound : Sound d.condition IsCondition
+unfolding d.condition
+condition-sound = record { reads = λ i o rest e. by i o rest (sees s.Where i) refl e }
+  where
+    by : (i : Input) (o : Option Tree) (rest : Input) (t : Bool) → sees s.Where i ≡ t
+        → ◌≡◌ {A = Outcome (Option Tree)} (cond t (d.whole_expression (drop 1 i) >>= λ a rest. Some (Some a, rest)) (Some (None, i))) (Some (o, rest)) → Reading IsCondition i o rest
+    by i o rest false is e = finish IsCondition i [] i None o rest refl absent e
+    by i o rest true is e =
+        let two = steps (d.whole_expression (drop 1 i)) (λ a rest. Some (Some a, rest)) o rest e in
+        let r = whole_expression-sound.reads (drop 1 i) two.value two.middle two.start in
+        finish IsCondition i (Fixed s.Where ∷ r.front) two.middle (Some two.value) o rest (sees-is s.Where i is ∙ ap (λ (ts : Input). Fixed s.Where ∷ ts) r.split) (present r.front two.value r.is) two.end
+
+emit-is : (ts us : Input) (a : Tree) (n : Option (List ℕ)) → IsExpression ts a → IsAlias us n → IsEmit (ts ++ us) (tree.One a n)
+emit-is ts _ a _ h no_alias = subst (λ (us : Input). IsEmit us (tree.One a None)) (sym (append-nil ts)) (unnamed ts a h)
+emit-is ts _ a _ h (an_alias n) = named ts a n h
+
+emitted-reads : (i : Input) (b : EmitTree) (rest : Input) → d.emitted i ≡ Some (b, rest) → Reading IsEmit i b rest
+unfolding d.emitted
+emitted-reads i b rest e =
+    let two = steps (d.whole_expression i) (λ a rest. name_behind_as rest >>= λ n end. Some (tree.One a n, end)) b rest e in
+    let left = whole_expression-sound.reads i two.value two.middle two.start in
+    let more = steps (name_behind_as two.middle) (λ n end. Some (tree.One two.value n, end)) b rest two.end in
+    let right = name_behind_as-sound.reads two.middle more.value more.middle more.start in
+    let split = left.split ∙ ap (λ (ts : Input). left.front ++ ts) right.split ∙ sym (append_assoc left.front right.front more.middle) in
+    finish IsEmit i (left.front ++ right.front) more.middle _ b rest split (emit-is left.front right.front two.value more.value left.is right.is) more.end
+
+and-both : (a b : Bool) → (a && b) ≡ true → (a ≡ true) × (b ≡ true)
+and-both true true e = (refl, refl)
+and-both true false e = absurd (cc)
+and-both false b e = absurd (cc)
+
+emitted_alias-reads : (i : Input) (b : EmitTree) (rest : Input) → (sees s.Dot (drop 1 i) && sees s.Star (drop 2 i)) ≡ true → d.emitted_alias i ≡ Some (b, rest) → Reading IsEmit i b rest
+unfolding d.emitted_alias
+emitted_alias-reads [] b rest is e = absurd (cc)
+emitted_alias-reads (Number n ∷ i) b rest is e = absurd (cc)
+emitted_alias-reads (Quoted n ∷ i) b rest is e = absurd (cc)
+emitted_alias-reads (Fixed n ∷ i) b rest is e = absurd (cc)
+emitted_alias-reads (Name n ∷ i) b rest is e =
+    let seen = and-both (sees s.Dot i) (sees s.Star (drop 1 i)) is in
+    let split = ap (λ (ts : Input). Name n ∷ ts) (sees-is s.Dot i seen.0 ∙ ap (λ (ts : Input). Fixed s.Dot ∷ ts) (sees-is s.Star (drop 1 i) seen.1)) in
+    finish IsEmit (Name n ∷ i) (Name n ∷ Fixed s.Dot ∷ Fixed s.Star ∷ []) (drop 1 (drop 1 i)) (tree.AllOf n) b rest split (columns_of n) e
+
+pub emit-sound : Sound d.emit IsEmit
+unfolding d.emit
+emit-sound = record { reads = λ i b rest e. by i b rest (sees s.Star i) refl e }
+  where
+    on : (i : Input) (b : EmitTree) (rest : Input) (t : Bool) → (sees s.Dot (drop 1 i) && sees s.Star (drop 2 i)) ≡ t → cond t (d.emitted_alias i) (d.emitted i) ≡ Some (b, rest) → Reading IsEmit i b rest
+    on i b rest true is e = emitted_alias-reads i b rest is e
+    on i b rest false is e = emitted-reads i b rest e
+
+    by : (i : Input) (b : EmitTree) (rest : Input) (t : Bool) → sees s.Star i ≡ t
+        → ◌≡◌ {A = Outcome EmitTree} (cond t (Some (tree.All, drop 1 i)) (cond (sees s.Dot (drop 1 i) && sees s.Star (drop 2 i)) (d.emitted_alias i) (d.emitted i))) (Some (b, rest)) → Reading IsEmit i b rest
+    by i b rest true is e = finish IsEmit i (Fixed s.Star ∷ []) (drop 1 i) tree.All b rest (sees-is s.Star i is) all_columns e
+    by i b rest false is e = on i b rest (sees s.Dot (drop 1 i) && sees s.Star (drop 2 i)) refl e
+
+pub emits-sound : Sound d.emits (Separated IsEmit)
+unfolding d.emits
+emits-sound = separated-sound d.emit IsEmit emit-sound
+
+-- ---- relation expressions
+
+comprehension-reads : (i : Input) (b : RelTree) (rest : Input) → d.comprehension i ≡ Some (b, rest) → Reading (λ ts r. IsRelation (Fixed s.OpenBracket ∷ ts) r) i b rest
+unfolding d.comprehension
+comprehension-reads i b rest e =
+    let from = expect-then s.From (λ rest. d.items rest >>= λ from rest. d.condition rest >>= λ where_ rest. expect s.Emit rest >>= λ _ rest. d.emits rest >>= λ all rest. expect s.CloseBracket rest >>= λ _ end. Some (tree.From from where_ all, end)) i b rest e in
+    let items = steps (d.items from.behind) (λ from rest. d.condition rest >>= λ where_ rest. expect s.Emit rest >>= λ _ rest. d.emits rest >>= λ all rest. expect s.CloseBracket rest >>= λ _ end. Some (tree.From from where_ all, end)) b rest from.on in
+    let condition = steps (d.condition items.middle) (λ where_ rest. expect s.Emit rest >>= λ _ rest. d.emits rest >>= λ all rest. expect s.CloseBracket rest >>= λ _ end. Some (tree.From items.value where_ all, end)) b rest items.end in
+    let emit = expect-then s.Emit (λ rest. d.emits rest >>= λ all rest. expect s.CloseBracket rest >>= λ _ end. Some (tree.From items.value condition.value all, end)) condition.middle b rest condition.end in
+    let emits = steps (d.emits emit.behind) (λ all rest. expect s.CloseBracket rest >>= λ _ end. Some (tree.From items.value condition.value all, end)) b rest emit.on in
+    let close = expect-then s.CloseBracket (λ end. Some (tree.From items.value condition.value emits.value, end)) emits.middle b rest emits.end in
+    let p = items-sound.reads from.behind items.value items.middle items.start in
+    let q = condition-sound.reads items.middle condition.value condition.middle condition.start in
+    let r = emits-sound.reads emit.behind emits.value emits.middle emits.start in
+    finish (λ ts r. IsRelation (Fixed s.OpenBracket ∷ ts) r) i (Fixed s.From ∷ p.front ++ q.front ++ Fixed s.Emit ∷ r.front ++ Fixed s.CloseBracket ∷ []) close.behind _ b rest
+    (from.split ∙ ap (λ (ts : Input). Fixed s.From ∷ ts)
+    (p.split ∙ ap (λ (ts : Input). p.front ++ ts) (q.split ∙ ap (λ (ts : Input). q.front ++ ts) (emit.split ∙ ap (λ (ts : Input). Fixed s.Emit ∷ ts) (r.split ∙ ap (λ (ts : Input). r.front ++ ts) close.split)))
+    ∙ joined p.front q.front r.front close.behind))
+    (g.comprehension p.front q.front r.front items.value condition.value emits.value p.is q.is r.is) close.on
+  where
+    joined : (ts us vs rest : Input) → ts ++ (us ++ (Fixed s.Emit ∷ (vs ++ (Fixed s.CloseBracket ∷ rest)))) ≡ (((ts ++ us) ++ (Fixed s.Emit ∷ vs)) ++ (Fixed s.CloseBracket ∷ [])) ++ rest
+    joined ts us vs rest = simp append_assoc
+
+copied-reads : (i : Input) (b : RelTree) (rest : Input) → d.copied i ≡ Some (b, rest) → Reading IsRelation i b rest
+copied-reads i b rest e =
+    let o = steps (d.source i) (λ o rest. Some (tree.Copy o, rest)) b rest e in
+    let r = source-reads i o.value o.middle o.start in
+    finish IsRelation i r.front o.middle _ b rest r.split (g.copied r.front o.value r.is) o.end
+
+-- the operands of a word of two operands
+abbrev of_two : (Operand → Operand → RelTree) → Operand × Operand → RelTree
+of_two node p = node p.0 p.1
+
+two-is : (symbol : Symbol) (node : Operand → Operand → RelTree)
+    → ((ts us : Input) (o p : Operand) → IsSource ts o → IsSource us p → IsRelation (Fixed symbol ∷ Fixed s.OpenParen ∷ ts ++ Fixed s.Comma ∷ us ++ Fixed s.CloseParen ∷ []) (node o p))
+    → (ts : Input) (p : Operand × Operand) → IsTwo ts p → IsRelation (Fixed symbol ∷ Fixed s.OpenParen ∷ ts ++ Fixed s.CloseParen ∷ []) (of_two node p)
+two-is symbol node make _ _ (both_sources ts us o p h k) = make ts us o p h k
+
+pub relation-sound : Sound d.relation IsRelation
+unfolding d.relation
+relation-sound = record { reads = λ i b rest e. by-empty i b rest (sees s.Empty i) refl e }
+  where
+    by-bracket : (i : Input) (b : RelTree) (rest : Input) (t : Bool) → sees s.OpenBracket i ≡ t → cond t (d.comprehension (drop 1 i)) (d.copied i) ≡ Some (b, rest) → Reading IsRelation i b rest
+    by-bracket i b rest true is e =
+        let r = comprehension-reads (drop 1 i) b rest e in
+        record { front = Fixed s.OpenBracket ∷ r.front; split = sees-is s.OpenBracket i is ∙ ap (λ (ts : Input). Fixed s.OpenBracket ∷ ts) r.split; is = r.is }
+    by-bracket i b rest false is e = copied-reads i b rest e
+
+    by-diff : (i : Input) (b : RelTree) (rest : Input) (t : Bool) → sees s.Diff i ≡ t
+        → cond t (in_parens (of_two tree.Diff) d.two_sources (drop 1 i)) (cond (sees s.OpenBracket i) (d.comprehension (drop 1 i)) (d.copied i)) ≡ Some (b, rest) → Reading IsRelation i b rest
+    by-diff i b rest true is e =
+        word-reads s.Diff IsTwo (of_two tree.Diff) IsRelation (two-is s.Diff tree.Diff g.difference) i b rest is (in_parens-reads (of_two tree.Diff) d.two_sources IsTwo two_sources-sound (drop 1 i) b rest e)
+    by-diff i b rest false is e = by-bracket i b rest (sees s.OpenBracket i) refl e
+
+    by-union : (i : Input) (b : RelTree) (rest : Input) (t : Bool) → sees s.UnionAll i ≡ t
+        → cond t (in_parens (of_two tree.UnionAll) d.two_sources (drop 1 i)) (cond (sees s.Diff i) (in_parens (of_two tree.Diff) d.two_sources (drop 1 i)) (cond (sees s.OpenBracket i) (d.comprehension (drop 1 i)) (d.copied i))) ≡ Some (b, rest)
+        → Reading IsRelation i b rest
+    by-union i b rest true is e =
+        word-reads s.UnionAll IsTwo (of_two tree.UnionAll) IsRelation (two-is s.UnionAll tree.UnionAll g.union_all) i b rest is (in_parens-reads (of_two tree.UnionAll) d.two_sources IsTwo two_sources-sound (drop 1 i) b rest e)
+    by-union i b rest false is e = by-diff i b rest (sees s.Diff i) refl e
+
+    by-distinct : (i : Input) (b : RelTree) (rest : Input) (t : Bool) → sees s.Distinct i ≡ t
+        → cond t (in_parens tree.Distinct d.source (drop 1 i))
+        (cond (sees s.UnionAll i) (in_parens (of_two tree.UnionAll) d.two_sources (drop 1 i)) (cond (sees s.Diff i) (in_parens (of_two tree.Diff) d.two_sources (drop 1 i)) (cond (sees s.OpenBracket i) (d.comprehension (drop 1 i)) (d.copied i)))) ≡ Some (b, rest)
+        → Reading IsRelation i b rest
+    by-distinct i b rest true is e =
+        word-reads s.Distinct IsSource tree.Distinct IsRelation g.distinct i b rest is (in_parens-reads tree.Distinct d.source IsSource source-sound (drop 1 i) b rest e)
+    by-distinct i b rest false is e = by-union i b rest (sees s.UnionAll i) refl e
+
+    by-empty : (i : Input) (b : RelTree) (rest : Input) (t : Bool) → sees s.Empty i ≡ t
+        → cond t (in_parens tree.Empty d.column_definitions (drop 1 i))
+        (cond (sees s.Distinct i) (in_parens tree.Distinct d.source (drop 1 i))
+        (cond (sees s.UnionAll i) (in_parens (of_two tree.UnionAll) d.two_sources (drop 1 i)) (cond (sees s.Diff i) (in_parens (of_two tree.Diff) d.two_sources (drop 1 i)) (cond (sees s.OpenBracket i) (d.comprehension (drop 1 i)) (d.copied i))))) ≡ Some (b, rest)
+        → Reading IsRelation i b rest
+    by-empty i b rest true is e =
+        word-reads s.Empty (Separated IsColumnDefinition) tree.Empty IsRelation g.emptied i b rest is (in_parens-reads tree.Empty d.column_definitions (Separated IsColumnDefinition) column_definitions-sound (drop 1 i) b rest e)
+    by-empty i b rest false is e = by-distinct i b rest (sees s.Distinct i) refl e

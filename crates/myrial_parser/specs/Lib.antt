@@ -1,0 +1,6 @@
+-- The words of this crate, lowest first.
+pub mod Terminals
+pub mod Phrases
+pub mod Grammar
+pub mod Descent
+pub mod Pieces

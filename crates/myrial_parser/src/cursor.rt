@@ -1,0 +1,170 @@
+//! A cursor over the terminals of a piece. It looks one terminal ahead, and two more where `T.*` may be emitted.
+ghost use Rattle.std.specs.Prelude.{◌≡◌, ◌-◌, ◌<◌, ◌^◌, All, IfSome, length, drop, option_map};
+ghost use Rattle.myrial_parser.specs.Descent as spec;
+ghost use Rattle.myrial_parser.specs.Descent.{Gives};
+ghost use Rattle.myrial_lexer.specs.Slices.{IsCut};
+ghost use Rattle.myrial_parser.specs.Terminals.{IsSmall, seen, terminals_of};
+
+use crate::faults::Refusal;
+use crate::terminals::{Symbol, Terminal, terminal_of};
+use myrial_lexer::Token;
+use rel_base::Text;
+use std::alloc::Global;
+use std::marker::Model;
+
+/// The terminals ahead, which contracts see as their list.
+#[derive(Drop)]
+pub struct Cursor<'a> {
+    tokens: &'a [Token],
+    bytes: &'a [u8],
+}
+
+impl<'a> Model for Cursor<'a> {
+    ghost use Rattle.std.specs.Prelude.{◌-◌, ◌<◌, ◌^◌, All, length};
+    ghost use Rattle.myrial_parser.specs.Descent.{Input};
+    ghost use Rattle.myrial_lexer.specs.Slices.{IsCut};
+    ghost use Rattle.myrial_parser.specs.Terminals.{terminals_of};
+
+    ghost Value = { Input };
+
+    ghost view = { λ c. terminals_of c.bytes.now c.tokens.now };
+
+    ghost invariant = { λ c. All (IsCut c.bytes.now) c.tokens.now × (length c.tokens.now < 2 ^ 32 - 1) };
+}
+
+impl<'a> Cursor<'a> {
+    /// A cursor before the first of the tokens.
+    pub fn new(tokens: &'a [Token], bytes: &'a [u8]) -> Cursor<'a>
+        requires cut { All (IsCut bytes.now) tokens.now }
+        requires few { length tokens.now < 2 ^ 32 - 1 }
+        ensures { result ≡ terminals_of bytes.now tokens.now }
+    {
+        Cursor { tokens, bytes }
+    }
+
+    /// How many terminals are ahead.
+    pub fn left(&self) -> usize
+        ensures value { result ≡ length self.now }
+        ensures bound { length self.now < 2 ^ 32 - 1 }
+    {
+        self.tokens.len()
+    }
+
+    /// The next terminal.
+    pub fn peek(&self) -> Option<Terminal<'a>>
+        ensures value { option_map seen result ≡ spec.first self.now }
+        ensures small { IfSome result (λ x. IsSmall (seen x)) }
+    {
+        match self.tokens {
+            [] => None,
+            [token, ..] => Some(terminal_of(self.bytes, *token)),
+        }
+    }
+
+    /// Passes the next terminal, if there is one.
+    pub fn skip(&mut self)
+        ensures { self.new ≡ drop 1 self.old }
+    {
+        if let [_, rest @ ..] = self.tokens {
+            self.tokens = rest;
+        }
+    }
+
+    /// Whether this symbol comes next.
+    pub fn sees(&self, symbol: Symbol) -> bool
+        ensures { result ≡ spec.sees symbol self.now }
+    {
+        match self.peek() {
+            Some(Terminal::Fixed(found)) => same_symbol(found, symbol),
+            Some(Terminal::Name(_)) => false,
+            Some(Terminal::Number(_)) => false,
+            Some(Terminal::Quoted(_)) => false,
+            None => false,
+        }
+    }
+
+    /// Whether this symbol comes behind so many terminals.
+    pub fn sees_behind(&self, count: usize, symbol: Symbol) -> bool
+        ensures { result ≡ spec.sees symbol (drop count self.now) }
+    {
+        if count < self.tokens.len() {
+            Cursor::new(&self.tokens[count..], self.bytes).sees(symbol)
+        } else {
+            false
+        }
+    }
+
+    /// Passes this symbol, if it comes next.
+    pub fn eat(&mut self, symbol: Symbol) -> bool
+        ensures found { result ≡ spec.sees symbol self.old }
+        ensures after { self.new ≡ spec.after symbol self.old }
+    {
+        let found = self.sees(symbol);
+        if found {
+            self.skip();
+        }
+        found
+    }
+
+    /// Passes this symbol, which has to come next.
+    pub fn expect(&mut self, symbol: Symbol) -> Result<(), Refusal>
+        ensures { Gives (λ x. x) (spec.expect symbol self.old) result self.new }
+    {
+        if self.sees(symbol) {
+            self.skip();
+            Ok(())
+        } else {
+            Err(Refusal::Syntax)
+        }
+    }
+
+    /// Passes a name, which has to come next.
+    pub fn name(&mut self, alloc: Global) -> Result<Text, Refusal>
+        ensures { Gives (λ x. x) (spec.name self.old) result self.new }
+    {
+        match self.peek() {
+            Some(Terminal::Name(name)) => {
+                self.skip();
+                Ok(Text::of(alloc, name)?)
+            }
+            Some(Terminal::Number(_)) => Err(Refusal::Syntax),
+            Some(Terminal::Quoted(_)) => Err(Refusal::Syntax),
+            Some(Terminal::Fixed(_)) => Err(Refusal::Syntax),
+            None => Err(Refusal::Syntax),
+        }
+    }
+
+    /// Passes a number, which has to come next.
+    pub fn number(&mut self) -> Result<u64, Refusal>
+        ensures { Gives (λ x. x) (spec.number self.old) result self.new }
+    {
+        match self.peek() {
+            Some(Terminal::Number(number)) => {
+                self.skip();
+                Ok(number)
+            }
+            Some(Terminal::Name(_)) => Err(Refusal::Syntax),
+            Some(Terminal::Quoted(_)) => Err(Refusal::Syntax),
+            Some(Terminal::Fixed(_)) => Err(Refusal::Syntax),
+            None => Err(Refusal::Syntax),
+        }
+    }
+
+    /// Passes the end, which has to be reached.
+    pub fn end(&self) -> Result<(), Refusal>
+        ensures { Gives (λ x. x) (spec.end self.now) result self.now }
+    {
+        if self.tokens.is_empty() {
+            Ok(())
+        } else {
+            Err(Refusal::Syntax)
+        }
+    }
+}
+
+/// Whether two symbols are one.
+fn same_symbol(found: Symbol, symbol: Symbol) -> bool
+    ensures { result ≡ spec.same_symbol found symbol }
+{
+    found == symbol
+}
