@@ -1,0 +1,237 @@
+-- Whether a script has a meaning depends on columns alone.
+use Rattle.std.proofs.Common.{◌≡◌, ◌∙◌, Bool, true, false, cond, ◌&&◌, Option, Some, None, option_map, option_and_then, List, [], ◌∷◌, ◌++◌, map, find, is_some, refl, sym, ap}
+use Rattle.std.proofs.lemmas.List.{map-append}
+use Rattle.std.specs.Option.{option_map_or}
+use Rattle.rel_base.specs.Each.{each_or_none, put_before}
+use Rattle.rel_base.specs.Keys.{File, same_key}
+use Rattle.rel_base.specs.Relations.{Table}
+use Rattle.rel_base.specs.declared.names.Key.{Key}
+use Rattle.rel_base.specs.declared.tables.Column.{Column}
+use Rattle.myrial_ast.specs.declared.relations.FromItem.{FromItem}
+use Rattle.myrial_ast.specs.declared.relations.Operand.{Operand}
+use Rattle.myrial_ast.specs.declared.relations.Operand.TheVariants as operand
+use Rattle.myrial_ast.specs.Trees.{Name, Tree, EmitTree, RelTree, StatementTree}
+use Rattle.myrial_ast.specs.Trees as tree
+use Rattle.myrial_ast.specs.Bags.{union_all, distinct, difference}
+use Rattle.myrial_ast.specs.Combinations.{Rows}
+use Rattle.myrial_meaning.specs.Scopes.{Item, same_name, scope_of}
+use Rattle.myrial_meaning.specs.Emits.{Bound, bound_in}
+use Rattle.myrial_meaning.specs.Meaning.{Environment, Source, after, assigned_to, comprehension_over, comprehension_rows, items_of, kept_under, nothing_yet, of_one, of_two, operand_of, relation_of, source_of, tables_of, with_key, with_name}
+use Rattle.myrial_meaning.specs.Runnable.{all_stand, has_meaning, stands}
+use Rattle.myrial_meaning.specs.Columns.{all_declared, bare, declared}
+
+-- ---- without rows
+
+bare_name : Name × Table → Name × Table
+bare_name p = (p.0, bare p.1)
+
+bare_file : File → File
+bare_file p = (p.0, bare p.1)
+
+-- the columns of what names and stored keys stand for
+columns_of : Environment → Environment
+columns_of env = record { assigned = map bare_name env.assigned; stored = map bare_file env.stored }
+
+bare_source : Source → Source
+bare_source s = record { alias = s.alias; table = bare s.table }
+
+is_some-mapped : {X Y : Type 0} (f : X → Y) (o : Option X) → is_some (option_map f o) ≡ is_some o
+is_some-mapped f None = refl
+is_some-mapped f (Some x) = refl
+
+is_some-same : {X Y : Type 0} (f : X → Y) (o p : Option X) → option_map f o ≡ option_map f p → is_some o ≡ is_some p
+is_some-same f o p e = sym (is_some-mapped f o) ∙ (ap is_some e ∙ is_some-mapped f p)
+
+-- ---- what a name and a key stand for
+
+found-name : (name : Name) (ps : List (Name × Table))
+    → option_map bare (option_map (λ (p : Name × Table). p.1) (find (λ (p : Name × Table). same_name p.0 name) ps))
+    ≡ option_map (λ (p : Name × Table). p.1) (find (λ (p : Name × Table). same_name p.0 name) (map bare_name ps))
+unfolding bare_name
+found-name name [] = refl
+found-name name (p ∷ ps) = by (same_name p.0 name) (found-name name ps)
+  where
+    by : (same : Bool) → option_map bare (option_map (λ (p : Name × Table). p.1) (find (λ (p : Name × Table). same_name p.0 name) ps))
+        ≡ option_map (λ (p : Name × Table). p.1) (find (λ (p : Name × Table). same_name p.0 name) (map (λ q. (q.0, bare q.1)) ps))
+        → option_map bare (option_map (λ (p : Name × Table). p.1) (cond same (Some p) (find (λ (p : Name × Table). same_name p.0 name) ps)))
+        ≡ option_map (λ (p : Name × Table). p.1) (cond same (Some (p.0, bare p.1)) (find (λ (p : Name × Table). same_name p.0 name) (map (λ q. (q.0, bare q.1)) ps)))
+    by true e = refl
+    by false e = e
+
+found-key : (key : Key) (ps : List File)
+    → option_map bare (option_map (λ (p : File). p.1) (find (λ (p : File). same_key p.0 key) ps))
+    ≡ option_map (λ (p : File). p.1) (find (λ (p : File). same_key p.0 key) (map bare_file ps))
+unfolding bare_file
+found-key key [] = refl
+found-key key (p ∷ ps) = by (same_key p.0 key) (found-key key ps)
+  where
+    by : (same : Bool) → option_map bare (option_map (λ (p : File). p.1) (find (λ (p : File). same_key p.0 key) ps))
+        ≡ option_map (λ (p : File). p.1) (find (λ (p : File). same_key p.0 key) (map (λ q. (q.0, bare q.1)) ps))
+        → option_map bare (option_map (λ (p : File). p.1) (cond same (Some p) (find (λ (p : File). same_key p.0 key) ps)))
+        ≡ option_map (λ (p : File). p.1) (cond same (Some (p.0, bare p.1)) (find (λ (p : File). same_key p.0 key) (map (λ q. (q.0, bare q.1)) ps)))
+    by true e = refl
+    by false e = e
+
+-- ---- environments with the same columns
+
+module _ (files : List File) (there here : Environment) (same : columns_of there ≡ columns_of here) where
+  name-columns : (name : Name) → option_map bare (assigned_to there name) ≡ option_map bare (assigned_to here name)
+  unfolding columns_of
+  name-columns name =
+      found-name name there.assigned
+      ∙ (ap (λ (env : Environment). option_map (λ (p : Name × Table). p.1) (find (λ (p : Name × Table). same_name p.0 name) env.assigned)) same
+      ∙ sym (found-name name here.assigned))
+
+  key-columns : (key : Key) → option_map bare (kept_under files there key) ≡ option_map bare (kept_under files here key)
+  unfolding columns_of
+  key-columns key =
+      found-key key (there.stored ++ files)
+      ∙ (ap (λ (ps : List File). option_map (λ (p : File). p.1) (find (λ (p : File). same_key p.0 key) ps))
+      (map-append bare_file there.stored files
+      ∙ (ap (λ (env : Environment). env.stored ++ map bare_file files) same ∙ sym (map-append bare_file here.stored files)))
+      ∙ sym (found-key key (here.stored ++ files)))
+
+  operand-columns : (o : Operand) → option_map bare (operand_of files there o) ≡ option_map bare (operand_of files here o)
+  operand-columns (operand.Named name) = name-columns name
+  operand-columns (operand.Scan key) = key-columns key
+
+  source-columns : (item : FromItem) → option_map bare_source (source_of files there item) ≡ option_map bare_source (source_of files here item)
+  unfolding bare_source
+  source-columns item = by (operand_of files there item.source) (operand_of files here item.source) (operand-columns item.source)
+    where
+      by : (o p : Option Table) → option_map bare o ≡ option_map bare p
+          → option_map (λ (s : Source). let b : Source = record { alias = s.alias; table = bare s.table } in b) (option_map (λ (t : Table). let s : Source = record { alias = item.alias; table = t } in s) o)
+          ≡ option_map (λ (s : Source). let b : Source = record { alias = s.alias; table = bare s.table } in b) (option_map (λ (t : Table). let s : Source = record { alias = item.alias; table = t } in s) p)
+      by None None e = refl
+      by None (Some t) e = cc
+      by (Some t) None e = cc
+      by (Some t) (Some u) e = ap (option_map (λ (t : Table). let s : Source = record { alias = item.alias; table = t } in s)) e
+
+  both-mapped : (o p : Option Source) (ss ts : Option (List Source)) → option_map bare_source o ≡ option_map bare_source p
+      → option_map (map bare_source) ss ≡ option_map (map bare_source) ts
+      → option_map (map bare_source) (put_before o ss) ≡ option_map (map bare_source) (put_before p ts)
+  both-mapped None None ss ts e f = refl
+  both-mapped None (Some p) ss ts e f = cc
+  both-mapped (Some o) None ss ts e f = cc
+  both-mapped (Some o) (Some p) None None e f = refl
+  both-mapped (Some o) (Some p) None (Some ts) e f = cc
+  both-mapped (Some o) (Some p) (Some ss) None e f = cc
+  both-mapped (Some o) (Some p) (Some ss) (Some ts) e f =
+      let first : bare_source o ≡ bare_source p = cc in
+      let others : map bare_source ss ≡ map bare_source ts = cc in
+      rw (first, others) refl
+
+  sources-columns : (items : List FromItem)
+      → option_map (map bare_source) (each_or_none (source_of files there) items) ≡ option_map (map bare_source) (each_or_none (source_of files here) items)
+  sources-columns [] = refl
+  sources-columns (item ∷ items) =
+      both-mapped (source_of files there item) (source_of files here item) (each_or_none (source_of files there) items) (each_or_none (source_of files here) items)
+      (source-columns item) (sources-columns items)
+
+  items-bare : (sources : List Source) → items_of (map bare_source sources) ≡ items_of sources
+  unfolding bare_source
+  items-bare [] = refl
+  items-bare (s ∷ sources) = ap (λ (rest : List Item). record { alias = s.alias; schema = s.table.schema } ∷ rest) (items-bare sources)
+
+  over-columns : (condition : Option Tree) (emits : List EmitTree) (sources : List Source)
+      → option_map bare (comprehension_over sources condition emits)
+      ≡ option_map (λ (b : Bound). let t : Table = record { schema = b.schema; rows = [] } in t) (bound_in (scope_of (items_of sources)) condition emits)
+  over-columns condition emits sources = by (bound_in (scope_of (items_of sources)) condition emits)
+    where
+      by : (bound : Option Bound) → option_map bare (option_map (λ (b : Bound). let t : Table = record { schema = b.schema; rows = comprehension_rows b (tables_of sources) } in t) bound)
+          ≡ option_map (λ (b : Bound). let t : Table = record { schema = b.schema; rows = [] } in t) bound
+      by None = refl
+      by (Some b) = refl
+
+  comprehension-columns : (condition : Option Tree) (emits : List EmitTree) (ss ts : Option (List Source))
+      → option_map (map bare_source) ss ≡ option_map (map bare_source) ts
+      → option_map bare (option_and_then (λ sources. comprehension_over sources condition emits) ss)
+      ≡ option_map bare (option_and_then (λ sources. comprehension_over sources condition emits) ts)
+  comprehension-columns condition emits None None e = refl
+  comprehension-columns condition emits None (Some ts) e = cc
+  comprehension-columns condition emits (Some ss) None e = cc
+  comprehension-columns condition emits (Some ss) (Some ts) e =
+      let alike : map bare_source ss ≡ map bare_source ts = cc in
+      let items : items_of ss ≡ items_of ts = sym (items-bare ss) ∙ (ap items_of alike ∙ items-bare ts) in
+      over-columns condition emits ss
+      ∙ (ap (λ (its : List Item). option_map (λ (b : Bound). let t : Table = record { schema = b.schema; rows = [] } in t) (bound_in (scope_of its) condition emits)) items
+      ∙ sym (over-columns condition emits ts))
+
+  one-columns : (f : Rows → Rows) (o p : Option Table) → option_map bare o ≡ option_map bare p → option_map bare (of_one f o) ≡ option_map bare (of_one f p)
+  one-columns f None None e = refl
+  one-columns f None (Some p) e = cc
+  one-columns f (Some o) None e = cc
+  one-columns f (Some o) (Some p) e = e
+
+  two-columns : (f : Rows → Rows → Rows) (o p q r : Option Table) → option_map bare o ≡ option_map bare p → option_map bare q ≡ option_map bare r
+      → option_map bare (of_two f o q) ≡ option_map bare (of_two f p r)
+  two-columns f None None q r e g = refl
+  two-columns f None (Some p) q r e g = cc
+  two-columns f (Some o) None q r e g = cc
+  two-columns f (Some o) (Some p) None None e g = refl
+  two-columns f (Some o) (Some p) None (Some r) e g = cc
+  two-columns f (Some o) (Some p) (Some q) None e g = cc
+  two-columns f (Some o) (Some p) (Some q) (Some r) e g = e
+
+  relation-columns : (r : RelTree) → option_map bare (relation_of files there r) ≡ option_map bare (relation_of files here r)
+  relation-columns (tree.Copy o) = operand-columns o
+  relation-columns (tree.Empty schema) = refl
+  relation-columns (tree.Distinct o) = one-columns distinct (operand_of files there o) (operand_of files here o) (operand-columns o)
+  relation-columns (tree.UnionAll o p) =
+      two-columns union_all (operand_of files there o) (operand_of files here o) (operand_of files there p) (operand_of files here p) (operand-columns o) (operand-columns p)
+  relation-columns (tree.Diff o p) =
+      two-columns difference (operand_of files there o) (operand_of files here o) (operand_of files there p) (operand_of files here p) (operand-columns o) (operand-columns p)
+  relation-columns (tree.From items condition emits) =
+      comprehension-columns condition emits (each_or_none (source_of files there) items) (each_or_none (source_of files here) items) (sources-columns items)
+
+  stands-columns : (s : StatementTree) → stands files there s ≡ stands files here s
+  stands-columns tree.Nothing = refl
+  stands-columns (tree.Assign name r) = is_some-same bare (relation_of files there r) (relation_of files here r) (relation-columns r)
+  stands-columns (tree.Store name key) = is_some-same bare (assigned_to there name) (assigned_to here name) (name-columns name)
+
+  named-columns : (name : Name) (o p : Option Table) → option_map bare o ≡ option_map bare p
+      → columns_of (option_map_or (with_name there name) o there) ≡ columns_of (option_map_or (λ (t : Table). with_name here name (bare t)) p here)
+  unfolding columns_of bare_name
+  named-columns name None None e = same
+  named-columns name None (Some p) e = cc
+  named-columns name (Some o) None e = cc
+  named-columns name (Some o) (Some p) e =
+      let alike : bare o ≡ bare p = cc in
+      let assigned : map bare_name there.assigned ≡ map bare_name here.assigned = ap (λ (env : Environment). env.assigned) same in
+      let stored : map bare_file there.stored ≡ map bare_file here.stored = ap (λ (env : Environment). env.stored) same in
+      λ i. record { assigned = (name, alike i) ∷ assigned i; stored = stored i }
+
+  keyed-columns : (key : Key) (o p : Option Table) → option_map bare o ≡ option_map bare p
+      → columns_of (option_map_or (with_key there key) o there) ≡ columns_of (option_map_or (λ (t : Table). with_key here key (bare t)) p here)
+  unfolding columns_of bare_file
+  keyed-columns key None None e = same
+  keyed-columns key None (Some p) e = cc
+  keyed-columns key (Some o) None e = cc
+  keyed-columns key (Some o) (Some p) e =
+      let alike : bare o ≡ bare p = cc in
+      let assigned : map bare_name there.assigned ≡ map bare_name here.assigned = ap (λ (env : Environment). env.assigned) same in
+      let stored : map bare_file there.stored ≡ map bare_file here.stored = ap (λ (env : Environment). env.stored) same in
+      λ i. record { assigned = assigned i; stored = (key, alike i) ∷ stored i }
+
+  after-columns : (s : StatementTree) → columns_of (after files there s) ≡ columns_of (declared files here s)
+  after-columns tree.Nothing = same
+  after-columns (tree.Assign name r) = named-columns name (relation_of files there r) (relation_of files here r) (relation-columns r)
+  after-columns (tree.Store name key) = keyed-columns key (assigned_to there name) (assigned_to here name) (name-columns name)
+
+-- the rest stands for something, told from the columns alone
+all-columns : (files : List File) (rest : List StatementTree) (there here : Environment) → columns_of there ≡ columns_of here
+    → all_stand files there rest ≡ all_declared files here rest
+all-columns files [] there here same = refl
+all-columns files (s ∷ rest) there here same =
+    rw (stands-columns files there here same s, all-columns files rest (after files there s) (declared files here s) (after-columns files there here same s)) refl
+
+pub has_meaning-declared : (files : List File) (script : List StatementTree) → has_meaning files script ≡ all_declared files nothing_yet script
+has_meaning-declared files script = all-columns files script nothing_yet nothing_yet refl
+
+pub all_declared-first : (files : List File) (env : Environment) (s : StatementTree) (rest : List StatementTree) → stands files env s ≡ false
+    → all_declared files env (s ∷ rest) ≡ false
+all_declared-first files env s rest e = rw e refl
+
+pub all_declared-here : (files : List File) (env : Environment) (s : StatementTree) (rest : List StatementTree) → stands files env s ≡ true
+    → all_declared files env (s ∷ rest) ≡ all_declared files (declared files env s) rest
+all_declared-here files env s rest e = rw e refl

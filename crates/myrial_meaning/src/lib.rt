@@ -1,0 +1,37 @@
+//! The meaning of scripts, and an evaluator that computes it as it is defined.
+//!
+//! Stands on `rel_base` for relations and files, and on `myrial_ast` for the trees of scripts and the meaning of
+//! expressions, comprehensions and groups. Nothing here reads text, reads a file or waits.
+//!
+//! Promises: `evaluate` gives what a script stores, each relation's rows in ascending order, or the fault of its run, as
+//! the definitions say; statements that no store needs are not run. `has_meaning` tells whether each name, key and
+//! reference of a script stands for something, which `evaluate` requires. Contracts see a script by `trees_of`.
+//! Not promised: that memory is there; speed, since a comprehension goes over every combination of its items' rows.
+//! The definitions are of the whole language, and the scripts that are evaluated are those that `runs` admits: operands,
+//! and comprehensions that join items by equalities of columns and emit columns.
+//!
+//! Read `specs/Scopes.antt`, `specs/Emits.antt`, `specs/Meaning.antt`, `specs/Needed.antt`, `specs/Faults.antt` and
+//! `specs/Runnable.antt`, then `evaluating.rt`, `statements.rt` and `loops.rt`.
+#![tactic(auto)]
+
+mod binding;
+mod checking;
+mod chosen;
+mod comprehensions;
+mod environment;
+mod evaluating;
+mod holding;
+mod loops;
+mod needed;
+mod scopes;
+mod statements;
+mod stopping;
+
+pub use checking::has_meaning;
+pub use evaluating::evaluate;
+
+#[cfg(test)]
+mod tests;
+
+/// The most candidates of a comprehension, and rows of a relation.
+pub const MOST_CANDIDATES: u32 = 4_194_304;

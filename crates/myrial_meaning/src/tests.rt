@@ -1,0 +1,411 @@
+//! Scripts built as trees, evaluated with ample memory.
+ghost use Rattle.std.specs.Prelude.{◌≡◌, [], ◌∷◌, IsTrue, IfOk, map, length, option_map};
+ghost use Rattle.std.specs.List.{list_all};
+ghost use Rattle.rel_base.specs.declared.values.Value.TheVariants as value;
+ghost use Rattle.rel_base.specs.declared.values.ColType.TheVariants as kind;
+ghost use Rattle.myrial_ast.specs.Trees.{tree_of, emit_tree_of, statement_tree_of, trees_of};
+ghost use Rattle.myrial_meaning.specs.Runnable.{joins_by_equalities, is_join_condition, emits_a_column, runs_statement, runs};
+
+use crate::{evaluate, has_meaning};
+use myrial_ast::{
+    BinOp, ColRef, EmitItem, EmitItems, Expr, FromItem, FromItems, Operand, RelExpr, Script, Stmt,
+};
+use rel_base::{
+    ColType, Column, Files, Key, Memory, Relation, Row, Rows, Schema, Stored, Text, Value,
+};
+use std::alloc::Global;
+use std::process::Abort;
+use std::test::Fail;
+
+/// The row of two numbers.
+fn row_of(alloc: Global, first: i64, second: i64) -> Result<Row, Memory>
+    ensures { IfOk result (λ row. row ≡ value.Int first ∷ value.Int second ∷ []) }
+{
+    let mut row = Row::new(alloc);
+    row.push(Value::Int(first))?;
+    row.push(Value::Int(second))?;
+    Ok(row)
+}
+
+/// The columns `x:int,y:int`.
+fn columns(alloc: Global) -> Result<Schema, Memory>
+    ensures { IfOk result (λ schema. schema ≡ record { name = 120 ∷ []; kind = kind.Int } ∷ record { name = 121 ∷ []; kind = kind.Int } ∷ []) }
+{
+    let mut schema = Schema::new(alloc);
+    let name = Text::of(alloc, "x")?;
+    schema.push(Column {
+        name,
+        kind: ColType::Int,
+    })?;
+    let name = Text::of(alloc, "y")?;
+    schema.push(Column {
+        name,
+        kind: ColType::Int,
+    })?;
+    Ok(schema)
+}
+
+/// The relation `x:int,y:int` of these rows.
+fn relation_of(alloc: Global, pairs: &[(i64, i64)]) -> Result<Relation, Memory> {
+    let schema = columns(alloc)?;
+    let mut rows = Rows::new(alloc);
+    for (first, second) in pairs {
+        if rows.len() == u32::MAX {
+            return Err(Memory);
+        }
+        rows.push(row_of(alloc, *first, *second)?)?;
+    }
+    Ok(Relation::new(schema, rows))
+}
+
+/// The key `public:adhoc:NAME`.
+fn key_of(alloc: Global, name: &str) -> Result<Key, Memory> {
+    Ok(Key {
+        user: Text::of(alloc, "public")?,
+        program: Text::of(alloc, "adhoc")?,
+        name: Text::of(alloc, name)?,
+    })
+}
+
+/// The files of R, with these rows.
+fn files_of(alloc: Global, pairs: &[(i64, i64)]) -> Result<Files, Memory> {
+    let mut files = Files::new(alloc);
+    files.push((key_of(alloc, "R")?, relation_of(alloc, pairs)?))?;
+    Ok(files)
+}
+
+/// `alias.name`
+fn column(alloc: Global, alias: &str, name: &str) -> Result<Expr, Memory> {
+    Ok(Expr::Col(ColRef::OfName(Text::of(alloc, alias)?, Text::of(alloc, name)?)))
+}
+
+/// `left.name = right.name`
+fn equality(alloc: Global, left: (&str, &str), right: (&str, &str)) -> Result<Expr, Memory> {
+    let left = column(alloc, left.0, left.1)?;
+    Expr::binary(alloc, BinOp::Eq, left, column(alloc, right.0, right.1)?)
+}
+
+/// `scan(R) as alias`
+fn item(alloc: Global, alias: &str) -> Result<FromItem, Memory> {
+    Ok(FromItem {
+        source: Operand::Scan(key_of(alloc, "R")?),
+        alias: Text::of(alloc, alias)?,
+    })
+}
+
+/// `NAME = relation;`
+fn assign(alloc: Global, name: &str, relation: RelExpr) -> Result<Stmt, Memory> {
+    Ok(Stmt::Assign(Text::of(alloc, name)?, relation))
+}
+
+/// `store(NAME, KEY);`
+fn store(alloc: Global, name: &str, key: &str) -> Result<Stmt, Memory> {
+    Ok(Stmt::Store(Text::of(alloc, name)?, key_of(alloc, key)?))
+}
+
+/// `NAME = scan(KEY);`
+fn scan(alloc: Global, name: &str, key: &str) -> Result<Stmt, Memory> {
+    let key = key_of(alloc, key)?;
+    assign(alloc, name, RelExpr::Copy(Operand::Scan(key)))
+}
+
+/// What emits these two columns.
+fn emits(alloc: Global, first: (&str, &str), second: (&str, &str)) -> Result<EmitItems, Memory> {
+    let mut emits = EmitItems::new(alloc);
+    emits.push(EmitItem::One(column(alloc, first.0, first.1)?, None))?;
+    emits.push(EmitItem::One(column(alloc, second.0, second.1)?, None))?;
+    Ok(emits)
+}
+
+/// `scan(R) as a, scan(R) as b`
+fn two_items(alloc: Global) -> Result<FromItems, Memory>
+    ensures { IfOk result (λ items. length items ≡ 2) }
+{
+    let mut items = FromItems::new(alloc);
+    items.push(item(alloc, "a")?)?;
+    items.push(item(alloc, "b")?)?;
+    Ok(items)
+}
+
+/// `[from scan(R) as a, scan(R) as b where condition emit a.first, b.second]`
+fn pairs_where(
+    alloc: Global,
+    condition: Option<Expr>,
+    first: &str,
+    second: &str,
+) -> Result<RelExpr, Memory> {
+    let items = two_items(alloc)?;
+    let emits = emits(alloc, ("a", first), ("b", second))?;
+    Ok(RelExpr::From(items, condition, emits))
+}
+
+/// `[from scan(R) as a, scan(R) as b where a.left = b.right emit a.first, b.second]`
+fn join_on(
+    alloc: Global,
+    left: &str,
+    right: &str,
+    first: &str,
+    second: &str,
+) -> Result<RelExpr, Memory> {
+    let condition = equality(alloc, ("a", left), ("b", right))?;
+    pairs_where(alloc, Some(condition), first, second)
+}
+
+/// The script of these two statements.
+fn script_of(alloc: Global, first: Stmt, second: Stmt) -> Result<Script, Memory> {
+    let mut script = Script::new(alloc);
+    script.push(first)?;
+    script.push(second)?;
+    Ok(script)
+}
+
+/// `J = relation; store(J, Out);`
+fn stored_join(alloc: Global, relation: RelExpr) -> Result<Script, Memory> {
+    let first = assign(alloc, "J", relation)?;
+    let second = store(alloc, "J", "Out")?;
+    script_of(alloc, first, second)
+}
+
+/// `name = scan(from); store(name, to);`
+fn stored_scan(alloc: Global, name: &str, from: &str, to: &str) -> Result<Script, Memory> {
+    let first = scan(alloc, name, from)?;
+    let second = store(alloc, name, to)?;
+    script_of(alloc, first, second)
+}
+
+/// Whether it is equalities of columns with `and` between them.
+fn joins_by_equalities(condition: &Expr) -> bool
+    ensures { IsTrue result → IsTrue (joins_by_equalities (tree_of condition.now)) }
+{
+    match condition {
+        Expr::Bin(BinOp::And, left, right) => {
+            joins_by_equalities(left) && joins_by_equalities(right)
+        }
+        Expr::Bin(BinOp::Eq, left, right) => match (&**left, &**right) {
+            (Expr::Col(_), Expr::Col(_)) => true,
+            _ => false,
+        },
+        _ => false,
+    }
+}
+
+/// Whether there is no condition, or such a one.
+fn is_join_condition(condition: &Option<Expr>) -> bool
+    ensures { IsTrue result → IsTrue (is_join_condition (option_map tree_of condition.now)) }
+{
+    match condition {
+        Some(condition) => joins_by_equalities(condition),
+        None => true,
+    }
+}
+
+/// Whether each of the items emits a column.
+fn emit_columns(emits: &[EmitItem]) -> bool
+    ensures { IsTrue result → IsTrue (list_all emits_a_column (map emit_tree_of emits.now)) }
+{
+    for emit in emits {
+        let EmitItem::One(Expr::Col(_), _) = emit else {
+            return false;
+        };
+    }
+    true
+}
+
+/// Whether the evaluator runs the statement.
+fn runs_statement(statement: &Stmt) -> bool
+    ensures { IsTrue result → IsTrue (runs_statement (statement_tree_of statement.now)) }
+{
+    match statement {
+        Stmt::Assign(_, RelExpr::From(_, condition, emits)) => {
+            is_join_condition(condition) && emit_columns(emits.as_slice())
+        }
+        Stmt::Assign(_, RelExpr::Copy(_)) => true,
+        Stmt::Assign(_, _) => false,
+        Stmt::Nothing => true,
+        Stmt::Store(_, _) => true,
+    }
+}
+
+/// Whether the evaluator runs the script.
+fn runs(script: &[Stmt]) -> bool
+    ensures { IsTrue result → IsTrue (runs (trees_of script.now)) }
+{
+    for statement in script {
+        if !runs_statement(statement) {
+            return false;
+        }
+    }
+    true
+}
+
+/// What the script stores.
+fn evaluated(
+    rt: &impl Abort,
+    alloc: Global,
+    script: &Script,
+    files: &Files,
+) -> Result<Stored, Fail> {
+    assert!(rt; runs(script.as_slice()));
+    assert!(rt; has_meaning(alloc, script, files)?);
+    Ok(evaluate(alloc, script, files)?)
+}
+
+/// Whether relation number `i` of the stored ones has just these rows.
+fn has_rows(alloc: Global, stored: &Stored, i: u32, pairs: &[(i64, i64)]) -> Result<bool, Memory> {
+    if i >= stored.len() {
+        return Ok(false);
+    }
+    let wanted = relation_of(alloc, pairs)?;
+    Ok(stored.get(i).1.rows() == wanted.rows())
+}
+
+/// `[.. where a.x = b.y and a.y = b.x emit a.x, b.y]`
+fn join_on_both(alloc: Global) -> Result<RelExpr, Memory> {
+    let first = equality(alloc, ("a", "x"), ("b", "y"))?;
+    let second = equality(alloc, ("a", "y"), ("b", "x"))?;
+    let condition = Expr::binary(alloc, BinOp::And, first, second)?;
+    pairs_where(alloc, Some(condition), "x", "y")
+}
+
+/// `[from scan(R) as a, scan(R) as b, scan(R) as c where a.y = b.x and b.y = c.x emit a.x, c.y]`
+fn chain_of_three(alloc: Global) -> Result<RelExpr, Memory> {
+    let mut items = two_items(alloc)?;
+    items.push(item(alloc, "c")?)?;
+    let first = equality(alloc, ("a", "y"), ("b", "x"))?;
+    let second = equality(alloc, ("b", "y"), ("c", "x"))?;
+    let condition = Expr::binary(alloc, BinOp::And, first, second)?;
+    let emits = emits(alloc, ("a", "x"), ("c", "y"))?;
+    Ok(RelExpr::From(items, Some(condition), emits))
+}
+
+#[test]
+fn a_row_is_listed_as_often_as_it_stands(rt: HostRuntime) -> Result<(), Fail> {
+    let alloc = rt.alloc();
+    let files = files_of(alloc, &[(7, 1), (7, 1), (7, 2), (4, 7), (5, 7)])?;
+    let script = stored_join(alloc, join_on(alloc, "x", "y", "y", "x")?)?;
+    let stored = evaluated(&rt, alloc, &script, &files)?;
+    let rows = [(1, 4), (1, 4), (1, 5), (1, 5), (2, 4), (2, 5)];
+    assert!(rt; has_rows(alloc, &stored, 0, &rows)?);
+    Ok(())
+}
+
+#[test]
+fn a_relation_is_joined_with_itself(rt: HostRuntime) -> Result<(), Fail> {
+    let alloc = rt.alloc();
+    let files = files_of(alloc, &[(1, 2), (2, 3), (2, 3), (3, 1)])?;
+    let script = stored_join(alloc, join_on(alloc, "y", "x", "x", "y")?)?;
+    let stored = evaluated(&rt, alloc, &script, &files)?;
+    let rows = [(1, 3), (1, 3), (2, 1), (2, 1), (3, 2)];
+    assert!(rt; has_rows(alloc, &stored, 0, &rows)?);
+    Ok(())
+}
+
+#[test]
+fn two_equalities_hold_together(rt: HostRuntime) -> Result<(), Fail> {
+    let alloc = rt.alloc();
+    let files = files_of(alloc, &[(2, 2), (1, 2), (1, 1)])?;
+    let script = stored_join(alloc, join_on_both(alloc)?)?;
+    let stored = evaluated(&rt, alloc, &script, &files)?;
+    assert!(rt; has_rows(alloc, &stored, 0, &[(1, 1), (2, 2)])?);
+    Ok(())
+}
+
+#[test]
+fn without_a_condition_every_pair_is_listed(rt: HostRuntime) -> Result<(), Fail> {
+    let alloc = rt.alloc();
+    let files = files_of(alloc, &[(2, 8), (1, 9)])?;
+    let script = stored_join(alloc, pairs_where(alloc, None, "x", "y")?)?;
+    let stored = evaluated(&rt, alloc, &script, &files)?;
+    let rows = [(1, 8), (1, 9), (2, 8), (2, 9)];
+    assert!(rt; has_rows(alloc, &stored, 0, &rows)?);
+    Ok(())
+}
+
+#[test]
+fn three_items_are_joined(rt: HostRuntime) -> Result<(), Fail> {
+    let alloc = rt.alloc();
+    let files = files_of(alloc, &[(1, 2), (2, 3), (3, 1)])?;
+    let script = stored_join(alloc, chain_of_three(alloc)?)?;
+    let stored = evaluated(&rt, alloc, &script, &files)?;
+    assert!(rt; has_rows(alloc, &stored, 0, &[(1, 1), (2, 2), (3, 3)])?);
+    Ok(())
+}
+
+/// `A = scan(R); store(A, K); B = scan(K); store(B, L);`
+fn scanned_again(alloc: Global) -> Result<Script, Memory> {
+    let mut script = stored_scan(alloc, "A", "R", "K")?;
+    if script.len() < 3 {
+        script.push(scan(alloc, "B", "K")?)?;
+        script.push(store(alloc, "B", "L")?)?;
+    }
+    Ok(script)
+}
+
+#[test]
+fn a_stored_key_is_scanned_again(rt: HostRuntime) -> Result<(), Fail> {
+    let alloc = rt.alloc();
+    let files = files_of(alloc, &[(2, 0), (1, 0)])?;
+    let script = scanned_again(alloc)?;
+    let stored = evaluated(&rt, alloc, &script, &files)?;
+    assert!(rt; has_rows(alloc, &stored, 0, &[(1, 0), (2, 0)])?);
+    assert!(rt; has_rows(alloc, &stored, 1, &[(1, 0), (2, 0)])?);
+    Ok(())
+}
+
+/// `A = scan(R); store(A, K); A = [..]; store(A, K);`
+fn assigned_anew(alloc: Global) -> Result<Script, Memory> {
+    let mut script = stored_scan(alloc, "A", "R", "K")?;
+    if script.len() < 3 {
+        script.push(assign(alloc, "A", join_on(alloc, "x", "x", "y", "x")?)?)?;
+        script.push(store(alloc, "A", "K")?)?;
+    }
+    Ok(script)
+}
+
+#[test]
+fn a_later_assignment_hides_an_earlier_one(rt: HostRuntime) -> Result<(), Fail> {
+    let alloc = rt.alloc();
+    let files = files_of(alloc, &[(1, 5), (2, 6)])?;
+    let script = assigned_anew(alloc)?;
+    let stored = evaluated(&rt, alloc, &script, &files)?;
+    assert!(rt; has_rows(alloc, &stored, 0, &[(1, 5), (2, 6)])?);
+    assert!(rt; has_rows(alloc, &stored, 1, &[(5, 1), (6, 2)])?);
+    Ok(())
+}
+
+/// 2,049 rows, of which there are more than 4,194,304 pairs.
+fn many_rows(alloc: Global) -> Result<Files, Memory> {
+    let pairs = vec![in alloc; (3, 4); 2_049]?;
+    files_of(alloc, &pairs)
+}
+
+/// `A = [..]; B = scan(R); store(B, Out);`, where no store needs A.
+fn unneeded_pairs(alloc: Global) -> Result<Script, Memory> {
+    let first = assign(alloc, "A", pairs_where(alloc, None, "x", "y")?)?;
+    let second = scan(alloc, "B", "R")?;
+    let mut script = script_of(alloc, first, second)?;
+    if script.len() < 3 {
+        script.push(store(alloc, "B", "Out")?)?;
+    }
+    Ok(script)
+}
+
+#[test]
+fn what_is_not_needed_is_not_run(rt: HostRuntime) -> Result<(), Fail> {
+    let alloc = rt.alloc();
+    let files = many_rows(alloc)?;
+    let script = unneeded_pairs(alloc)?;
+    let stored = evaluated(&rt, alloc, &script, &files)?;
+    assert_eq!(rt; stored.len(), 1);
+    Ok(())
+}
+
+#[test]
+fn a_column_that_is_not_there_means_nothing(rt: HostRuntime) -> Result<(), Fail> {
+    let alloc = rt.alloc();
+    let files = files_of(alloc, &[(1, 5)])?;
+    let script = stored_join(alloc, join_on(alloc, "x", "z", "x", "x")?)?;
+    assert!(rt; runs(script.as_slice()));
+    assert!(rt; !has_meaning(alloc, &script, &files)?);
+    Ok(())
+}
