@@ -1,0 +1,5 @@
+-- Proofs of the laws.
+mod AnyOrder
+mod RowPermutations
+mod GroupPermutations
+mod MeaningPermutations
