@@ -5,9 +5,25 @@ use Rattle.std.proofs.lemmas.List.{get_or-map, get_or_default, get_or_append_lef
 use Rattle.std.proofs.lemmas.List.Elements.{All-push}
 use Rattle.exchange_channels.specs.declared.messages.Message.{Message}
 use Rattle.exchange_channels.specs.Ports.{PortState}
-use Rattle.exchange_channels.specs.Wirings.{OutletState, IntakeState, HasEachEnd, sent_to}
+use Rattle.exchange_channels.specs.Wirings.{WiringState, OutletState, IntakeState, IsIntakeOf, AreIntakeEnds, HasEachEnd, cells_of, sent_to, untaken}
 use Rattle.exchange_channels.specs.Outlets.{outlet_of, places_of}
 use Rattle.exchange_channels.specs.Keeps.{keeper_with_returned, keeper_with_all, keeper_with_receiver}
+
+-- what is known of intakes that have taken nothing is known of their ends
+module _ (wiring : WiringState) (ins : List IntakeState) (ends : AreIntakeEnds wiring ins) where
+  same_end : (k : ℕ) (d : IntakeState) → k < length ins → get_or (map untaken ins) k (untaken d) ≡ untaken (get_or ins k d)
+  same_end k d below = get_or-map untaken ins k d (untaken d) below
+
+  pub ends_count : length ins ≡ cells_of wiring
+  ends_count = sym (length-map ins untaken) ∙ ends.count
+
+  pub ends_of_wiring : All (IsIntakeOf wiring) ins
+  ends_of_wiring k d below =
+      let of_wiring : IsIntakeOf wiring (untaken (get_or ins k d)) = subst (IsIntakeOf wiring) (same_end k d below) (ends.of_wiring k (untaken d) (omega (arith, length-map ins untaken))) in
+      record { at_its_cell = of_wiring.at_its_cell; same_senders = of_wiring.same_senders }
+
+  pub ends_in_order : (k : ℕ) (d : IntakeState) → k < length ins → (get_or ins k d).cell ≡ k
+  ends_in_order k d below = sym (ap (λ (t : IntakeState). t.cell) (same_end k d below)) ∙ ends.in_order k (untaken d) (omega (arith, length-map ins untaken))
 
 -- ports and keepers of the same channels
 pub same_place : (ports cells : List PortState) → places_of ports ≡ places_of cells → (k : ℕ) (d e : PortState) → k < length cells → (get_or ports k e).place ≡ (get_or cells k d).place
@@ -52,9 +68,9 @@ module _ (cells now : List PortState) (ins : List IntakeState) (taken : IntakeSt
   rest_more rest k d past =
       get_or-set_other now number k new d (λ (same : k ≡ number). omega (arith, length_push ins taken)) ∙ rest k d (omega (arith, length_push ins taken))
 
-pub ends_more : (ins : List IntakeState) (taken : IntakeState) → All (λ (t : IntakeState). HasEachEnd t.wiring.senders t.got) ins → HasEachEnd taken.wiring.senders taken.got
-    → All (λ (t : IntakeState). HasEachEnd t.wiring.senders t.got) (ins ++ taken ∷ [])
-ends_more ins taken all each = All-push (λ (t : IntakeState). HasEachEnd t.wiring.senders t.got) ins taken all each
+pub ends_more : (ins : List IntakeState) (taken : IntakeState) → All (λ (t : IntakeState). HasEachEnd t.senders t.got) ins → HasEachEnd taken.senders taken.got
+    → All (λ (t : IntakeState). HasEachEnd t.senders t.got) (ins ++ taken ∷ [])
+ends_more ins taken all each = All-push (λ (t : IntakeState). HasEachEnd t.senders t.got) ins taken all each
 
 -- the channels of an outlet among the ends are those of the cells
 pub same_places : (cells : List PortState) (outs : List OutletState) → All (λ (o : OutletState). o.wiring.places ≡ places_of cells) outs

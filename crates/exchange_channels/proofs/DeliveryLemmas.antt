@@ -18,8 +18,8 @@ element : {X : Type 0} (xs : List X) (k : ℕ) → k < length xs → X
 element [] k below = absurd (omega arith)
 element (x ∷ xs) k below = x
 
-any_intake : IntakeState
-any_intake = new_intake (record { places = []; senders = 0; capacity = 0 }) 0
+any_intake : PortState → IntakeState
+any_intake port = new_intake port.place 0 0
 
 -- a cell whose keeper knows an inbox with every end mark took just what was sent
 delivered_at : (outs : List OutletState) (taken : IntakeState) (keeper : PortState) (k : ℕ) → IsSettled keeper → keeper.knows.number ≡ length outs
@@ -47,21 +47,21 @@ module _ (cells outlets_back intakes_back : List PortState) (outs : List OutletS
     both k d e below = taken k d e (omega arith) ∙ ap (λ (p : PortState). keeper_with_receiver p (get_or ins k e).got) (back k d below)
 
     pub each_takes : All (λ (p : PortState). p.knows.takes ≡ true) intakes_back
-    each_takes k d below = ap (λ (p : PortState). p.knows.takes) (both k d any_intake (omega arith))
+    each_takes k d below = ap (λ (p : PortState). p.knows.takes) (both k d (any_intake d) (omega arith))
 
     pub returned_at : (k : ℕ) (d : PortState) → k < length cells → (get_or intakes_back k d).knows.returned ≡ map (λ out. sent_to out k) outs
-    returned_at k d below = ap (λ (p : PortState). p.knows.returned) (both k d any_intake below)
+    returned_at k d below = ap (λ (p : PortState). p.knows.returned) (both k d (any_intake d) below)
 
     module _ (number : All (λ (p : PortState). p.knows.number ≡ length outs) cells) where
       number_at : (k : ℕ) (d : PortState) → k < length cells → (get_or intakes_back k d).knows.number ≡ length outs
-      number_at k d below = ap (λ (p : PortState). p.knows.number) (both k d any_intake below) ∙ number k d below
+      number_at k d below = ap (λ (p : PortState). p.knows.number) (both k d (any_intake d) below) ∙ number k d below
 
       pub all_returned : All (λ (p : PortState). length p.knows.returned ≡ p.knows.number) intakes_back
       all_returned k d below =
           ap length (returned_at k d (omega arith)) ∙ length-map outs (λ (out : OutletState). sent_to out k) ∙ sym (number_at k d (omega arith))
 
       pub all_delivered : All IsSettled intakes_back → ((k : ℕ) (e : IntakeState) → k < length ins → (get_or ins k e).cell ≡ k)
-          → All (λ (t : IntakeState). HasEachEnd t.wiring.senders t.got) ins → All (λ (t : IntakeState). t.wiring.senders ≡ length outs) ins → All (IsDelivered outs) ins
+          → All (λ (t : IntakeState). HasEachEnd t.senders t.got) ins → All (λ (t : IntakeState). t.senders ≡ length outs) ins → All (IsDelivered outs) ins
       all_delivered settled in_order ends senders k e below =
           let here : k < length cells = omega arith in
           let there : k < length intakes_back = omega arith in

@@ -5,3 +5,4 @@ pub mod ClosingLemmas
 pub mod WiringLemmas
 pub mod DeliveryLemmas
 pub mod NumberedLemmas
+pub mod WorkedRows

@@ -51,6 +51,23 @@ idle_fits inbox seat reader keeper pass = record {
   if_keeps = λ no. absurd (true≢false (sym no));
 }
 
+-- a sender's pass and the keeper's fit as they did, whatever waits and was got, and whatever the pass knows of that
+module _ (inbox : InboxState Message) (queue got : List Message) (seat : ℕ → ℕ) (pass : ℕ) (v : View) where
+  sender_stays : (takes : Bool) (taken : List Message) → FitsSender inbox seat pass v → FitsSender (record inbox { queue = queue; got = got }) seat pass (record v { takes = takes; got = taken })
+  sender_stays takes taken fits = record { made = fits.made; seated = fits.seated; same_capacity = fits.same_capacity; same_sent = fits.same_sent }
+
+  keeper_stays : (keeper : ℕ) (takes : Bool) (sent taken : List Message) → FitsKeeper inbox seat keeper pass v
+      → FitsKeeper (record inbox { queue = queue; got = got }) seat keeper pass (record v { takes = takes; sent = sent; got = taken })
+  keeper_stays keeper takes sent taken fits = record {
+    is_keeper = fits.is_keeper;
+    same_capacity = fits.same_capacity;
+    same_senders = fits.same_senders;
+    seats_to_come = fits.seats_to_come;
+    seats_returned = fits.seats_returned;
+    same_returned = fits.same_returned;
+    returned_made = fits.returned_made;
+  }
+
 -- the channel begins as an inbox without senders in which nothing may wait
 pub begins : IsInboxOf [] (first_view ∷ [])
 begins = record {
@@ -138,15 +155,7 @@ sends n pass v message may from running room items views free h at = (w, after, 
           same_sent = ap (λ l. l ++ message ∷ []) (sym of_mine) ∙ sym (sent_by-with_sent_same sender_of h.inbox message (omega (arith, mine.made, h.is_inbox.lists))) ∙ ap (sent_by next) from;
         };
         if_takes = λ yes. receiver_fits pass w (let r = (h.fits pass v at).if_takes yes in record { is_reader = r.is_reader; same_got = r.same_got });
-        if_keeps = λ yes. let k = keeper_fits pass v ((h.fits pass v at).if_keeps yes) in record {
-          is_keeper = k.is_keeper;
-          same_capacity = k.same_capacity;
-          same_senders = k.same_senders;
-          seats_to_come = k.seats_to_come;
-          seats_returned = k.seats_returned;
-          same_returned = k.same_returned;
-          returned_made = k.returned_made;
-        };
+        if_keeps = λ yes. keeper_stays next next.queue next.got h.seat pass v h.keeper w.takes w.sent w.got (keeper_fits pass v ((h.fits pass v at).if_keeps yes));
       } others;
     }
 
@@ -163,20 +172,6 @@ takes pass v may message items views h at = (w, after, refl)
     next : InboxState Message
     next = with_taken h.inbox
 
-    sender_fits : (j : ℕ) (u : View) → FitsSender h.inbox h.seat j u → FitsSender next h.seat j u
-    sender_fits j u theirs = record { made = theirs.made; seated = theirs.seated; same_capacity = theirs.same_capacity; same_sent = theirs.same_sent }
-
-    keeper_fits : (j : ℕ) (u : View) → FitsKeeper h.inbox h.seat h.keeper j u → FitsKeeper next h.seat h.keeper j u
-    keeper_fits j u theirs = record {
-      is_keeper = theirs.is_keeper;
-      same_capacity = theirs.same_capacity;
-      same_senders = theirs.same_senders;
-      seats_to_come = theirs.seats_to_come;
-      seats_returned = theirs.seats_returned;
-      same_returned = theirs.same_returned;
-      returned_made = theirs.returned_made;
-    }
-
     after : IsInboxOf items (set views pass w)
     after = record {
       inbox = next;
@@ -186,24 +181,16 @@ takes pass v may message items views h at = (w, after, refl)
       is_inbox = IsInbox-with_taken sender_of is_end h.inbox h.is_inbox;
       waits = ap (drop 1) h.waits;
       fits = each_set (Fits next h.seat h.reader h.keeper) views pass w record {
-        if_sends = λ yes. let s = (h.fits pass v at).if_sends yes in record { made = s.made; seated = s.seated; same_capacity = s.same_capacity; same_sent = s.same_sent };
+        if_sends = λ yes. sender_stays h.inbox next.queue next.got h.seat pass v w.takes w.got ((h.fits pass v at).if_sends yes);
         if_takes = λ _. record {
           is_reader = mine.is_reader;
           same_got = ap (λ l. l ++ message ∷ []) mine.same_got ∙ ap (λ q. h.inbox.got ++ take 1 q) (sym h.waits);
         };
-        if_keeps = λ yes. let k = (h.fits pass v at).if_keeps yes in record {
-          is_keeper = k.is_keeper;
-          same_capacity = k.same_capacity;
-          same_senders = k.same_senders;
-          seats_to_come = k.seats_to_come;
-          seats_returned = k.seats_returned;
-          same_returned = k.same_returned;
-          returned_made = k.returned_made;
-        };
+        if_keeps = λ yes. keeper_stays h.inbox next.queue next.got h.seat pass v h.keeper w.takes w.sent w.got ((h.fits pass v at).if_keeps yes);
       } (λ j u other e. let theirs = h.fits j u e in record {
-        if_sends = λ yes. sender_fits j u (theirs.if_sends yes);
+        if_sends = λ yes. sender_stays h.inbox next.queue next.got h.seat j u u.takes u.got (theirs.if_sends yes);
         if_takes = λ yes. absurd (other ((theirs.if_takes yes).is_reader ∙ sym mine.is_reader));
-        if_keeps = λ yes. keeper_fits j u (theirs.if_keeps yes);
+        if_keeps = λ yes. keeper_stays h.inbox next.queue next.got h.seat j u h.keeper u.takes u.sent u.got (theirs.if_keeps yes);
       });
     }
 
@@ -332,17 +319,9 @@ gives_receiver pass v may items views h at = record {
   waits = h.waits;
   fits = each_push (Fits h.inbox h.seat (length views) h.keeper) (set views pass (without_receiver v)) (receiver_view v.got)
       (each_set (Fits h.inbox h.seat (length views) h.keeper) views pass (without_receiver v) record {
-        if_sends = λ yes. let s = (h.fits pass v at).if_sends yes in record { made = s.made; seated = s.seated; same_capacity = s.same_capacity; same_sent = s.same_sent };
+        if_sends = λ yes. sender_stays h.inbox h.inbox.queue h.inbox.got h.seat pass v false [] ((h.fits pass v at).if_sends yes);
         if_takes = λ yes. absurd (true≢false (sym yes));
-        if_keeps = λ yes. let k = (h.fits pass v at).if_keeps yes in record {
-          is_keeper = k.is_keeper;
-          same_capacity = k.same_capacity;
-          same_senders = k.same_senders;
-          seats_to_come = k.seats_to_come;
-          seats_returned = k.seats_returned;
-          same_returned = k.same_returned;
-          returned_made = k.returned_made;
-        };
+        if_keeps = λ yes. keeper_stays h.inbox h.inbox.queue h.inbox.got h.seat pass v h.keeper false v.sent [] ((h.fits pass v at).if_keeps yes);
       } (λ j u other e. let theirs = h.fits j u e in record {
         if_sends = theirs.if_sends;
         if_takes = λ yes. absurd (other ((theirs.if_takes yes).is_reader ∙ sym mine.is_reader));
@@ -448,17 +427,9 @@ receiver_returns pass v other w taking items views h at two at' = record {
 
     both_fits : Fits h.inbox h.seat pass h.keeper pass both
     both_fits = record {
-      if_sends = λ yes. let s = (h.fits pass v at).if_sends yes in record { made = s.made; seated = s.seated; same_capacity = s.same_capacity; same_sent = s.same_sent };
+      if_sends = λ yes. sender_stays h.inbox h.inbox.queue h.inbox.got h.seat pass v true w.got ((h.fits pass v at).if_sends yes);
       if_takes = λ _. record { is_reader = refl; same_got = theirs.same_got };
-      if_keeps = λ yes. let k = (h.fits pass v at).if_keeps yes in record {
-        is_keeper = k.is_keeper;
-        same_capacity = k.same_capacity;
-        same_senders = k.same_senders;
-        seats_to_come = k.seats_to_come;
-        seats_returned = k.seats_returned;
-        same_returned = k.same_returned;
-        returned_made = k.returned_made;
-      };
+      if_keeps = λ yes. keeper_stays h.inbox h.inbox.queue h.inbox.got h.seat pass v h.keeper true v.sent w.got ((h.fits pass v at).if_keeps yes);
     }
 
     others : (j : ℕ) (u : View) → j ≢ pass → get_elem? views j ≡ some u → j ≢ other → Fits h.inbox h.seat pass h.keeper j u

@@ -1,22 +1,19 @@
 -- A cell takes a message more.
-use Rattle.std.proofs.Common.{◌≡◌, ℕ, ◌+◌, ◌<◌, ◌||◌, Bool, true, false, List, [], ◌∷◌, ◌++◌, length, set, Result, Ok, Err, Option, Some, None, ◌^◌, refl, sym, ◌∙◌, ap, subst, ⊎_elim, append-nil, arith, get_or-set_other, length-set}
+use Rattle.std.proofs.Common.{◌≡◌, ℕ, ◌||◌, Bool, true, false, List, [], ◌∷◌, ◌++◌, set, Result, Ok, Err, refl, sym, ◌∙◌, ap, subst, ⊎_elim, append-nil, arith, get_or-set_other, length-set}
 use Rattle.std.specs.Prelude.{IfOk, IsOkAnd, option_map}
 use Rattle.std.specs.List.{list_any}
 use Rattle.std.proofs.lemmas.Bool.Decides.{eqb_tells}
 use Rattle.std.proofs.lemmas.List.Elements.{filter_map-append}
 use Rattle.std.proofs.lemmas.List.Folds.{list_any-append}
-use Rattle.std.proofs.lemmas.List.Sums.{sum_by-append}
 use Rattle.rel_base.specs.declared.failure.Memory.{Memory}
-use Rattle.rel_io.specs.Outside.{capped_sum}
-use Rattle.rel_io.specs.declared.taps.Totals.{Totals}
 use Rattle.shuffle_core.specs.Inbox.{of_sender}
 use Rattle.shuffle_core.proofs.InboxLemmas.{of_sender-push_same, of_sender-push_other}
 use Rattle.exchange_channels.specs.declared.messages.Batch.{Batch}
 use Rattle.exchange_channels.specs.declared.messages.Message.{Message}
-use Rattle.exchange_channels.specs.Messages.{sender_of, is_end, batch_of, end_of, drained_of, rows_of, row_count}
+use Rattle.exchange_channels.specs.Messages.{sender_of, is_end, batch_of, end_of, drained_of}
 use Rattle.exchange_channels.specs.CellRule.{with_taken}
 use Rattle.exchange_channels.specs.Ports.{PortState}
-use Rattle.exchange_channels.specs.Intakes.{IsTaking, told}
+use Rattle.exchange_channels.specs.Intakes.{IsTaking}
 
 drained_of-batch : (got : List Message) (sender : ℕ) (batch : Batch) → drained_of (got ++ batch_of sender batch ∷ []) ≡ drained_of got ++ (sender, batch) ∷ []
 drained_of-batch got sender batch = filter_map-append (λ (m : Message). option_map (λ b. (m.sender, b)) m.batch) got (batch_of sender batch ∷ [])

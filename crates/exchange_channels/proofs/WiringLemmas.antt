@@ -1,11 +1,12 @@
 -- How a wiring is made of its keepers.
-use Rattle.std.proofs.Common.{◌≡◌, ℕ, zero, suc, ◌+◌, ◌<◌, List, [], ◌∷◌, length, get_or, map, replicate, All, Some, refl, sym, ◌∙◌, ap, arith}
+use Rattle.std.proofs.Common.{◌≡◌, ℕ, zero, suc, ◌+◌, ◌<◌, ◌≤◌, ⊎_elim, List, [], ◌∷◌, ◌++◌, length, get_or, map, replicate, All, Some, refl, sym, ◌∙◌, ap, arith}
 use Rattle.std.specs.Prelude.{slice_get}
-use Rattle.std.proofs.lemmas.List.{length-map}
+use Rattle.std.proofs.lemmas.Bool.{cases_lt}
+use Rattle.std.proofs.lemmas.List.{length-map, length_push, get_or_append_left, get_or_push}
 use Rattle.std.proofs.lemmas.List.Elements.{All-map}
 use Rattle.exchange_channels.specs.CellRule.{with_next_sender}
 use Rattle.exchange_channels.specs.Ports.{PortState}
-use Rattle.exchange_channels.specs.Wirings.{new_outlet}
+use Rattle.exchange_channels.specs.Wirings.{IntakeState, new_outlet}
 use Rattle.exchange_channels.specs.Outlets.{outlet_of, places_of, wiring_of, IsRunning}
 use Rattle.exchange_channels.specs.Keeps.{IsKept, receiver_of, next_sender_of, keeper_with_sender}
 use Rattle.exchange_channels.proofs.PortLemmas.{map_same, map-map}
@@ -19,6 +20,15 @@ pub slice_get-map : {X Y : Type 0} (f : X → Y) (xs : List X) (k : ℕ) (d : X)
 slice_get-map f [] k d below = absurd (omega arith)
 slice_get-map f (x ∷ xs) zero d below = refl
 slice_get-map f (x ∷ xs) (suc k) d below = slice_get-map f xs k d (omega arith)
+
+-- an intake more, of the next cell
+pub in_order_more : (intakes : List IntakeState) (intake : IntakeState) → intake.cell ≡ length intakes → ((k : ℕ) (d : IntakeState) → k < length intakes → (get_or intakes k d).cell ≡ k)
+    → (k : ℕ) (d : IntakeState) → k < length (intakes ++ intake ∷ []) → (get_or (intakes ++ intake ∷ []) k d).cell ≡ k
+in_order_more intakes intake next before k d below =
+    ⊎_elim
+    (λ (less : k < length intakes). ap (λ (i : IntakeState). i.cell) (get_or_append_left intakes (intake ∷ []) d k less) ∙ before k d less)
+    (λ (past : length intakes ≤ k). let there : length intakes ≡ k = omega (arith, length_push intakes intake) in
+    ap (λ (i : IntakeState). i.cell) (get_or_push intakes intake d k there) ∙ next ∙ there) (cases_lt k (length intakes))
 
 -- each cell made one more sender
 module _ (old new : List PortState) (long : length new ≡ length old) (each : (k : ℕ) (d : PortState) → k < length old → get_or new k d ≡ keeper_with_sender (get_or old k d)) where

@@ -1,5 +1,5 @@
 -- What an intake keeps.
-use Rattle.std.specs.Prelude.{◌≡◌, ℕ, ◌<◌, Bool, true, false, List, [], length, Result, replicate, Option, None, Some, IfOk, slice_get, slice_index_or}
+use Rattle.std.specs.Prelude.{◌≡◌, ℕ, ◌<◌, Bool, true, false, List, [], length, Result, replicate, Option, None, Some, IfOk, slice_index_or}
 use Rattle.std.specs.List.{list_any}
 use Rattle.rel_base.specs.declared.failure.Memory.{Memory}
 use Rattle.rel_io.specs.Outside.{capped_sum}
@@ -8,22 +8,16 @@ use Rattle.shuffle_core.specs.Inbox.{of_sender}
 use Rattle.exchange_channels.specs.declared.messages.Batch.{Batch}
 use Rattle.exchange_channels.specs.Messages.{sender_of, is_end, drained_of}
 use Rattle.exchange_channels.specs.Ports.{PortState}
-use Rattle.exchange_channels.specs.Wirings.{WiringState, HasEachEnd}
+use Rattle.exchange_channels.specs.Wirings.{IntakeState}
 
--- the port is that of this cell of the wiring
-abbrev pub IsOfCell : WiringState → ℕ → PortState → Type 0
-IsOfCell wiring cell port = slice_get wiring.places cell ≡ Some port.place
+-- the intake of a cell whose end is this port
+abbrev pub intake_of : ℕ → ℕ → PortState → IntakeState
+intake_of senders cell port = record { place = port.place; senders = senders; cell = cell; got = port.knows.got }
 
 -- an intake has taken nothing, and noted no end mark
-pub record IsIntake (wiring : WiringState) (cell : ℕ) (port : PortState) (ended : List Bool) : Type 0 where
-  pub of_cell : IsOfCell wiring cell port
+pub record IsIntake (senders : ℕ) (port : PortState) (ended : List Bool) : Type 0 where
   pub nothing_taken : port.knows.got ≡ []
-  pub no_end_noted : ended ≡ replicate wiring.senders false
-
--- the end of an intake has taken the end mark of each sender
-pub record IsIntakeEnd (wiring : WiringState) (cell : ℕ) (port : PortState) : Type 0 where
-  pub of_cell : IsOfCell wiring cell port
-  pub each_end : HasEachEnd wiring.senders port.knows.got
+  pub no_end_noted : ended ≡ replicate senders false
 
 -- what was taken so far, the senders whose end marks were noted, and the batches that were kept, or that memory was refused
 pub record TakingState : Type 0 where

@@ -3,11 +3,12 @@
 --   WiringState                        the channels of the cells, the number of senders, the capacity
 --   OutletState, IntakeState           what an outlet has sent to each cell; what an intake has taken
 --   new_outlet, new_intake             an outlet that has sent nothing; an intake that has taken nothing
+--   AreIntakes                         these are all intakes of a wiring, in order, and have taken nothing
 --   AreOutletEnds, AreIntakeEnds       these are all the ends of a wiring, in order
---   HasEachEnd got senders             the end mark of each sender was taken
+--   HasEachEnd senders got             the end mark of each sender was taken
 --   ReceiptState, receipt_of           what a receipt shows
 --   IsDelivered outs taken             a cell took of each sender what it sent there, in its order, and nothing else
-use Rattle.std.specs.Prelude.{◌≡◌, ℕ, ◌<◌, IsTrue, List, [], ◌∷◌, ◌++◌, length, map, replicate, All, slice_index_or, slice_set}
+use Rattle.std.specs.Prelude.{◌≡◌, ℕ, ◌<◌, IsTrue, List, [], ◌∷◌, ◌++◌, length, map, replicate, All, Some, slice_get, slice_index_or, slice_set}
 use Rattle.std.specs.List.{list_any, range_with_len}
 use Rattle.shuffle_core.specs.Inbox.{of_sender}
 use Rattle.exchange_channels.specs.declared.messages.Batch.{Batch}
@@ -27,9 +28,11 @@ pub record OutletState : Type 0 where
   pub sender : ℕ
   pub sent : List (List Message)
 
--- an intake: its wiring, the number of its cell, and what it took
+-- an intake: the channel of its cell, which is one of one wiring alone, the number of senders there, the number of its
+-- cell, and what it took
 pub record IntakeState : Type 0 where
-  pub wiring : WiringState
+  pub place : Place
+  pub senders : ℕ
   pub cell : ℕ
   pub got : List Message
 
@@ -47,8 +50,8 @@ abbrev pub new_outlet : WiringState → ℕ → OutletState
 new_outlet wiring sender = record { wiring = wiring; sender = sender; sent = replicate (cells_of wiring) [] }
 
 -- the intake of a cell that has taken nothing
-abbrev pub new_intake : WiringState → ℕ → IntakeState
-new_intake wiring cell = record { wiring = wiring; cell = cell; got = [] }
+abbrev pub new_intake : Place → ℕ → ℕ → IntakeState
+new_intake place senders cell = record { place = place; senders = senders; cell = cell; got = [] }
 
 -- what an outlet sent to a cell
 abbrev pub sent_to : OutletState → ℕ → List Message
@@ -72,11 +75,29 @@ pub record AreOutletEnds (wiring : WiringState) (outs : List OutletState) : Type
   pub of_wiring : All (λ out. out.wiring ≡ wiring) outs
   pub in_order : (k : ℕ) (d : OutletState) → k < length outs → (slice_index_or outs k d).sender ≡ k
 
+-- the intake is at the channel of its cell among these
+abbrev pub IsAtItsCell : List Place → IntakeState → Type 0
+IsAtItsCell places intake = slice_get places intake.cell ≡ Some intake.place
+
+-- the intake is one of the wiring: it is at the channel of its cell there, and waits for the end mark of each sender
+pub record IsIntakeOf (wiring : WiringState) (intake : IntakeState) : Type 0 where
+  pub at_its_cell : IsAtItsCell wiring.places intake
+  pub same_senders : intake.senders ≡ wiring.senders
+
+-- these are all intakes of the wiring, in order of their cells, and have taken nothing
+pub record AreIntakes (wiring : WiringState) (intakes : List IntakeState) : Type 0 where
+  pub count : length intakes ≡ cells_of wiring
+  pub of_wiring : All (IsIntakeOf wiring) intakes
+  pub in_order : (k : ℕ) (d : IntakeState) → k < length intakes → (slice_index_or intakes k d).cell ≡ k
+  pub nothing_taken : All (λ intake. intake.got ≡ []) intakes
+
+-- the intake before it took anything
+abbrev pub untaken : IntakeState → IntakeState
+untaken taken = record taken { got = [] }
+
 -- these are the ends of all intakes of the wiring, in order of their cells
-pub record AreIntakeEnds (wiring : WiringState) (ins : List IntakeState) : Type 0 where
-  pub count : length ins ≡ cells_of wiring
-  pub of_wiring : All (λ taken. taken.wiring ≡ wiring) ins
-  pub in_order : (k : ℕ) (d : IntakeState) → k < length ins → (slice_index_or ins k d).cell ≡ k
+abbrev pub AreIntakeEnds : WiringState → List IntakeState → Type 0
+AreIntakeEnds wiring ins = AreIntakes wiring (map untaken ins)
 
 -- what the receipt shows: for each cell and each sender, the batches that the sender sent there
 abbrev pub receipt_of : WiringState → List OutletState → ReceiptState
@@ -96,4 +117,4 @@ pub record IsWired (keep : WiringState) (outlets : List OutletState) (intakes : 
   pub same_senders : keep.senders ≡ senders
   pub same_capacity : keep.capacity ≡ capacity
   pub all_outlets : outlets ≡ map (new_outlet keep) (range_with_len 0 senders)
-  pub all_intakes : intakes ≡ map (new_intake keep) (range_with_len 0 cells)
+  pub all_intakes : AreIntakes keep intakes

@@ -1,7 +1,7 @@
 //! The closing of a wiring: all ends come back to the keeper, and what was taken is known to be what was sent.
 ghost use Rattle.std.specs.Prelude.{◌≡◌, ℕ, ◌<◌, true, [], length, map, All, slice_index_or};
 ghost use Rattle.exchange_channels.specs.Ports.{PortState};
-ghost use Rattle.exchange_channels.specs.Wirings.{AreOutletEnds, AreIntakeEnds, IsDelivered, HasEachEnd, receipt_of, sent_to, IntakeState, OutletState};
+ghost use Rattle.exchange_channels.specs.Wirings.{AreOutletEnds, AreIntakeEnds, IsAtItsCell, IsDelivered, HasEachEnd, receipt_of, sent_to, IntakeState, OutletState};
 ghost use Rattle.exchange_channels.specs.Outlets.{places_of};
 ghost use Rattle.exchange_channels.specs.Keeps.{IsSettled, keeper_with_returned, keeper_with_all, keeper_with_receiver};
 
@@ -57,8 +57,8 @@ fn close_cells(cells: &mut [KeepPort], outs: OutletEnds, ins: IntakeEnds)
     requires outs_places { All (λ out. out.wiring.places ≡ places_of cells.old) outs.items }
     requires outs_in_order { (k : ℕ) (e : OutletState) → k < length outs.items → (slice_index_or outs.items k e).sender ≡ k }
     requires ins_count { length ins.items ≡ length cells.old }
-    requires ins_places { All (λ taken. taken.wiring.places ≡ places_of cells.old) ins.items }
-    requires ins_senders { All (λ taken. taken.wiring.senders ≡ length outs.items) ins.items }
+    requires ins_places { All (IsAtItsCell (places_of cells.old)) ins.items }
+    requires ins_senders { All (λ taken. taken.senders ≡ length outs.items) ins.items }
     requires ins_in_order { (k : ℕ) (e : IntakeState) → k < length ins.items → (slice_index_or ins.items k e).cell ≡ k }
     ensures returned { (k : ℕ) (d : PortState) → k < length cells.old → (slice_index_or cells.new k d).knows.returned ≡ map (λ out. sent_to out k) outs.items }
     ensures delivered { All (IsDelivered outs.items) ins.items }
@@ -96,16 +96,16 @@ fn take_ports_back(cells: &mut [KeepPort], ports: Vec<SendPort>)
 /// Takes back the intakes of all cells, in order. Each has taken every end mark.
 fn take_intakes_back(cells: &mut [KeepPort], ins: IntakeEnds)
     requires count { length ins.items ≡ length cells.old }
-    requires places { All (λ taken. taken.wiring.places ≡ places_of cells.old) ins.items }
+    requires places { All (IsAtItsCell (places_of cells.old)) ins.items }
     requires in_order { (k : ℕ) (e : IntakeState) → k < length ins.items → (slice_index_or ins.items k e).cell ≡ k }
     ensures cells { (k : ℕ) (d : PortState) (e : IntakeState) → k < length cells.old → slice_index_or cells.new k d ≡ keeper_with_receiver (slice_index_or cells.old k d) (slice_index_or ins.items k e).got }
-    ensures ends { All (λ taken. HasEachEnd taken.wiring.senders taken.got) ins.items }
+    ensures ends { All (λ taken. HasEachEnd taken.senders taken.got) ins.items }
 {
     for taken in ins.items {
         let IntakeEnd {
             number,
+            senders: _,
             port,
-            wiring: _,
         } = taken;
         cells[number as usize].take_receiver_back(port);
     }

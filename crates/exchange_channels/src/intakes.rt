@@ -4,58 +4,57 @@ ghost use Rattle.rel_io.specs.Outside.{capped_sum};
 ghost use Rattle.exchange_channels.specs.declared.messages.Message.{Message as Sent};
 ghost use Rattle.exchange_channels.specs.Messages.{drained_of, rows_of};
 ghost use Rattle.exchange_channels.specs.CellRule.{with_taken};
-ghost use Rattle.exchange_channels.specs.Wirings.{HasEachEnd};
+ghost use Rattle.exchange_channels.specs.Wirings.{HasEachEnd, untaken};
 ghost use Rattle.exchange_channels.specs.Intakes.{told};
 
 use crate::ports::TakePort;
-use crate::wiring::Keep;
 use crate::{Batch, Drained, Message};
 use rel_base::Memory;
 use rel_io::Tap;
 use std::alloc::Global;
 use std::marker::Model;
 use std::mem;
-use std::snapshot::Snapshot;
 use std::sync::Wait;
 
-/// The intake of one cell. Contracts see its wiring, the number of its cell, and what it took, which is nothing so far.
+/// The intake of one cell. Contracts see the cell's channel, the number of senders, the number of the cell, and what was
+/// taken, which is nothing so far.
 #[derive(Drop)]
 pub struct Intake {
     pub(crate) number: u32,
+    pub(crate) senders: u32,
     pub(crate) port: TakePort,
     /// A place for each sender, to note its end mark in. So an end mark needs no memory.
     pub(crate) ended: Vec<bool>,
-    pub(crate) wiring: Snapshot<Keep>,
 }
 
 impl Model for Intake {
     ghost use Rattle.exchange_channels.specs.Wirings.{IntakeState};
-    ghost use Rattle.exchange_channels.specs.Intakes.{IsIntake};
+    ghost use Rattle.exchange_channels.specs.Intakes.{intake_of, IsIntake};
 
     ghost Value = { IntakeState };
 
-    ghost view = { λ i. record { wiring = i.wiring.value; cell = i.number; got = i.port.knows.got } };
+    ghost view = { λ i. intake_of i.senders i.number i.port };
 
-    ghost invariant = { λ i. IsIntake i.wiring.value i.number i.port i.ended.items };
+    ghost invariant = { λ i. IsIntake i.senders i.port i.ended.items };
 }
 
 /// An intake that has taken the end mark of every sender. Contracts see it as they see an intake.
 #[derive(Drop)]
 pub struct IntakeEnd {
     pub(crate) number: u32,
+    pub(crate) senders: u32,
     pub(crate) port: TakePort,
-    pub(crate) wiring: Snapshot<Keep>,
 }
 
 impl Model for IntakeEnd {
-    ghost use Rattle.exchange_channels.specs.Wirings.{IntakeState};
-    ghost use Rattle.exchange_channels.specs.Intakes.{IsIntakeEnd};
+    ghost use Rattle.exchange_channels.specs.Wirings.{IntakeState, HasEachEnd};
+    ghost use Rattle.exchange_channels.specs.Intakes.{intake_of};
 
     ghost Value = { IntakeState };
 
-    ghost view = { λ i. record { wiring = i.wiring.value; cell = i.number; got = i.port.knows.got } };
+    ghost view = { λ i. intake_of i.senders i.number i.port };
 
-    ghost invariant = { λ i. IsIntakeEnd i.wiring.value i.number i.port };
+    ghost invariant = { λ i. HasEachEnd i.senders i.port.knows.got };
 }
 
 impl Intake {
@@ -67,17 +66,16 @@ impl Intake {
         alloc: Global,
         tap: &mut T,
     ) -> (IntakeEnd, Result<Drained, Memory>)
-        ensures wiring { result.0.wiring ≡ self.wiring }
-        ensures cell { result.0.cell ≡ self.cell }
-        ensures ends { HasEachEnd self.wiring.senders result.0.got }
+        ensures same { untaken result.0 ≡ self }
+        ensures ends { HasEachEnd self.senders result.0.got }
         ensures drained { IfOk result.1 (λ drained. drained ≡ drained_of result.0.got) }
         ensures tap { T.totals tap.new ≡ record (T.totals tap.old) { got = capped_sum (T.totals tap.old).got (rows_of result.0.got) } }
     {
         let Intake {
             number,
+            senders,
             port,
             ended,
-            wiring,
         } = self;
         // A sum that was read fits its type, so that a cell without batches leaves it as it was.
         let _before = tap.totals();
@@ -95,8 +93,8 @@ impl Intake {
                 } = taking;
                 let end = IntakeEnd {
                     number,
+                    senders,
                     port,
-                    wiring,
                 };
                 return (end, drained);
             }

@@ -10,7 +10,8 @@
 //!
 //! Promises: a send appends its batch to what its outlet sent to that cell, and `end` one end mark to each cell's list; a
 //! drained cell has the end mark of each sender, and its batches are all that it took, also told to its tap; once all ends
-//! are back, what each cell took is, of each sender, what the sender sent there, in its order, and nothing else.
+//! are back, what each cell took is, of each sender, what the sender sent there, in its order, and nothing else. Ends may go
+//! to other threads.
 //! Not promised: that a call which may wait returns, the order of two senders' batches, that memory is there for `wire`
 //! and for what a cell keeps. Sends, end marks and the closing take none.
 //!
@@ -26,6 +27,8 @@ mod messages;
 mod outlets;
 mod ports;
 mod rule;
+#[cfg(test)]
+mod tests;
 mod wiring;
 
 pub use closing::{Receipt, Receipts, close};

@@ -1,8 +1,7 @@
 //! Wirings: an inbox for each cell, an outlet for each sender, and the keeper of them all.
 ghost use Rattle.std.specs.Prelude.{◌≡◌, ℕ, ◌+◌, ◌<◌, ◌≤◌, [], length, map, All, IfOk, OnOk, slice_index_or};
-ghost use Rattle.exchange_channels.specs.Wirings.{new_outlet, new_intake, cells_of, IsWired};
+ghost use Rattle.exchange_channels.specs.Wirings.{new_outlet, new_intake, AreIntakes, IsWired};
 ghost use Rattle.exchange_channels.specs.Ports.{PortState};
-ghost use Rattle.exchange_channels.specs.Intakes.{IsOfCell};
 ghost use Rattle.exchange_channels.specs.Outlets.{places_of, wiring_of};
 ghost use Rattle.exchange_channels.specs.Keeps.{IsKept, receiver_of, next_sender_of, keeper_with_sender};
 ghost use Rattle.std.specs.List.{range_with_len};
@@ -12,7 +11,6 @@ use crate::{Intake, Outlet};
 use rel_base::{Items, Memory};
 use std::alloc::Global;
 use std::marker::Model;
-use std::snapshot::Snapshot;
 
 /// Outlets, in the order of their senders.
 pub type Outlets = Items<Outlet>;
@@ -160,27 +158,26 @@ fn make_intakes(alloc: Global, keep: &Keep, receivers: Vec<TakePort>) -> Result<
     requires count { length receivers.items ≤ 64 }
     requires places { keep.now.places ≡ places_of receivers.items }
     requires fresh { All (λ port. port.knows.got ≡ []) receivers.items }
-    ensures { IfOk result (λ intakes. intakes ≡ map (new_intake keep.now) (range_with_len 0 (cells_of keep.now))) }
+    ensures { IfOk result (AreIntakes keep.now) }
 {
     let mut intakes = Intakes::new(alloc);
     for port in receivers {
-        let intake = make_intake(alloc, keep, intakes.len(), port)?;
+        let intake = make_intake(alloc, intakes.len(), keep.senders, port)?;
         intakes.push(intake)?;
     }
     Ok(intakes)
 }
 
-/// The intake of a cell of a wiring, whose receiver is this.
-fn make_intake(alloc: Global, keep: &Keep, number: u32, port: TakePort) -> Result<Intake, Memory>
-    requires place { IsOfCell keep.now number port }
-    requires fresh { port.knows.got ≡ [] }
-    ensures { IfOk result (λ intake. intake ≡ new_intake keep.now number) }
+/// The intake of a cell, whose receiver is this, with so many senders.
+fn make_intake(alloc: Global, number: u32, senders: u32, port: TakePort) -> Result<Intake, Memory>
+    requires { port.knows.got ≡ [] }
+    ensures { IfOk result (λ intake. intake ≡ new_intake port.place senders number) }
 {
-    let ended = Vec::from_elem(alloc, false, keep.senders as usize)?;
+    let ended = Vec::from_elem(alloc, false, senders as usize)?;
     Ok(Intake {
         number,
+        senders,
         port,
         ended,
-        wiring: Snapshot::of(keep),
     })
 }

@@ -1,10 +1,24 @@
-use Rattle.std.proofs.Common.{◌≡◌, ◌∙◌, List, length, map, sym, ap, arith}
+use Rattle.std.proofs.Common.{◌≡◌, ◌∙◌, List, length, map, get_or, sym, ap, subst, arith}
 use Rattle.std.proofs.lemmas.List.{with_items_is, length-map}
 use Rattle.exchange_channels.specs.Messages.{batches_of}
-use Rattle.exchange_channels.specs.Ports.{PortState}
-use Rattle.exchange_channels.specs.Wirings.{WiringState, cells_of}
+use Rattle.exchange_channels.specs.Ports.{Place, PortState}
+use Rattle.exchange_channels.specs.Wirings.{WiringState, IsAtItsCell, cells_of}
+use Rattle.exchange_channels.specs.Outlets.{places_of}
+use Rattle.exchange_channels.proofs.ClosingLemmas.{ends_of_wiring, ends_in_order}
 use Rattle.exchange_channels.proofs.DeliveryLemmas.{receipt-from_keepers}
 use Rattle.exchange_channels.proofs.closing.close.Goals as goal
+
+pub close_cells-requires-clause-ins_places : goal.close_cells-requires-clause-ins_places
+close_cells-requires-clause-ins_places c k d below =
+    let places : c.args.keep.places ≡ places_of c.as_mut_slice.result.now =
+    sym (ap (λ (w : WiringState). w.places) c.keep.view_is) ∙ sym (ap places_of c.as_mut_slice.ensures.value) in
+    subst (λ (places : List Place). IsAtItsCell places (get_or c.args.ins.items k d)) places (ends_of_wiring c.args.keep c.args.ins.items c.requires.ins k d below).at_its_cell
+
+pub close_cells-requires-clause-ins_senders : goal.close_cells-requires-clause-ins_senders
+close_cells-requires-clause-ins_senders c k d below = (ends_of_wiring c.args.keep c.args.ins.items c.requires.ins k d below).same_senders ∙ sym c.requires.outs.count
+
+pub close_cells-requires-clause-ins_in_order : goal.close_cells-requires-clause-ins_in_order
+close_cells-requires-clause-ins_in_order c = ends_in_order c.args.keep c.args.ins.items c.requires.ins
 
 pub returns-clause-receipt : goal.returns-clause-receipt
 returns-clause-receipt c =

@@ -1,13 +1,13 @@
-use Rattle.std.proofs.Common.{◌≡◌, ◌∙◌, List, All, sym, subst}
+use Rattle.std.proofs.Common.{◌∙◌, List, All, sym, subst}
 use Rattle.exchange_channels.specs.Ports.{Place}
-use Rattle.exchange_channels.specs.Wirings.{IntakeState}
+use Rattle.exchange_channels.specs.Wirings.{IsAtItsCell}
 use Rattle.exchange_channels.specs.Keeps.{IsSettled}
 use Rattle.exchange_channels.proofs.DeliveryLemmas.{places_stay, each_takes, all_returned, returned_at, all_delivered}
 use Rattle.exchange_channels.proofs.closing.close_cells.Goals as goal
 
 pub take_intakes_back-requires-clause-places : goal.take_intakes_back-requires-clause-places
 take_intakes_back-requires-clause-places c =
-    subst (λ (places : List Place). All (λ (t : IntakeState). t.wiring.places ≡ places) c.args.ins.items)
+    subst (λ (places : List Place). All (IsAtItsCell places) c.args.ins.items)
     (sym (places_stay c.args.cells.now c.take_outlets_back.new.cells c.take_outlets_back.new.cells c.args.outs.items c.args.ins.items c.take_outlets_back.auto.cells c.take_outlets_back.auto.cells c.requires.ins_count c.take_outlets_back.ensures))
     c.requires.ins_places
 

@@ -19,5 +19,5 @@ loop-taken-preserved c =
     record {
       back = back_more c.args.cells.now c.loop-taken.cells c.loop-taken.yielded c.in-Some.taken c.taken.inside.number c.index-cells-number.result c.take_receiver_back.new.self here within c.index-cells-number.is back c.loop-taken.invariant.back c.loop-taken.invariant.rest;
       rest = rest_more c.args.cells.now c.loop-taken.cells c.loop-taken.yielded c.in-Some.taken c.taken.inside.number c.index-cells-number.result c.take_receiver_back.new.self here within c.index-cells-number.is back c.loop-taken.invariant.rest;
-      ends = ends_more c.loop-taken.yielded c.in-Some.taken c.loop-taken.invariant.ends (subst (λ (t : IntakeState). HasEachEnd t.wiring.senders t.got) c.taken.view_is c.taken.invariant.each_end);
+      ends = ends_more c.loop-taken.yielded c.in-Some.taken c.loop-taken.invariant.ends (subst (λ (t : IntakeState). HasEachEnd t.senders t.got) c.taken.view_is c.taken.invariant);
     }

@@ -9,5 +9,5 @@ abbrev pub invariant-loop-taken : goal.invariant-loop-taken
 invariant-loop-taken l = record {
   back : (k : ℕ) (d : PortState) (e : IntakeState) → k < length l.yielded → get_or l.cells k d ≡ keeper_with_receiver (get_or l.initial.cells k d) (get_or l.yielded k e).got;
   rest : (k : ℕ) (d : PortState) → length l.yielded ≤ k → get_or l.cells k d ≡ get_or l.initial.cells k d;
-  ends : All (λ (taken : IntakeState). HasEachEnd taken.wiring.senders taken.got) l.yielded;
+  ends : All (λ (taken : IntakeState). HasEachEnd taken.senders taken.got) l.yielded;
 }
