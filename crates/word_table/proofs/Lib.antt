@@ -1,0 +1,5 @@
+pub mod TableLemmas
+pub mod SortKeyLemmas
+pub mod WordLemmas
+pub mod BuildLemmas
+pub mod WorkedRows

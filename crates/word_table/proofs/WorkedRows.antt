@@ -1,0 +1,106 @@
+-- Worked cases of this crate's words, each proved by computing.
+use Rattle.std.proofs.Common.{◌≡◌, ℕ, pos, negsuc, true, false, List, [], ◌∷◌, refl, codes, arith}
+use Rattle.std.specs.Prelude.{Contains}
+use Rattle.std.specs.declared.cmp.Ordering.TheVariants.{Less}
+use Rattle.std.proofs.lemmas.List.Elements.{All-nil, All-cons, All-contains}
+use Rattle.std.proofs.lemmas.List.Kept.{AllPairs-cons}
+use Rattle.rel_base.specs.declared.values.Value.{Value}
+use Rattle.rel_base.specs.declared.values.Value.TheVariants as variant
+use Rattle.word_table.specs.WordTables.{word_at, cut_into}
+use Rattle.word_table.specs.Words.{text_order, strings_in, IsDictionaryOf, IsHeld, word_of}
+
+-- one part, whose rows have a number and a string each
+abbrev part : List (List Value)
+part =
+    (variant.Int (pos 7) ∷ variant.Str (codes "b") ∷ [])
+    ∷ (variant.Int (pos 8) ∷ variant.Str (codes "a") ∷ [])
+    ∷ (variant.Int (pos 7) ∷ variant.Str [] ∷ [])
+    ∷ (variant.Int (pos 9) ∷ variant.Str (codes "b") ∷ [])
+    ∷ []
+
+-- its strings, as often as they stand, and once in byte order
+pub strings_of_the_part : strings_in (part ∷ []) ≡ codes "b" ∷ codes "a" ∷ [] ∷ codes "b" ∷ []
+strings_of_the_part = refl
+
+abbrev strings : List (List ℕ)
+strings = [] ∷ codes "a" ∷ codes "b" ∷ []
+
+-- one string is below another
+abbrev below : List ℕ → List ℕ → Type 0
+below s t = text_order s t ≡ Less
+
+-- its dictionary: each string once, in byte order
+pub dictionary_of_the_part : IsDictionaryOf (part ∷ []) strings
+dictionary_of_the_part =
+    let found = strings_in (part ∷ []) in
+    record {
+      ascending =
+          AllPairs-cons below [] (codes "a" ∷ codes "b" ∷ []) (All-cons (below []) (codes "a") (codes "b" ∷ []) refl (All-cons (below []) (codes "b") [] refl (All-nil (below []))))
+          (AllPairs-cons below (codes "a") (codes "b" ∷ []) (All-cons (below (codes "a")) (codes "b") [] refl (All-nil (below (codes "a"))))
+          (AllPairs-cons below (codes "b") [] (All-nil (below (codes "b"))) (λ i j d before within. absurd (omega arith))));
+      whole = λ s. (
+        All-contains (Contains found) strings s
+            (All-cons (Contains found) [] (codes "a" ∷ codes "b" ∷ []) (2, omega arith, refl)
+            (All-cons (Contains found) (codes "a") (codes "b" ∷ []) (1, omega arith, refl)
+            (All-cons (Contains found) (codes "b") [] (0, omega arith, refl) (All-nil (Contains found))))),
+        All-contains (Contains strings) found s
+            (All-cons (Contains strings) (codes "b") (codes "a" ∷ [] ∷ codes "b" ∷ []) (2, omega arith, refl)
+            (All-cons (Contains strings) (codes "a") ([] ∷ codes "b" ∷ []) (1, omega arith, refl)
+            (All-cons (Contains strings) [] (codes "b" ∷ []) (0, omega arith, refl)
+            (All-cons (Contains strings) (codes "b") [] (2, omega arith, refl) (All-nil (Contains strings)))))),
+      );
+    }
+
+-- the words of its strings are their ranks
+pub word-empty : word_of strings (variant.Str []) ≡ 0
+word-empty = refl
+
+pub word-a : word_of strings (variant.Str (codes "a")) ≡ 1
+word-a = refl
+
+pub word-b : word_of strings (variant.Str (codes "b")) ≡ 2
+word-b = refl
+
+-- and a string that is none of them has none
+pub word-c : IsHeld strings (variant.Str (codes "c")) → ⊥
+word-c held =
+    let BelowC : List ℕ → Type 0 = λ s. text_order s (codes "c") ≡ Less in
+    let below_itself : text_order (codes "c") (codes "c") ≡ Less =
+    All-contains BelowC strings (codes "c")
+    (All-cons BelowC [] (codes "a" ∷ codes "b" ∷ []) refl
+    (All-cons BelowC (codes "a") (codes "b" ∷ []) refl
+    (All-cons BelowC (codes "b") [] refl (All-nil BelowC)))) held in
+    cc
+
+-- the least and the greatest number of 64 bits, and those round 0
+pub word-least : word_of strings (variant.Int (negsuc 9223372036854775807)) ≡ 0
+word-least = refl
+
+pub word-minus_one : word_of strings (variant.Int (negsuc 0)) ≡ 9223372036854775807
+word-minus_one = refl
+
+pub word-zero : word_of strings (variant.Int (pos 0)) ≡ 9223372036854775808
+word-zero = refl
+
+pub word-greatest : word_of strings (variant.Int (pos 9223372036854775807)) ≡ 18446744073709551615
+word-greatest = refl
+
+pub word-false : word_of strings (variant.Bool false) ≡ 0
+word-false = refl
+
+pub word-true : word_of strings (variant.Bool true) ≡ 1
+word-true = refl
+
+-- a string comes before each longer one that begins with it
+pub shorter_first : text_order (codes "a") (codes "ab") ≡ Less
+shorter_first = refl
+
+-- four words as rows of two columns, and three rows of none
+pub two_rows : cut_into 2 2 (5 ∷ 6 ∷ 7 ∷ 8 ∷ []) ≡ (5 ∷ 6 ∷ []) ∷ (7 ∷ 8 ∷ []) ∷ []
+two_rows = refl
+
+pub rows_without_columns : cut_into 3 0 [] ≡ [] ∷ [] ∷ [] ∷ []
+rows_without_columns = refl
+
+pub second_of_the_first : word_at ((5 ∷ 6 ∷ []) ∷ (7 ∷ 8 ∷ []) ∷ []) 0 1 ≡ 6
+second_of_the_first = refl

@@ -1,0 +1,4 @@
+-- The words of this crate, lowest first.
+pub mod WordTables
+pub mod Words
+pub mod SortKeys

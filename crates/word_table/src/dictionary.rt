@@ -1,0 +1,118 @@
+//! Dictionaries: the strings of rows, in byte order, and the words of values.
+ghost use Rattle.std.specs.Prelude.{◌≡◌, ◌↔◌, All, Contains, FitsSigned, IsSome, IfSome, IfOk};
+ghost use Rattle.std.specs.Int.{w64};
+ghost use Rattle.std.specs.Option.{SomeIff};
+ghost use Rattle.std.specs.Ordering.{nat_cmp};
+ghost use Rattle.rel_base.specs.Relations.{type_of};
+ghost use Rattle.rel_base.specs.Values.{value_order};
+ghost use Rattle.rel_base.specs.declared.values.Value.{Value as Datum};
+ghost use Rattle.word_table.specs.Words.{IsAscending, IsDictionaryOf, rank, int_word, word_of, HasWord, IsHeld, IsWordOf};
+
+use crate::entries::{Entry, entries_of};
+use crate::gathering::strings_of_parts;
+use crate::keyed::Keyed;
+use rel_base::{ColType, Memory, Parts, Value};
+use std::alloc::Global;
+use std::marker::Model;
+
+/// The strings of rows, each once and in ascending byte order, which contracts see as the list of the strings.
+///
+/// A value has a word under a dictionary: an int is its number plus 2^63, a boolean 0 or 1, and a string its rank among
+/// the strings. Words of one type compare as their values do; words of two types may coincide.
+#[derive(Drop)]
+pub struct Dictionary {
+    entries: Vec<Entry>,
+}
+
+impl Model for Dictionary {
+    ghost use Rattle.std.specs.Prelude.{List, ℕ};
+    ghost use Rattle.word_table.specs.Words.{IsAscending};
+
+    ghost Value = { List (List ℕ) };
+
+    ghost view = { λ d. d.entries.items };
+
+    ghost invariant = { λ d. IsAscending d.entries.items };
+}
+
+impl Dictionary {
+    /// The dictionary of all strings of the parts. Ints and booleans take no room in it.
+    pub fn build(alloc: Global, parts: &Parts) -> Result<Dictionary, Memory>
+        ensures strings { IfOk result (IsDictionaryOf parts.now) }
+        ensures held { IfOk result (λ made. All (All (All (IsHeld made))) parts.now) }
+    {
+        let mut strings = strings_of_parts(alloc, parts)?;
+        strings.sort_unstable();
+        strings.dedup();
+        let entries = entries_of(alloc, strings.as_slice())?;
+        Ok(Dictionary { entries })
+    }
+
+    /// The word of a value; `None` where it is a string that is not in the dictionary.
+    pub fn word(&self, value: &Value) -> Option<u64>
+        ensures some { IsSome result ↔ IsHeld self.now value.now }
+        ensures word { IfSome result (IsWordOf self.now value.now (type_of value.now)) }
+        ensures ascending { IsAscending self.now }
+    {
+        let _strings = &self.entries;
+        match value {
+            Value::Int(number) => Some(number.abs_diff(i64::MIN)),
+            Value::Str(text) => self.rank(text.as_str()),
+            Value::Bool(truth) => Some(u64::from(*truth)),
+        }
+    }
+
+    /// The value of this type with this word.
+    pub fn value(&self, alloc: Global, kind: ColType, word: u64) -> Result<Value, Memory>
+        requires { (v : Datum) × IsWordOf self.now v kind word }
+        ensures value { IfOk result (λ made. IsWordOf self.now made kind word) }
+        ensures undoes { IfOk result (λ made. (v : Datum) → IsWordOf self.now v kind word → made ≡ v) }
+    {
+        match kind {
+            ColType::Int => Ok(Value::Int(int_of(word))),
+            ColType::Str => {
+                let text = self.entries[word as usize].copy_text(alloc)?;
+                Ok(Value::Str(text))
+            }
+            ColType::Bool => Ok(Value::Bool(word == 1)),
+        }
+    }
+
+    /// How many strings of the dictionary are below this one, where it is one of them.
+    fn rank(&self, text: &str) -> Option<u64>
+        ensures { SomeIff result (Contains self.now text.now) (rank self.now text.now) }
+    {
+        let sought = Keyed::of(text);
+        let found = self
+            .entries
+            .as_slice()
+            .binary_search_by(|entry| entry.compare(&sought));
+        match found {
+            Ok(place) => Some(place as u64),
+            Err(_) => None,
+        }
+    }
+}
+
+/// Law: words of one type compare as their values do.
+pub fn words_keep_order(dictionary: &Dictionary, value: &Value, other: &Value)
+    requires typed { type_of value.now ≡ type_of other.now }
+    requires value_has_word { HasWord dictionary.now value.now }
+    requires other_has_word { HasWord dictionary.now other.now }
+    ensures { nat_cmp (word_of dictionary.now value.now) (word_of dictionary.now other.now) ≡ value_order value.now other.now }
+{
+    let _strings = &dictionary.entries;
+}
+
+/// The number with this word.
+fn int_of(word: u64) -> i64
+    ensures fits { FitsSigned w64 result }
+    ensures word { int_word result ≡ word }
+{
+    const ZERO: u64 = 1 << 63;
+    if word >= ZERO {
+        (word - ZERO) as i64
+    } else {
+        i64::MIN + word as i64
+    }
+}

@@ -1,0 +1,75 @@
+//! The strings of a dictionary, each beside its key.
+ghost use Rattle.std.specs.Prelude.{◌≡◌, IfOk};
+ghost use Rattle.word_table.specs.Words.{text_order};
+
+use crate::keyed::Keyed;
+use rel_base::{Duplicate, Memory, Text};
+use std::alloc::Global;
+use std::cmp::Ordering;
+use std::marker::Model;
+
+/// A string that a dictionary owns, beside its key. Contracts see it as the string's bytes.
+#[derive(Drop)]
+pub(crate) struct Entry {
+    key: u64,
+    text: Text,
+}
+
+impl Model for Entry {
+    ghost use Rattle.std.specs.Prelude.{List, ℕ};
+    ghost use Rattle.word_table.specs.SortKeys.{IsKeyOf};
+
+    ghost Value = { List ℕ };
+
+    ghost view = { λ e. e.text };
+
+    ghost invariant = { λ e. IsKeyOf e.text e.key };
+}
+
+impl Entry {
+    /// A copy of the string beside its key.
+    pub(crate) fn of(alloc: Global, string: &Keyed<'_>) -> Result<Entry, Memory>
+        ensures { IfOk result (λ made. made ≡ string.now) }
+    {
+        let text = Text::of(alloc, string.as_str())?;
+        Ok(Entry {
+            key: string.key(),
+            text,
+        })
+    }
+
+    /// A copy of the string.
+    pub(crate) fn copy_text(&self, alloc: Global) -> Result<Text, Memory>
+        ensures { IfOk result (λ made. made ≡ self.now) }
+    {
+        self.text.copy(alloc)
+    }
+
+    /// How this string compares to the other, by bytes.
+    pub(crate) fn compare(&self, other: &Keyed<'_>) -> Ordering
+        ensures { result ≡ text_order self.now other.now }
+    {
+        let key = other.key();
+        if self.key < key {
+            Ordering::Less
+        } else if key < self.key {
+            Ordering::Greater
+        } else if key % 2 == 0 {
+            Ordering::Equal
+        } else {
+            self.text.as_str().cmp(other.as_str())
+        }
+    }
+}
+
+/// Copies of the strings beside their keys, in their order.
+pub(crate) fn entries_of(alloc: Global, strings: &[Keyed<'_>]) -> Result<Vec<Entry>, Memory>
+    ensures { IfOk result (λ made. made.items ≡ strings.now) }
+{
+    let mut entries = Vec::with_capacity(alloc, strings.len())?;
+    for string in strings {
+        let entry = Entry::of(alloc, string)?;
+        entries.push(entry)?;
+    }
+    Ok(entries)
+}

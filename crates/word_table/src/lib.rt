@@ -1,0 +1,24 @@
+//! Flat words in place of values, under a dictionary that keeps their order.
+//!
+//! Stands on `rel_base`. Nothing here reads, writes or waits. A dictionary is built once over all rows that are to be
+//! joined; each value then has a word of 64 bits, and words of one type compare as their values do. A table is rows of
+//! such words in one flat list, so that a join compares numbers that stand side by side.
+//!
+//! Promises: a dictionary has exactly the strings of the rows that it was built over, each once and in byte order; a
+//! word is undone by `value`; a table has the words of its rows, row by row.
+//! Not promised: that memory is there, nor anything of words of two types, which may coincide.
+//!
+//! Read `specs/Words.antt` and `specs/WordTables.antt`, then `dictionary.rt` and `tables.rt`.
+#![tactic(auto)]
+
+mod dictionary;
+mod entries;
+mod gathering;
+mod keyed;
+mod keys;
+mod tables;
+#[cfg(test)]
+mod tests;
+
+pub use dictionary::{Dictionary, words_keep_order};
+pub use tables::Table;
