@@ -1,5 +1,10 @@
 mod PieceLemmas
 mod ReadingLemmas
-mod RequestLemmas
-mod VerdictLemmas
+mod StepLemmas
+mod OutputLemmas
+mod OneAnswerLemmas
+mod ScriptLemmas
+mod FormLemmas
+mod ScanLemmas
+mod RunLemmas
 mod WorkedRows

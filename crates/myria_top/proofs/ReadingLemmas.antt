@@ -1,5 +1,5 @@
 -- What the first bytes of a file show of what the file comes to.
-use Rattle.std.proofs.Common.{◌≡◌, ℕ, ◌+◌, ◌<◌, ◌≤◌, min, Bool, true, false, cond, List, length, take, Option, Some, None, refl, sym, ◌∙◌, ap, subst, arith, nat_lt}
+use Rattle.std.proofs.Common.{◌≡◌, ℕ, ◌+◌, ◌<◌, ◌≤◌, min, Bool, false, cond, List, length, take, Option, Some, None, refl, sym, ◌∙◌, ap, subst, arith, nat_lt}
 use Rattle.std.specs.Option.{option_map_or}
 use Rattle.std.proofs.lemmas.Bool.{lt-ltb, false_from_ne_true, ltb-true}
 use Rattle.std.proofs.lemmas.List.{take_all, length-take}
@@ -7,7 +7,7 @@ use Rattle.rel_io.specs.Outside.{Content, IsGiven}
 use Rattle.rel_io.specs.Outside as outside
 use Rattle.myria_top.specs.declared.outcomes.Outcome.{Outcome}
 use Rattle.myria_top.specs.Reading.{file_step}
-use Rattle.myria_top.specs.Steps.{Step, untold, refused, goes, IfTold}
+use Rattle.myria_top.specs.Steps.{Step, refused, goes, IfTold}
 
 not_less : (a b : ℕ) → b ≤ a → nat_lt a b ≡ false
 not_less a b h = false_from_ne_true (nat_lt a b) (λ e. let less : a < b = ltb-true a b e in absurd (omega arith))

@@ -1,58 +1,110 @@
--- Worked runs, each proved by computing: what the words and the files come to.
-use Rattle.std.proofs.Common.{◌≡◌, ℕ, cond, List, [], ◌∷◌, ◌++◌, Some, None, codes, refl}
+-- Worked runs, each proved by computing: what scripts come to over their files.
+use Rattle.std.proofs.Common.{◌≡◌, ℕ, cond, true, false, List, [], ◌∷◌, Some, None, codes, refl}
 use Rattle.std.specs.Str.{bytes_eq}
+use Rattle.std.specs.Fmt.{digits}
 use Rattle.relation_csv.proofs.OnLiterals.{files_on_literals}
+use Rattle.rel_base.specs.declared.names.Key.{Key}
 use Rattle.rel_io.specs.Outside.{Content, missing, there}
-use Rattle.myria_top.specs.declared.asked.Request.{Request}
+use Rattle.myrial_ast.specs.declared.operators.BinOp.TheVariants as op
+use Rattle.myrial_ast.specs.declared.expressions.ColRef.TheVariants as ref
+use Rattle.myrial_ast.specs.declared.relations.FromItem.{FromItem}
+use Rattle.myrial_ast.specs.declared.relations.Operand.TheVariants as operand
+use Rattle.myrial_ast.specs.Trees.{Name, Tree, StatementTree, Nothing, Assign, Store, Copy, Distinct, From, Bin, Col, One}
+use Rattle.myrial_lexer.specs.declared.faults.LexWhat.TheVariants as lexical
+use Rattle.myrial_parser.specs.declared.faults.What.TheVariants as many
 use Rattle.myria_top.specs.declared.outcomes.Outcome.TheVariants as outcome
 use Rattle.myria_top.specs.declared.outcomes.Part.TheVariants as part
-use Rattle.myria_top.specs.Outcomes.{line_of, status_of}
-use Rattle.myria_top.specs.Requests.{adhoc_key, is_reserved, request_of}
+use Rattle.myria_top.specs.Forms.{is_built}
+use Rattle.myria_top.specs.Outcomes.{line_of}
 use Rattle.myria_top.specs.Steps.{goes, refused}
-use Rattle.myria_top.specs.Verdicts.{text_step}
+use Rattle.myria_top.specs.Verdicts.{printed_step}
 
--- a shelf of two files
-abbrev shelf_of : List ℕ → List ℕ → List ℕ → List ℕ → List ℕ → Content
-shelf_of first first_bytes second second_bytes name =
-    cond (bytes_eq name first) (there first_bytes) (cond (bytes_eq name second) (there second_bytes) missing)
+abbrev adhoc : Name → Key
+adhoc name = record { user = codes "public"; program = codes "adhoc"; name = name }
+
+-- a shelf of one file
+abbrev shelf_of : List ℕ → List ℕ → List ℕ → Content
+shelf_of file bytes name = cond (bytes_eq name file) (there bytes) missing
 
 abbrev words : List (List ℕ)
 words = codes "myria" ∷ codes "q" ∷ []
 
-abbrev three_rows : List ℕ
-three_rows = codes "x:int,y:int\n3,1\n1,2\n2,5\n"
+-- ---- a scan that is stored
 
-pub request-of_the_example : request_of (codes "A = scan(R); store(A, Out);\n") ≡ Some (record { scanned = adhoc_key (codes "R"); stored = adhoc_key (codes "Out") })
-unfolding request_of is_reserved
-request-of_the_example = refl
-
-pub request-of_another_script : request_of (codes "A = scan(R)") ≡ None
-unfolding request_of is_reserved
-request-of_another_script = refl
-
-pub request-of_a_reserved_name : request_of (codes "A = scan(R); store(A, From);") ≡ None
-unfolding request_of is_reserved
-request-of_a_reserved_name = refl
+-- A = scan(R); store(A, Out);
+abbrev scan_and_store : List StatementTree
+scan_and_store = Assign (codes "A") (Copy (operand.Scan (adhoc (codes "R")))) ∷ Store (codes "A") (adhoc (codes "Out")) ∷ []
 
 -- the rows come out in order, under their line and their header
-pub text-of_the_example : text_step words (shelf_of (codes "q") (codes "A = scan(R); store(A, Out);") (codes "public:adhoc:R.csv") three_rows)
+pub printed-scan_and_store : printed_step (shelf_of (codes "public:adhoc:R.csv") (codes "x:int,y:int\n3,1\n1,2\n2,5\n")) scan_and_store
     ≡ goes (codes "-- store public:adhoc:Out 3 rows\nx:int,y:int\n1,2\n2,5\n3,1\n")
-unfolding request_of is_reserved files_on_literals
-text-of_the_example = refl
+unfolding files_on_literals
+printed-scan_and_store = refl
 
-pub text-without_a_script : text_step words (shelf_of (codes "p") [] (codes "public:adhoc:R.csv") three_rows) ≡ refused outcome.NoScript
-text-without_a_script = refl
+pub printed-without_a_relation : printed_step (shelf_of (codes "public:adhoc:S.csv") []) scan_and_store ≡ refused (outcome.NoRelation (adhoc (codes "R")))
+printed-without_a_relation = refl
 
-pub text-without_a_relation : text_step words (shelf_of (codes "q") (codes "A = scan(R); store(A, Out);") (codes "public:adhoc:S.csv") three_rows) ≡ refused (outcome.NoRelation (adhoc_key (codes "R")))
-unfolding request_of is_reserved
-text-without_a_relation = refl
+pub printed-of_a_short_row : printed_step (shelf_of (codes "public:adhoc:R.csv") (codes "x:int,y:int\n1,2\n3\n")) scan_and_store ≡ refused (outcome.NotBuilt part.Relation)
+unfolding files_on_literals
+printed-of_a_short_row = refl
 
-pub text-of_a_short_row : text_step words (shelf_of (codes "q") (codes "A = scan(R); store(A, Out);") (codes "public:adhoc:R.csv") (codes "x:int,y:int\n1,2\n3\n")) ≡ refused (outcome.NotBuilt part.Relation)
-unfolding request_of is_reserved files_on_literals
-text-of_a_short_row = refl
+-- ---- a relation joined with itself
 
-pub line-of_no_script : line_of words outcome.NoScript ≡ codes "myria: no script q\n"
-line-of_no_script = refl
+abbrev column : Name → Name → Tree
+column alias name = Col (ref.OfName alias name)
 
-pub line-of_no_relation : line_of words (outcome.NoRelation (adhoc_key (codes "R"))) ≡ codes "myria: no relation public:adhoc:R\n"
-line-of_no_relation = refl
+abbrev item : Name → FromItem
+item alias = record { source = operand.Scan (adhoc (codes "R")); alias = alias }
+
+-- J = [from scan(R) as a, scan(R) as b where a.y = b.x emit a.x, b.y]; store(J, Out);
+abbrev join_with : Name → List StatementTree
+join_with name =
+    Assign (codes "J") (From (item (codes "a") ∷ item (codes "b") ∷ []) (Some (Bin op.Eq (column (codes "a") name) (column (codes "b") (codes "x"))))
+    (One (column (codes "a") (codes "x")) None ∷ One (column (codes "b") (codes "y")) None ∷ []))
+    ∷ Nothing ∷ Store (codes "J") (adhoc (codes "Out")) ∷ []
+
+abbrev edges : List ℕ → Content
+edges = shelf_of (codes "public:adhoc:R.csv") (codes "x:int,y:int\n1,2\n2,3\n2,3\n3,1\n")
+
+pub printed-join : printed_step edges (join_with (codes "y")) ≡ goes (codes "-- store public:adhoc:Out 5 rows\nx:int,y:int\n1,3\n1,3\n2,1\n2,1\n3,2\n")
+unfolding files_on_literals
+printed-join = refl
+
+-- a column that isn't in the header of its item
+pub printed-join_of_no_column : printed_step edges (join_with (codes "z")) ≡ refused (outcome.NotBuilt part.Relation)
+unfolding files_on_literals
+printed-join_of_no_column = refl
+
+-- ---- what is built
+
+pub built-join : is_built (join_with (codes "y")) ≡ true
+built-join = refl
+
+pub built-another_name : is_built (Assign (codes "A") (Copy (operand.Scan (adhoc (codes "R")))) ∷ Store (codes "B") (adhoc (codes "Out")) ∷ []) ≡ false
+built-another_name = refl
+
+pub built-distinct : is_built (Assign (codes "A") (Distinct (operand.Scan (adhoc (codes "R")))) ∷ Store (codes "A") (adhoc (codes "Out")) ∷ []) ≡ false
+built-distinct = refl
+
+pub built-nothing : is_built [] ≡ false
+built-nothing = refl
+
+-- ---- lines on standard error
+
+pub line-no_script : line_of words outcome.NoScript ≡ codes "myria: no script q\n"
+line-no_script = refl
+
+pub line-no_relation : line_of words (outcome.NoRelation (adhoc (codes "R"))) ≡ codes "myria: no relation public:adhoc:R\n"
+line-no_relation = refl
+
+pub line-lexical : line_of words (outcome.Lex 2 lexical.BadChar) ≡ codes "myria: line 2: unexpected character\n"
+unfolding digits
+line-lexical = refl
+
+pub line-syntax : line_of words (outcome.Syntax 3) ≡ codes "myria: statement 3: syntax error\n"
+unfolding digits
+line-syntax = refl
+
+pub line-too_many : line_of words (outcome.TooMany 1 many.FromItems) ≡ codes "myria: statement 1: too many items\n"
+unfolding digits
+line-too_many = refl

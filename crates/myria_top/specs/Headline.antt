@@ -3,18 +3,22 @@
 --   Run                     what a run was handed, and what it left behind
 --   Explains run answer     why the answer came, and what the output then holds
 --   Headline run err answer  the promises
-use Rattle.std.specs.Prelude.{◌≡◌, ◌↔◌, ℕ, ◌⊎◌, Option, List, Some, None}
+use Rattle.std.specs.Prelude.{◌≡◌, ◌↔◌, ℕ, ◌⊎◌, ⊤, Option, List, Some, None, Contains}
 use Rattle.std.specs.Io.KnownBytes.{Appends, Keeps}
 use Rattle.rel_base.specs.Keys.{shelf_name_of}
+use Rattle.rel_base.specs.declared.names.Key.{Key}
 use Rattle.rel_io.specs.Outside.{Content, Rose, TakesPart}
-use Rattle.myria_top.specs.declared.asked.Request.{Request}
+use Rattle.rel_io.specs.Outside as outside
+use Rattle.myrial_ast.specs.Trees.{StatementTree}
+use Rattle.myrial_meaning.specs.Scans.{scanned_keys}
 use Rattle.myria_top.specs.declared.outcomes.Outcome.{Outcome}
 use Rattle.myria_top.specs.declared.outcomes.Outcome.TheVariants as outcome
 use Rattle.myria_top.specs.declared.outcomes.Part.TheVariants as part
 use Rattle.myria_top.specs.Outcomes.{line_of}
-use Rattle.myria_top.specs.Reading.{Counts, HasCause, AgreesRefused, script_name, script_step}
-use Rattle.myria_top.specs.Steps.{Step, goes, IfTold}
-use Rattle.myria_top.specs.Verdicts.{text_step}
+use Rattle.myria_top.specs.Reading.{Counts, HasCause, RefusesBy, script_name}
+use Rattle.myria_top.specs.Scripts.{ScriptComesTo}
+use Rattle.myria_top.specs.Steps.{Step, untold, refused, goes, IfTold}
+use Rattle.myria_top.specs.Verdicts.{ComesTo}
 
 -- a sink before and after a run: what it took, where that is known, and its counts
 pub record Written : Type 0 where
@@ -52,20 +56,22 @@ TookPart sink text = TakesPart sink.before sink.after text
 abbrev pub TookNothing : Written → Type 0
 TookNothing sink = Keeps sink.before sink.after
 
--- where the shelf tells enough, the words and the files come to a text, and this holds of it
-abbrev pub OfText : Run → (List ℕ → Type 0) → Type 0
-OfText run P = IfTold (text_step run.words run.content) (λ s. (text : List ℕ) × (s ≡ goes text) × P text)
+-- the words and the files come to a text, where the shelf tells enough, and this holds of it
+pub record OfText (run : Run) (P : List ℕ → Type 0) : Type 0 where
+  pub step : Step (List ℕ)
+  pub comes : ComesTo run.words run.content step
+  pub holds : IfTold step (λ s. (text : List ℕ) × (s ≡ goes text) × P text)
 
--- a file that is asked for: the script, or the relation that the script scans
-abbrev pub IsAskedOf : List (List ℕ) → (List ℕ → Content) → List ℕ → Type 0
-IsAskedOf words content name =
-    (script_name words ≡ Some name)
-    ⊎ ((script : List ℕ) × (script_name words ≡ Some script)
-    × IfTold (script_step (content script)) (λ s. (request : Request) × (s ≡ goes request) × (name ≡ shelf_name_of request.scanned)))
+-- a file that is asked for: the script, or the relation of a key that the script scans
+pub data IsAskedOf (words : List (List ℕ)) (content : List ℕ → Content) : List ℕ → Type 0 where
+  the_script : (name : List ℕ) → script_name words ≡ Some name → IsAskedOf words content name
+  of_untold : (name asked : List ℕ) → script_name words ≡ Some name → content name ≡ outside.untold → IsAskedOf words content asked
+  a_relation : (name : List ℕ) (trees : List StatementTree) (key : Key) → script_name words ≡ Some name
+      → ScriptComesTo (content name) (goes trees) → Contains (scanned_keys trees) key → IsAskedOf words content (shelf_name_of key)
 
 -- a refusal before the output: it is what the words and the files come to, a count shows its cause, and nothing is printed
 pub record ExplainsRefusal (run : Run) (answer : Outcome) : Type 0 where
-  pub agrees : AgreesRefused (text_step run.words run.content) answer
+  pub agrees : RefusesBy (ComesTo run.words run.content) answer
   pub cause : HasCause run.shelf (IsAskedOf run.words run.content) answer
   pub silent : TookNothing run.out
 
@@ -75,14 +81,17 @@ abbrev pub Explains : Run → Outcome → Type 0
 Explains run outcome.Done = OfText run (TookAll run.out)
 Explains run outcome.WriteFault = FaultsRose run.out × OfText run (TookPart run.out)
 Explains run outcome.Memory = TookNothing run.out ⊎ (WantsRose run.out × OfText run (TookPart run.out))
-Explains run outcome.NoScript = ExplainsRefusal run outcome.NoScript
-Explains run (outcome.NoRelation key) = ExplainsRefusal run (outcome.NoRelation key)
-Explains run (outcome.ReadFault name) = ExplainsRefusal run (outcome.ReadFault name)
-Explains run (outcome.NotBuilt p) = ExplainsRefusal run (outcome.NotBuilt p)
+Explains run answer = ExplainsRefusal run answer
 
 -- the line on standard error is whole, or it stopped at a fault or a want of standard error itself
 abbrev pub TellsLine : Written → List ℕ → Type 0
 TellsLine err line = TookAll err line ⊎ ((FaultsRose err ⊎ WantsRose err) × TookPart err line)
+
+-- what the words and the files come to decides the answer, short of memory
+abbrev pub Decides : Step (List ℕ) → Outcome → Type 0
+Decides untold answer = ⊤
+Decides (refused refusal) answer = (answer ≡ refusal) ⊎ (answer ≡ outcome.Memory)
+Decides (goes text) answer = (answer ≡ outcome.Done) ⊎ (answer ≡ outcome.Memory)
 
 -- The promises of one run.
 pub record Headline (run : Run) (err : Written) (answer : Outcome) : Type 0 where
@@ -92,7 +101,8 @@ pub record Headline (run : Run) (err : Written) (answer : Outcome) : Type 0 wher
   pub explained : Explains run answer
   -- Words that don't name one script are refused so, and no others are.
   pub words_exactly : (answer ≡ outcome.NotBuilt part.Words) ↔ (script_name run.words ≡ None)
-  -- Where the words, the script and the file are good and no fault rose, everything is printed, short of memory.
-  pub complete : (text : List ℕ) → text_step run.words run.content ≡ goes text → ¬ Rose run.shelf.faults_before run.shelf.faults_after → ¬ FaultsRose run.out → (answer ≡ outcome.Done) ⊎ (answer ≡ outcome.Memory)
+  -- Where no fault rose, the words and the files alone decide the answer, short of memory: the one refusal that they come
+  -- to, or that everything is printed.
+  pub decided : (step : Step (List ℕ)) → ComesTo run.words run.content step → ¬ Rose run.shelf.faults_before run.shelf.faults_after → ¬ FaultsRose run.out → Decides step answer
   -- Standard error took the line of the answer.
   pub told : TellsLine err (line_of run.words answer)

@@ -1,8 +1,9 @@
 -- The words of this crate, lowest first.
-pub mod Requests
+pub mod Forms
 pub mod Outcomes
 pub mod Steps
 pub mod Reading
+pub mod Scripts
 pub mod OutputText
 pub mod Verdicts
 pub mod Headline

@@ -3,7 +3,12 @@
 --   status_of a        the exit status
 --   line_of words a    the line on standard error; none after `Done`
 use Rattle.std.specs.Prelude.{ℕ, List, [], ◌∷◌, ◌++◌, codes}
+use Rattle.std.specs.Fmt.{decimal}
 use Rattle.rel_base.specs.Keys.{key_text}
+use Rattle.myrial_lexer.specs.declared.faults.LexWhat.{LexWhat}
+use Rattle.myrial_lexer.specs.declared.faults.LexWhat.TheVariants as lexical
+use Rattle.myrial_parser.specs.declared.faults.What.{What}
+use Rattle.myrial_parser.specs.declared.faults.What.TheVariants as many
 use Rattle.myria_top.specs.declared.outcomes.Outcome.{Outcome}
 use Rattle.myria_top.specs.declared.outcomes.Outcome.TheVariants as outcome
 
@@ -11,7 +16,15 @@ use Rattle.myria_top.specs.declared.outcomes.Outcome.TheVariants as outcome
 abbrev pub status_of : Outcome → ℕ
 status_of outcome.Done = 0
 status_of outcome.NoScript = 2
+status_of outcome.ScriptTooLong = 2
+status_of outcome.ScriptNotText = 2
+status_of (outcome.Lex line what) = 3
+status_of (outcome.Syntax statement) = 4
+status_of (outcome.TooMany statement what) = 4
 status_of (outcome.NoRelation key) = 6
+status_of (outcome.TooManyRows statement) = 8
+status_of (outcome.Overflow statement) = 9
+status_of (outcome.AggregateOverflow statement) = 10
 status_of (outcome.ReadFault name) = 11
 status_of outcome.WriteFault = 12
 status_of outcome.Memory = 13
@@ -22,11 +35,50 @@ abbrev pub given_name : List (List ℕ) → List ℕ
 given_name (program ∷ name ∷ others) = name
 given_name _ = []
 
+-- what breaks the token rules, in words
+abbrev pub lexical_words : LexWhat → List ℕ
+lexical_words lexical.BadChar = codes "unexpected character"
+lexical_words lexical.OpenString = codes "string without end"
+lexical_words lexical.NumberTooLarge = codes "number too large"
+
+-- what there are too many of, in words
+abbrev pub many_words : What → List ℕ
+many_words many.Statements = codes "statements"
+many_words many.Tokens = codes "tokens"
+many_words many.Nesting = codes "parentheses"
+many_words many.FromItems = codes "items"
+many_words many.Columns = codes "columns"
+
+-- the line of a message
+abbrev pub line_with : List ℕ → List ℕ
+line_with message = codes "myria: " ++ message ++ codes "\n"
+
+-- the message of a fault on a line of the script, and of a fault of a statement
+abbrev pub on_line : ℕ → List ℕ → List ℕ
+on_line line words = codes "line " ++ decimal line ++ codes ": " ++ words
+
+abbrev pub of_statement : ℕ → List ℕ → List ℕ
+of_statement statement words = codes "statement " ++ decimal statement ++ codes ": " ++ words
+
+abbrev pub lexical_line : ℕ → List ℕ → List ℕ
+lexical_line line words = line_with (on_line line words)
+
+abbrev pub statement_line : ℕ → List ℕ → List ℕ
+statement_line statement words = line_with (of_statement statement words)
+
 -- what the answer says, in words
 abbrev pub message_of : List (List ℕ) → Outcome → List ℕ
 message_of words outcome.Done = []
 message_of words outcome.NoScript = codes "no script " ++ given_name words
+message_of words outcome.ScriptTooLong = codes "script too long"
+message_of words outcome.ScriptNotText = codes "script is not UTF-8"
+message_of words (outcome.Lex line what) = on_line line (lexical_words what)
+message_of words (outcome.Syntax statement) = of_statement statement (codes "syntax error")
+message_of words (outcome.TooMany statement what) = of_statement statement (codes "too many " ++ many_words what)
 message_of words (outcome.NoRelation key) = codes "no relation " ++ key_text key
+message_of words (outcome.TooManyRows statement) = of_statement statement (codes "too many rows")
+message_of words (outcome.Overflow statement) = of_statement statement (codes "overflow")
+message_of words (outcome.AggregateOverflow statement) = of_statement statement (codes "aggregate overflow")
 message_of words (outcome.ReadFault name) = codes "cannot read " ++ name
 message_of words outcome.WriteFault = codes "cannot write"
 message_of words outcome.Memory = codes "out of memory"
@@ -35,4 +87,4 @@ message_of words (outcome.NotBuilt part) = codes "not built"
 -- the line on standard error
 abbrev pub line_of : List (List ℕ) → Outcome → List ℕ
 line_of words outcome.Done = []
-line_of words answer = codes "myria: " ++ message_of words answer ++ codes "\n"
+line_of words answer = line_with (message_of words answer)

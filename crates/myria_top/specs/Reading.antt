@@ -1,21 +1,17 @@
--- What is read: the words, the script and the files of relations, each of which may refuse.
+-- What is read: the words and files, each of which may refuse.
 --
 --   script_name words               the name of the script
 --   file_step ..                    what a file comes to
---   script_step content             what a script's file comes to: the request
 --   Agrees step result              a call came to what the step comes to
 --   ReadsStep step names ..         a call on the shelf came to the step, and each refusal has its cause
-use Rattle.std.specs.Prelude.{◌≡◌, ℕ, ◌≤◌, Bool, List, [], ◌∷◌, length, nat_lt, if◌then◌else◌, Option, Some, None, Result, Ok, Err, IfErr, ⊤, codes, nat_eq}
+--   Meets Comes step                the files come to this step, by a relation
+--   ReadsBy Comes names ..          a call on the shelf came to what the files come to, and each refusal has its cause
+use Rattle.std.specs.Prelude.{◌≡◌, ℕ, ◌≤◌, List, [], ◌∷◌, length, nat_lt, if◌then◌else◌, Option, Some, None, Result, Ok, Err, IfErr, ⊤, codes, nat_eq}
 use Rattle.std.specs.List.{starts_with}
-use Rattle.std.specs.Option.{option_map_or}
 use Rattle.rel_io.specs.Outside.{Content, Rose}
 use Rattle.rel_io.specs.Outside as outside
-use Rattle.myria_top.specs.declared.asked.Request.{Request}
 use Rattle.myria_top.specs.declared.outcomes.Outcome.{Outcome}
 use Rattle.myria_top.specs.declared.outcomes.Outcome.TheVariants as outcome
-use Rattle.myria_top.specs.declared.outcomes.Part.TheVariants as part
-use Rattle.myria_top.specs.declared.reading.TheConstants.{MOST_SCRIPT_BYTES}
-use Rattle.myria_top.specs.Requests.{request_of}
 use Rattle.myria_top.specs.Steps.{Step, untold, refused, goes, IfTold}
 
 -- the word that names the script: the words are two, and the second is no option
@@ -30,23 +26,13 @@ file_step most if_missing if_long read outside.missing = refused if_missing
 file_step most if_missing if_long read (outside.there bytes) =
     if nat_lt most (length bytes) then refused if_long else read bytes
 
--- what a script comes to
-abbrev pub script_of : List ℕ → Step Request
-script_of bytes = option_map_or goes (request_of bytes) (refused (outcome.NotBuilt part.Script))
-
--- what the file of a script comes to
-abbrev pub script_step : Content → Step Request
-script_step = file_step MOST_SCRIPT_BYTES outcome.NoScript (outcome.NotBuilt part.Script) script_of
-
 -- a refusal agrees with a step that refuses so; a fault of reading and want of memory may come of any step
 abbrev pub AgreesRefused : {X : Type 0} → Step X → Outcome → Type 0
 AgreesRefused step outcome.Done = ⊥
 AgreesRefused step outcome.WriteFault = ⊥
 AgreesRefused step (outcome.ReadFault name) = ⊤
 AgreesRefused step outcome.Memory = ⊤
-AgreesRefused step outcome.NoScript = IfTold step (λ s. s ≡ refused outcome.NoScript)
-AgreesRefused step (outcome.NoRelation key) = IfTold step (λ s. s ≡ refused (outcome.NoRelation key))
-AgreesRefused step (outcome.NotBuilt p) = IfTold step (λ s. s ≡ refused (outcome.NotBuilt p))
+AgreesRefused step answer = IfTold step (λ s. s ≡ refused answer)
 
 -- a call came to what the step comes to
 abbrev pub Agrees : {X : Type 0} → Step X → Result X Outcome → Type 0
@@ -70,6 +56,32 @@ HasCause counts IsAsked _ = ⊤
 -- a call that reads the files that IsAsked names came to what the step comes to, each refusal has its cause, and no count fell
 pub record ReadsStep {X : Type 0} (step : Step X) (counts : Counts) (IsAsked : List ℕ → Type 0) (result : Result X Outcome) : Type 0 where
   pub agrees : Agrees step result
+  pub cause : IfErr result (HasCause counts IsAsked)
+  pub faults_kept : counts.faults_before ≤ counts.faults_after
+  pub misses_kept : counts.misses_before ≤ counts.misses_after
+
+-- the files come to such a step, where enough is told
+pub record Meets {X : Type 0} (Comes : Step X → Type 0) (wanted : Step X) : Type 0 where
+  pub step : Step X
+  pub comes : Comes step
+  pub is : IfTold step (λ s. s ≡ wanted)
+
+-- a refusal is what the files come to; a fault of reading and want of memory may come whatever they come to
+abbrev pub RefusesBy : {X : Type 0} → (Step X → Type 0) → Outcome → Type 0
+RefusesBy Comes outcome.Done = ⊥
+RefusesBy Comes outcome.WriteFault = ⊥
+RefusesBy Comes (outcome.ReadFault name) = ⊤
+RefusesBy Comes outcome.Memory = ⊤
+RefusesBy Comes answer = Meets Comes (refused answer)
+
+-- a call came to what the files come to
+abbrev pub AgreesBy : {X : Type 0} → (Step X → Type 0) → Result X Outcome → Type 0
+AgreesBy Comes (Ok x) = Meets Comes (goes x)
+AgreesBy Comes (Err answer) = RefusesBy Comes answer
+
+-- a call that reads the files that IsAsked names came to what they come to, each refusal has its cause, and no count fell
+pub record ReadsBy {X : Type 0} (Comes : Step X → Type 0) (counts : Counts) (IsAsked : List ℕ → Type 0) (result : Result X Outcome) : Type 0 where
+  pub agrees : AgreesBy Comes result
   pub cause : IfErr result (HasCause counts IsAsked)
   pub faults_kept : counts.faults_before ≤ counts.faults_after
   pub misses_kept : counts.misses_before ≤ counts.misses_after

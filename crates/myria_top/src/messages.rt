@@ -1,11 +1,14 @@
 //! The line on standard error.
-ghost use Rattle.std.specs.Prelude.{◌≡◌, ◌≤◌, Err, OnOk, OnErr};
+ghost use Rattle.std.specs.Prelude.{◌≡◌, ◌++◌, ◌≤◌, Err, OnOk, OnErr};
 ghost use Rattle.std.specs.Io.KnownBytes.{Appends};
 ghost use Rattle.std.specs.List.{flat_map};
 ghost use Rattle.rel_io.specs.Outside.{Rose, TakesPart};
 ghost use Rattle.myria_top.specs.Outcomes as outcomes;
 
 use crate::Outcome;
+use itoa::Buffer;
+use myrial_lexer::LexWhat;
+use myrial_parser::What;
 use rel_base::Text;
 use rel_io::{Sink, SinkFault, offer};
 
@@ -23,6 +26,13 @@ pub fn tell<E: Sink>(err: &mut E, words: &[Text], answer: &Outcome) -> Result<()
     match answer {
         Outcome::Done => Ok(()),
         Outcome::NoScript => offer_all(err, &["myria: no script ", given_name(words), "\n"]),
+        Outcome::ScriptTooLong => offer_all(err, &["myria: script too long\n"]),
+        Outcome::ScriptNotText => offer_all(err, &["myria: script is not UTF-8\n"]),
+        Outcome::Lex { line, what } => tell_line(err, *line, lexical_words(*what)),
+        Outcome::Syntax { statement } => tell_statement(err, *statement, "syntax error", ""),
+        Outcome::TooMany { statement, what } => {
+            tell_statement(err, *statement, "too many ", many_words(*what))
+        }
         Outcome::NoRelation { key } => {
             let user = key.user.as_str();
             let program = key.program.as_str();
@@ -32,12 +42,75 @@ pub fn tell<E: Sink>(err: &mut E, words: &[Text], answer: &Outcome) -> Result<()
                 &["myria: no relation ", user, ":", program, ":", name, "\n"],
             )
         }
+        Outcome::TooManyRows { statement } => tell_statement(err, *statement, "too many rows", ""),
+        Outcome::Overflow { statement } => tell_statement(err, *statement, "overflow", ""),
+        Outcome::AggregateOverflow { statement } => {
+            tell_statement(err, *statement, "aggregate overflow", "")
+        }
         Outcome::ReadFault { name } => {
             offer_all(err, &["myria: cannot read ", name.as_str(), "\n"])
         }
         Outcome::WriteFault => offer_all(err, &["myria: cannot write\n"]),
         Outcome::Memory => offer_all(err, &["myria: out of memory\n"]),
         Outcome::NotBuilt { part: _ } => offer_all(err, &["myria: not built\n"]),
+    }
+}
+
+/// The line of a fault on a line of the script.
+fn tell_line<E: Sink>(err: &mut E, line: u32, words: &str) -> Result<(), SinkFault>
+    ensures ok { OnOk result (Appends (E.taken err.old) (E.taken err.new) (outcomes.lexical_line line words.now)) }
+    ensures err { OnErr result (TakesPart (E.taken err.old) (E.taken err.new) (outcomes.lexical_line line words.now)) }
+    ensures failed { result ≡ Err SinkFault.Failed → Rose (E.faults err.old) (E.faults err.new) }
+    ensures memory { result ≡ Err SinkFault.Memory → Rose (E.wants err.old) (E.wants err.new) }
+{
+    let mut buffer = Buffer::new();
+    offer_all(
+        err,
+        &["myria: line ", buffer.format(line), ": ", words, "\n"],
+    )
+}
+
+/// The line of a fault of a statement, in two pieces of words.
+fn tell_statement<E: Sink>(
+    err: &mut E,
+    statement: u32,
+    words: &str,
+    others: &str,
+) -> Result<(), SinkFault>
+    ensures ok { OnOk result (Appends (E.taken err.old) (E.taken err.new) (outcomes.statement_line statement (words.now ++ others.now))) }
+    ensures err { OnErr result (TakesPart (E.taken err.old) (E.taken err.new) (outcomes.statement_line statement (words.now ++ others.now))) }
+    ensures failed { result ≡ Err SinkFault.Failed → Rose (E.faults err.old) (E.faults err.new) }
+    ensures memory { result ≡ Err SinkFault.Memory → Rose (E.wants err.old) (E.wants err.new) }
+{
+    let mut buffer = Buffer::new();
+    let number = buffer.format(statement);
+    offer_all(
+        err,
+        &["myria: statement ", number, ": ", words, others, "\n"],
+    )
+}
+
+/// What breaks the token rules, in words.
+fn lexical_words(what: LexWhat) -> &'static str
+    ensures { result.now ≡ outcomes.lexical_words what }
+{
+    match what {
+        LexWhat::BadChar => "unexpected character",
+        LexWhat::OpenString => "string without end",
+        LexWhat::NumberTooLarge => "number too large",
+    }
+}
+
+/// What there are too many of, in words.
+fn many_words(what: What) -> &'static str
+    ensures { result.now ≡ outcomes.many_words what }
+{
+    match what {
+        What::Statements => "statements",
+        What::Tokens => "tokens",
+        What::Nesting => "parentheses",
+        What::FromItems => "items",
+        What::Columns => "columns",
     }
 }
 

@@ -2,7 +2,9 @@
 ghost use Rattle.std.specs.Prelude.{◌≡◌};
 ghost use Rattle.myria_top.specs.Outcomes.{status_of};
 
-use rel_base::{Key, Memory, Text};
+use myrial_lexer::LexWhat;
+use myrial_parser::What;
+use rel_base::{Key, Memory, RunFault, Text};
 
 /// The part of a request that this stage of the engine does not build yet.
 #[derive(Clone, Copy, Debug, PartialEq, Eq)]
@@ -22,10 +24,48 @@ pub enum Outcome {
     Done,
     /// There is no such script.
     NoScript,
+    /// The script is longer than the most bytes of a script.
+    ScriptTooLong,
+    /// The script isn't UTF-8.
+    ScriptNotText,
+    /// The script has no tokens.
+    Lex {
+        /// The line of the first fault, from 1.
+        line: u32,
+        /// What is wrong there.
+        what: LexWhat,
+    },
+    /// A statement isn't in the grammar.
+    Syntax {
+        /// The number of the first one, from 1.
+        statement: u32,
+    },
+    /// A statement passes a limit.
+    TooMany {
+        /// The number of the first one, from 1.
+        statement: u32,
+        /// What it has too many of.
+        what: What,
+    },
     /// There is no file for this relation.
     NoRelation {
         /// The key of the relation that is not there.
         key: Key,
+    },
+    /// A statement has more rows than a relation may have.
+    TooManyRows {
+        /// Its number, from 1.
+        statement: u32,
+    },
+    /// A number that a statement computes leaves 64 bits.
+    Overflow {
+        /// Its number, from 1.
+        statement: u32,
+    },
+    /// A sum that a statement computes leaves 64 bits.
+    AggregateOverflow {
+        /// Its number, from 1.
+        statement: u32,
     },
     /// A file could not be read.
     ReadFault {
@@ -51,7 +91,18 @@ impl Outcome {
         match self {
             Outcome::Done => 0,
             Outcome::NoScript => 2,
+            Outcome::ScriptTooLong => 2,
+            Outcome::ScriptNotText => 2,
+            Outcome::Lex { line: _, what: _ } => 3,
+            Outcome::Syntax { statement: _ } => 4,
+            Outcome::TooMany {
+                statement: _,
+                what: _,
+            } => 4,
             Outcome::NoRelation { key: _ } => 6,
+            Outcome::TooManyRows { statement: _ } => 8,
+            Outcome::Overflow { statement: _ } => 9,
+            Outcome::AggregateOverflow { statement: _ } => 10,
             Outcome::ReadFault { name: _ } => 11,
             Outcome::WriteFault => 12,
             Outcome::Memory => 13,
@@ -68,5 +119,21 @@ impl From<Memory> for Outcome {
 
     fn from(_refused: Memory) -> Outcome {
         Outcome::Memory
+    }
+}
+
+impl From<RunFault> for Outcome {
+    ghost use Rattle.std.specs.Prelude.{◌≡◌};
+    ghost use Rattle.myria_top.specs.Verdicts.{run_answer};
+
+    ghost from_gives = { λ fault answer. answer ≡ run_answer fault };
+
+    fn from(fault: RunFault) -> Outcome {
+        match fault {
+            RunFault::TooManyRows { statement } => Outcome::TooManyRows { statement },
+            RunFault::Overflow { statement } => Outcome::Overflow { statement },
+            RunFault::AggregateOverflow { statement } => Outcome::AggregateOverflow { statement },
+            RunFault::Memory => Outcome::Memory,
+        }
     }
 }

@@ -1,9 +1,10 @@
 //! The text of a run, in the pieces in which it is offered to the sink.
 ghost use Rattle.std.specs.Prelude.{◌≡◌, ◌++◌, ◌≤◌, [], Err, IfOk, OnOk, OnErr};
 ghost use Rattle.std.specs.Io.KnownBytes.{Appends};
+ghost use Rattle.std.specs.List.{flat_map};
 ghost use Rattle.rel_io.specs.Outside.{Rose, TakesPart};
 
-use rel_base::{Key, Memory, Relation};
+use rel_base::{Key, Memory, Relation, Row, Schema, Stored};
 use rel_io::{Sink, SinkFault, offer};
 use relation_csv::{header_text, row_text};
 use std::alloc::Global;
@@ -26,27 +27,65 @@ impl Model for Pieces {
 }
 
 impl Pieces {
-    ghost use Rattle.myria_top.specs.OutputText.{relation_text_in_order};
+    ghost use Rattle.relation_csv.specs.RecordTexts.{header_record, row_record};
+    ghost use Rattle.myria_top.specs.OutputText.{relation_text_in_order, store_line};
 
-    /// The text of a stored relation: its line, its header, and its rows as they stand, each a piece.
-    pub fn of_relation(alloc: Global, key: &Key, relation: &Relation) -> Result<Pieces, Memory>
-        ensures { IfOk result (λ text. text ≡ relation_text_in_order key.now relation.now) }
+    /// The text of the stored relations, one after another: of each its line, its header, and its rows as they stand, each
+    /// a piece.
+    pub fn of_stored(alloc: Global, stored: &Stored) -> Result<Pieces, Memory>
+        ensures { IfOk result (λ text. text ≡ flat_map (λ file. relation_text_in_order file.0 file.1) stored.now) }
+    {
+        let mut pieces = Pieces {
+            text: Vec::new(alloc),
+            lengths: Vec::new(alloc),
+        };
+        for (key, relation) in stored.as_slice() {
+            pieces.add_relation(alloc, key, relation)?;
+        }
+        Ok(pieces)
+    }
+
+    /// Adds the text of a stored relation.
+    fn add_relation(&mut self, alloc: Global, key: &Key, relation: &Relation) -> Result<(), Memory>
+        ensures { OnOk result (self.new ≡ self.old ++ relation_text_in_order key.now relation.now) }
     {
         let rows = relation.rows().as_slice();
-        let count = rows.len();
-        let mut lengths = Vec::with_capacity(alloc, count.saturating_add(2))?;
-        let line = format!(in alloc; "-- store {key} {count} rows\n")?;
-        let mut text = line.into_bytes();
-        lengths.push(text.len())?;
-        let start = text.len();
-        header_text(relation.schema(), &mut text)?;
-        lengths.push(text.len().saturating_sub(start))?;
+        self.lengths.reserve(rows.len().saturating_add(2))?;
+        self.add_line(alloc, key, rows.len())?;
+        self.add_header(relation.schema())?;
+        self.add_rows(rows)
+    }
+
+    /// Adds the line over a stored relation of so many rows.
+    fn add_line(&mut self, alloc: Global, key: &Key, rows: usize) -> Result<(), Memory>
+        ensures { OnOk result (self.new ≡ self.old ++ store_line key.now rows) }
+    {
+        let line = format!(in alloc; "-- store {key} {rows} rows\n")?;
+        self.text.extend_from_slice(line.as_bytes())?;
+        self.lengths.push(line.len())?;
+        Ok(())
+    }
+
+    /// Adds the header of a relation.
+    fn add_header(&mut self, schema: &Schema) -> Result<(), Memory>
+        ensures { OnOk result (self.new ≡ self.old ++ header_record schema.now) }
+    {
+        let start = self.text.len();
+        header_text(schema, &mut self.text)?;
+        self.lengths.push(self.text.len().saturating_sub(start))?;
+        Ok(())
+    }
+
+    /// Adds rows as they stand.
+    fn add_rows(&mut self, rows: &[Row]) -> Result<(), Memory>
+        ensures { OnOk result (self.new ≡ self.old ++ flat_map row_record rows.now) }
+    {
         for row in rows {
-            let start = text.len();
-            row_text(row, &mut text)?;
-            lengths.push(text.len().saturating_sub(start))?;
+            let start = self.text.len();
+            row_text(row, &mut self.text)?;
+            self.lengths.push(self.text.len().saturating_sub(start))?;
         }
-        Ok(Pieces { text, lengths })
+        Ok(())
     }
 
     /// Offers piece after piece, each until the sink has taken it whole.

@@ -1,12 +1,20 @@
-//! Reads the words, the script and the relation that it asks for.
-ghost use Rattle.std.specs.Prelude.{◌≡◌, ◌≢◌, ◌≤◌, ◌⊎◌, Err, IfOk, option_map};
+//! Reads the words, the script and the relations that it scans.
+ghost use Rattle.std.specs.Prelude.{◌≡◌, ◌≢◌, ◌≤◌, ◌<◌, ◌^◌, ◌-◌, ◌++◌, ◌∷◌, [], ◌⊎◌, true, false, map, length, AllPairs, Err, IfOk, IfErr, OnOk, option_map};
+ghost use Rattle.rel_base.specs.Keys.{holds_key, same_key};
+ghost use Rattle.myrial_ast.specs.Trees.{trees_of};
+ghost use Rattle.myria_top.specs.Forms as form;
+ghost use Rattle.myria_top.specs.Scripts.{ScriptComesTo, TextComesTo, trees_read, IsOfTexts};
 ghost use Rattle.rel_io.specs.Outside.{IsGiven, MayBeMissing, Rose};
 ghost use Rattle.rel_base.specs.Keys.{shelf_name_of};
 ghost use Rattle.myria_top.specs.Reading as spec;
-ghost use Rattle.myria_top.specs.Verdicts.{relation_step};
+ghost use Rattle.myria_top.specs.Verdicts.{files_step, relation_step, IsFileOf};
 
-use crate::{Outcome, Part, Request, request_of};
-use rel_base::{Duplicate, Key, Relation, Text};
+use crate::forms::is_built;
+use crate::{Outcome, Part};
+use myrial_ast::Script;
+use myrial_lexer::{LexFault, lex};
+use myrial_parser::{ParseFault, parse};
+use rel_base::{Duplicate, Files, Key, Keys, Memory, Relation, Text};
 use rel_io::{Shelf, ShelfFault};
 use relation_csv::{RelFault, read_relation};
 use std::alloc::Global;
@@ -27,34 +35,96 @@ pub fn script_name(words: &[Text]) -> Option<&Text>
     }
 }
 
-/// What the script of this name asks for.
-pub fn read_script<F: Shelf>(alloc: Global, shelf: &mut F, name: &Text) -> Result<Request, Outcome>
-    ensures read { spec.ReadsStep (spec.script_step (F.content shelf.old name.now))
+/// The script of this name: one of those that are built.
+pub fn read_script<F: Shelf>(alloc: Global, shelf: &mut F, name: &Text) -> Result<Script, Outcome>
+    ensures read { spec.ReadsBy (ScriptComesTo (F.content shelf.old name.now))
         (record {
           faults_before = F.faults shelf.old;
           faults_after = F.faults shelf.new;
           misses_before = F.misses shelf.old;
           misses_after = F.misses shelf.new;
         })
-        (λ asked. asked ≡ name.now) result }
+        (λ asked. asked ≡ name.now) (trees_read result) }
+    ensures built { IfOk result (λ script. form.is_built (trees_of script) ≡ true) }
     ensures part { result ≢ Err (Outcome.NotBuilt Part.Words) }
     ensures content { F.content shelf.new ≡ F.content shelf.old }
 {
     let most = MOST_SCRIPT_BYTES as u64 + 1;
-    let script = match fetched(alloc, shelf, name, most) {
-        Ok(script) => script,
+    let bytes = match fetched(alloc, shelf, name, most) {
+        Ok(bytes) => bytes,
         Err(ShelfFault::Absent) => return Err(Outcome::NoScript),
         Err(ShelfFault::Failed) => return Err(read_fault(alloc, name)),
         Err(ShelfFault::Memory) => return Err(Outcome::Memory),
     };
-    if script.len() > MOST_SCRIPT_BYTES {
-        return Err(Outcome::NotBuilt { part: Part::Script });
+    if bytes.len() > MOST_SCRIPT_BYTES {
+        return Err(Outcome::ScriptTooLong);
     }
-    match request_of(alloc, &script) {
-        Ok(Some(request)) => Ok(request),
-        Ok(None) => Err(Outcome::NotBuilt { part: Part::Script }),
-        Err(_) => Err(Outcome::Memory),
+    script_of_text(alloc, &bytes)
+}
+
+/// The script of a text that is short enough.
+fn script_of_text(alloc: Global, bytes: &[u8]) -> Result<Script, Outcome>
+    requires { length bytes.now ≤ 65536 }
+    ensures agrees { spec.AgreesBy (TextComesTo bytes.now) (trees_read result) }
+    ensures built { IfOk result (λ script. form.is_built (trees_of script) ≡ true) }
+    ensures kind { IfErr result IsOfTexts }
+{
+    let tokens = match lex(alloc, bytes) {
+        Ok(tokens) => tokens,
+        Err(LexFault::NotText) => return Err(Outcome::ScriptNotText),
+        Err(LexFault::At { line, what }) => return Err(Outcome::Lex { line, what }),
+        Err(LexFault::Memory) => return Err(Outcome::Memory),
+    };
+    let script = match parse(alloc, &tokens, bytes) {
+        Ok(script) => script,
+        Err(ParseFault::Syntax { statement }) => return Err(Outcome::Syntax { statement }),
+        Err(ParseFault::TooMany { statement, what }) => {
+            return Err(Outcome::TooMany { statement, what });
+        }
+        Err(ParseFault::Memory) => return Err(Outcome::Memory),
+    };
+    if is_built(&script) {
+        Ok(script)
+    } else {
+        Err(Outcome::NotBuilt { part: Part::Script })
     }
+}
+
+/// The relations of these keys, each read wholly before the next.
+pub fn read_files<F: Shelf>(alloc: Global, shelf: &mut F, keys: &Keys) -> Result<Files, Outcome>
+    requires { AllPairs (λ j k. same_key j k ≡ false) keys.now }
+    ensures read { spec.ReadsStep (files_step (F.content shelf.old) keys.now)
+        (record {
+          faults_before = F.faults shelf.old;
+          faults_after = F.faults shelf.new;
+          misses_before = F.misses shelf.old;
+          misses_after = F.misses shelf.new;
+        })
+        (IsFileOf keys.now) result }
+    ensures part { result ≢ Err (Outcome.NotBuilt Part.Words) }
+    ensures content { F.content shelf.new ≡ F.content shelf.old }
+{
+    let mut files = Files::new(alloc);
+    for key in keys.as_slice() {
+        let relation = match read_scanned(alloc, shelf, key) {
+            Ok(relation) => relation,
+            Err(refusal) => return Err(refusal),
+        };
+        if let Err(refusal) = add_file(alloc, &mut files, key, relation) {
+            return Err(Outcome::from(refusal));
+        }
+    }
+    Ok(files)
+}
+
+/// Adds the relation of a key.
+fn add_file(alloc: Global, files: &mut Files, key: &Key, relation: Relation) -> Result<(), Memory>
+    requires room { length files.old < 2 ^ 32 - 1 }
+    requires new_key { holds_key files.old key.now ≡ false }
+    ensures { OnOk result (files.new ≡ files.old ++ (key.now, relation) ∷ []) }
+{
+    let key = key.copy(alloc)?;
+    files.push((key, relation))
 }
 
 /// The relation of this key.

@@ -1,16 +1,24 @@
 //! One run of the program, from its words to its exit.
-ghost use Rattle.std.specs.Prelude.{◌≡◌, ◌↔◌, All, None, Err, vec_len};
-ghost use Rattle.rel_base.specs.Bags.{sorted};
+ghost use Rattle.std.specs.Prelude.{◌≡◌, ◌≢◌, ◌↔◌, true, map, All, None, Err, IfErr, vec_len};
+ghost use Rattle.myrial_ast.specs.Trees.{trees_of};
+ghost use Rattle.myrial_meaning.specs.Scans.{scanned_keys};
 ghost use Rattle.rel_io.specs.Taps.{no_rows};
 ghost use Rattle.myria_top.specs.Headline.{Headline, Explains, IsAskedOf};
 ghost use Rattle.myria_top.specs.Reading as read;
-ghost use Rattle.myria_top.specs.Verdicts.{text_step};
+ghost use Rattle.myria_top.specs.Forms.{is_built};
+ghost use Rattle.myria_top.specs.OutputText.{output_text};
+ghost use Rattle.myria_top.specs.Scripts.{IsOfTexts};
+ghost use Rattle.myria_top.specs.Steps.{then_step, goes};
+ghost use Rattle.myria_top.specs.Verdicts.{ComesTo, IsFileOf, printed_step, run_step};
 
 use crate::messages::tell;
 use crate::pieces::Pieces;
-use crate::reading::{read_scanned, read_script, script_name};
+use crate::reading::{read_files, read_script, script_name};
+use crate::scanning::keys_of;
 use crate::{Outcome, Part, TAPS};
-use rel_base::{Relation, Text};
+use myrial_ast::Script;
+use myrial_meaning::{evaluate, has_meaning};
+use rel_base::{Files, Text};
 use rel_io::{Shelf, Sink, SinkFault, Tap};
 use std::alloc::Global;
 use std::sync::Wait;
@@ -100,7 +108,7 @@ fn answer<F: Shelf, O: Sink>(alloc: Global, words: &[Text], shelf: &mut F, out: 
 
 /// The text of a run, with nothing printed yet.
 fn prepared<F: Shelf>(alloc: Global, words: &[Text], shelf: &mut F) -> Result<Pieces, Outcome>
-    ensures read { read.ReadsStep (text_step words.now (F.content shelf.old))
+    ensures read { read.ReadsBy (ComesTo words.now (F.content shelf.old))
         (record {
           faults_before = F.faults shelf.old;
           faults_after = F.faults shelf.new;
@@ -113,26 +121,62 @@ fn prepared<F: Shelf>(alloc: Global, words: &[Text], shelf: &mut F) -> Result<Pi
     let Some(name) = script_name(words) else {
         return Err(Outcome::NotBuilt { part: Part::Words });
     };
-    let request = match read_script(alloc, shelf, name) {
-        Ok(request) => request,
+    let script = match read_script(alloc, shelf, name) {
+        Ok(script) => script,
         Err(refusal) => return Err(refusal),
     };
-    let found = match read_scanned(alloc, shelf, &request.scanned) {
-        Ok(found) => found,
+    prepared_script(alloc, &script, shelf)
+}
+
+/// The text of the script's run.
+fn prepared_script<F: Shelf>(
+    alloc: Global,
+    script: &Script,
+    shelf: &mut F,
+) -> Result<Pieces, Outcome>
+    requires { is_built (trees_of script.now) ≡ true }
+    ensures read { read.ReadsStep (printed_step (F.content shelf.old) (trees_of script.now))
+        (record {
+          faults_before = F.faults shelf.old;
+          faults_after = F.faults shelf.new;
+          misses_before = F.misses shelf.old;
+          misses_after = F.misses shelf.new;
+        })
+        (IsFileOf (scanned_keys (trees_of script.now))) result }
+    ensures part { result ≢ Err (Outcome.NotBuilt Part.Words) }
+{
+    let keys = match keys_of(alloc, script) {
+        Ok(keys) => keys,
+        Err(_) => return Err(Outcome::Memory),
+    };
+    let files = match read_files(alloc, shelf, &keys) {
+        Ok(files) => files,
         Err(refusal) => return Err(refusal),
     };
-    let relation = in_order(found);
-    match Pieces::of_relation(alloc, &request.stored, &relation) {
+    text_of_run(alloc, script, &files)
+}
+
+/// The text of the script's run over its files.
+fn text_of_run(alloc: Global, script: &Script, files: &Files) -> Result<Pieces, Outcome>
+    requires { is_built (trees_of script.now) ≡ true }
+    ensures agrees { read.Agrees (then_step (run_step (trees_of script.now) files.now) (λ stored. goes (output_text stored))) result }
+    ensures kind { IfErr result IsOfTexts }
+{
+    match has_meaning(alloc, script, files) {
+        Ok(true) => {}
+        Ok(false) => {
+            return Err(Outcome::NotBuilt {
+                part: Part::Relation,
+            });
+        }
+        Err(_) => return Err(Outcome::Memory),
+    }
+    let stored = match evaluate(alloc, script, files) {
+        Ok(stored) => stored,
+        Err(fault) => return Err(Outcome::from(fault)),
+    };
+    match Pieces::of_stored(alloc, &stored) {
         Ok(text) => Ok(text),
         Err(_) => Err(Outcome::Memory),
     }
-}
-
-/// The relation with its rows in ascending order.
-fn in_order(mut relation: Relation) -> Relation
-    ensures schema { result.schema ≡ relation.schema }
-    ensures rows { result.rows ≡ sorted relation.rows }
-{
-    relation.sort();
-    relation
 }

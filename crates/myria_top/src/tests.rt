@@ -3,7 +3,7 @@ ghost use Rattle.std.specs.Prelude.{◌≡◌, false, IfOk, nat_eq};
 ghost use Rattle.std.specs.Cmp.Lexicographic.{pointwise};
 ghost use Rattle.rel_io.specs.InMemory.{HasDistinctNames};
 
-use crate::{Outcome, fresh_taps, request_of, run_words};
+use crate::{fresh_taps, run_words};
 use rel_base::{Memory, Places, Text};
 use rel_io::{Bytes, Contents, MemShelf, MemSink};
 use std::alloc::Global;
@@ -157,6 +157,24 @@ fn a_run_that_cannot_write_keeps_what_it_wrote(rt: HostRuntime) -> Result<(), Fa
     Ok(())
 }
 
+/// Runs a script over the one relation, and compares what comes out.
+fn compare_script<R: Abort + Threads + Wait + Sync>(
+    rt: &R,
+    alloc: Global,
+    script: &str,
+    wanted: Wanted<'_>,
+) -> Result<(), Memory> {
+    compare_run(
+        rt,
+        alloc,
+        &NAMED,
+        ("q", script),
+        RELATION,
+        (0, 0, 0),
+        wanted,
+    )
+}
+
 #[test]
 fn what_is_not_built_is_said_so(rt: HostRuntime) -> Result<(), Fail> {
     let alloc = rt.alloc();
@@ -171,32 +189,89 @@ fn what_is_not_built_is_said_so(rt: HostRuntime) -> Result<(), Fail> {
         (0, 0, 0),
         refused,
     )?;
-    let other = ("q", "A = scan(R)");
-    compare_run(&rt, alloc, &NAMED, other, RELATION, (0, 0, 0), refused)?;
+    compare_script(&rt, alloc, "A = scan(R); store(B, Out);", refused)?;
+    compare_script(&rt, alloc, "A = distinct(scan(R)); store(A, Out);", refused)?;
+    compare_script(&rt, alloc, ";;", refused)?;
     let short = ("public:adhoc:R.csv", "x:int,y:int\n1,2\n3\n");
     compare_run(&rt, alloc, &NAMED, SCRIPT, short, (0, 0, 0), refused)?;
+    let no_column =
+        "J = [from scan(R) as a, scan(R) as b where a.z = b.x emit a.x, b.y]; store(J, Out);";
+    compare_script(&rt, alloc, no_column, refused)?;
     Ok(())
 }
 
 #[test]
-fn scripts_of_the_one_form_are_read(rt: HostRuntime) -> Result<(), Fail> {
+fn a_relation_is_joined_with_itself(rt: HostRuntime) -> Result<(), Fail> {
     let alloc = rt.alloc();
-    let other_scripts = [
-        "A = scan(R); store(A, Out);\n\n",
-        "A = scan(R); store(B, Out);",
-        "A  = scan(R); store(A, Out);",
-        "A = scan(R);store(A, Out);",
-        "A = scan(R); store(A, From);",
-        "sUm = scan(R); store(sUm, Out);",
-        "A = scan(1R); store(A, Out);",
-        "A = scan(); store(A, Out);",
-        "A_ = scan(R); store(A_, Out);",
-        "",
-    ];
-    for script in other_scripts {
-        assert!(rt; request_of(alloc, script.as_bytes())?.is_none(), "{script}");
+    let join =
+        "J = [from scan(R) as a, scan(R) as b where a.y = b.x emit a.x, b.y]; store(J, Out);";
+    let edges = ("public:adhoc:R.csv", "x:int,y:int\n1,2\n2,3\n2,3\n3,1\n");
+    let printed = "-- store public:adhoc:Out 5 rows\nx:int,y:int\n1,3\n1,3\n2,1\n2,1\n3,2\n";
+    // A third fetch would fail: the relation is fetched once.
+    let failing = (3, 0, 0);
+    compare_run(
+        &rt,
+        alloc,
+        &NAMED,
+        ("q", join),
+        edges,
+        failing,
+        (0, printed, ""),
+    )?;
+    Ok(())
+}
+
+#[test]
+fn blanks_comments_and_cases_are_read(rt: HostRuntime) -> Result<(), Fail> {
+    let alloc = rt.alloc();
+    let done = (0, PRINTED, "");
+    compare_script(
+        &rt,
+        alloc,
+        "A=SCAN(public:adhoc:R);;\n-- all\nStore(A,Out) ;",
+        done,
+    )?;
+    compare_script(
+        &rt,
+        alloc,
+        "A = scan(adhoc:R); store(A, public:adhoc:Out);",
+        done,
+    )?;
+    Ok(())
+}
+
+#[test]
+fn a_faulty_script_is_told_with_its_place(rt: HostRuntime) -> Result<(), Fail> {
+    let alloc = rt.alloc();
+    let character = (3, "", "myria: line 2: unexpected character\n");
+    compare_script(&rt, alloc, "A = scan(R);\nB = [from A emit #];", character)?;
+    let string = (3, "", "myria: line 1: string without end\n");
+    compare_script(&rt, alloc, "A = \"x", string)?;
+    let number = (3, "", "myria: line 1: number too large\n");
+    compare_script(&rt, alloc, "A = 9223372036854775808;", number)?;
+    let last = (4, "", "myria: statement 2: syntax error\n");
+    compare_script(&rt, alloc, "A = scan(R);store(A, Out)", last)?;
+    let third = (4, "", "myria: statement 3: syntax error\n");
+    let unclosed =
+        "A = scan(R); B = distinct(A); C = [from A emit x; store(B, Out); D = distinct(Zed);";
+    compare_script(&rt, alloc, unclosed, third)?;
+    let items = (4, "", "myria: statement 1: too many items\n");
+    let nine =
+        "J = [from R as a, R as b, R as c, R as d, R as e, R as f, R as g, R as h, R as i emit a.x];";
+    compare_script(&rt, alloc, nine, items)?;
+    Ok(())
+}
+
+#[test]
+fn the_longest_script_is_read(rt: HostRuntime) -> Result<(), Fail> {
+    let alloc = rt.alloc();
+    let mut script = String::from_str(alloc, "A = scan(R); store(A, Out);")?;
+    while script.len() < 65_536 {
+        script.push_str(" ")?;
     }
-    let found = request_of(alloc, b"a1 = scan(b2C); store(a1, From3);\n")?;
-    assert!(rt; found.is_some_and(|request| request.stored.name.as_str() == "From3"));
+    compare_script(&rt, alloc, script.as_str(), (0, PRINTED, ""))?;
+    script.push_str(" ")?;
+    let long = (2, "", "myria: script too long\n");
+    compare_script(&rt, alloc, script.as_str(), long)?;
     Ok(())
 }

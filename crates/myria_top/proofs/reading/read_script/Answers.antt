@@ -1,38 +1,31 @@
-use Rattle.std.proofs.Common.{◌≡◌, ◌∙◌, sym, ap, arith, List, ℕ}
-use Rattle.myria_top.specs.declared.outcomes.Outcome.TheVariants as outcome
-use Rattle.myria_top.specs.declared.outcomes.Part.TheVariants as part
-use Rattle.myria_top.specs.Reading.{script_of}
-use Rattle.myria_top.specs.Requests.{request_of}
-use Rattle.myria_top.specs.Steps.{goes, refused}
-use Rattle.myria_top.proofs.ReadingLemmas.{too_long, read_goes, read_refuses, found, found_none}
+use Rattle.std.proofs.Common.{subst, arith, List, ℕ}
+use Rattle.myria_top.specs.Reading.{AgreesBy}
+use Rattle.myria_top.specs.Scripts.{TextComesTo, trees_read}
+use Rattle.myria_top.proofs.ScriptLemmas.{absent, long, text_read, text_cause}
 use Rattle.myria_top.proofs.reading.read_script.Goals as goal
+
+pub returns-in-Err-Absent-clause-read : goal.returns-in-Err-Absent-clause-read
+returns-in-Err-Absent-clause-read g c = record {
+  agrees = absent _ (c.fetched.ensures.missing (cc));
+  cause = c.fetched.ensures.absent (cc);
+  faults_kept = c.fetched.ensures.faults;
+  misses_kept = c.fetched.ensures.misses;
+}
 
 pub returns-then-len-gt-MOST_SCRIPT_BYTES-clause-read : goal.returns-then-len-gt-MOST_SCRIPT_BYTES-clause-read
 returns-then-len-gt-MOST_SCRIPT_BYTES-clause-read g c = record {
-  agrees = too_long 65536 outcome.NoScript (outcome.NotBuilt part.Script) script_of _ _ c.in-Ok.ensures.ok (omega arith);
+  agrees = long _ _ c.in-Ok.ensures.ok (omega arith);
   cause = tt;
   faults_kept = c.fetched.ensures.faults;
   misses_kept = c.fetched.ensures.misses;
 }
 
-pub returns-in-Ok-Some-clause-read : goal.returns-in-Ok-Some-clause-read
-returns-in-Ok-Some-clause-read g c = record {
+pub returns-clause-read : goal.returns-clause-read
+returns-clause-read g c = record {
   agrees =
-      read_goes 65536 outcome.NoScript (outcome.NotBuilt part.Script) script_of _ _ _ c.in-Ok.ensures.ok (omega arith)
-      (found goes (refused (outcome.NotBuilt part.Script)) (request_of c.in-Ok.script.items) c.in-Ok-Some.request
-      (sym (ap request_of c.deref.ensures.value) ∙ sym c.in-Ok-Some.ensures ∙ c.in-Ok-Some.field-0-is));
-  cause = tt;
-  faults_kept = c.fetched.ensures.faults;
-  misses_kept = c.fetched.ensures.misses;
-}
-
-pub returns-in-Ok-None-clause-read : goal.returns-in-Ok-None-clause-read
-returns-in-Ok-None-clause-read g c = record {
-  agrees =
-      read_refuses 65536 outcome.NoScript (outcome.NotBuilt part.Script) script_of _ _ _ c.in-Ok.ensures.ok (omega arith)
-      (found_none goes (refused (outcome.NotBuilt part.Script)) (request_of c.in-Ok.script.items)
-      (sym (ap request_of c.deref.ensures.value) ∙ sym c.in-Ok-None.ensures ∙ c.in-Ok-None.field-0-is));
-  cause = tt;
+      text_read _ c.in-Ok.bytes.items (trees_read c.script_of_text.result) c.in-Ok.ensures.ok (omega arith)
+      (subst (λ (bytes : List ℕ). AgreesBy (TextComesTo bytes) (trees_read c.script_of_text.result)) c.deref.ensures.value c.script_of_text.ensures.agrees);
+  cause = text_cause _ _ c.script_of_text.result c.script_of_text.ensures.kind;
   faults_kept = c.fetched.ensures.faults;
   misses_kept = c.fetched.ensures.misses;
 }

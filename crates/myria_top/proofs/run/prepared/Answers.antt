@@ -1,19 +1,60 @@
-use Rattle.std.proofs.Common.{◌≡◌, ◌∙◌, sym, arith}
-use Rattle.myria_top.proofs.VerdictLemmas.{prints, same_content, text_of_sorted}
+use Rattle.std.proofs.Common.{◌≡◌, refl, sym, subst, arith, Some}
+use Rattle.myrial_ast.specs.Trees.{trees_of}
+use Rattle.myria_top.specs.declared.outcomes.Outcome.TheVariants as outcome
+use Rattle.myria_top.specs.declared.outcomes.Part.TheVariants as part
+use Rattle.myria_top.specs.Headline.{IsAskedOf, the_script}
+use Rattle.myria_top.specs.Reading.{script_name}
+use Rattle.myria_top.specs.Steps.{refused}
+use Rattle.myria_top.specs.Verdicts.{unnamed}
+use Rattle.myria_top.proofs.RunLemmas.{script_refuses, reads_on}
+use Rattle.myria_top.proofs.StepLemmas.{HasCause-part, within_itself}
 use Rattle.myria_top.proofs.run.prepared.Goals as goal
 
-pub returns-in-Ok-of_relation-clause-read : goal.returns-in-Ok-of_relation-clause-read
-returns-in-Ok-of_relation-clause-read g c =
+pub returns-in_default-clause-read : goal.returns-in_default-clause-read
+returns-in_default-clause-read g c = record {
+  agrees = record {
+    step = refused (outcome.NotBuilt part.Words);
+    comes = unnamed (cc);
+    is = refl;
+  };
+  cause = tt;
+  faults_kept = omega arith;
+  misses_kept = omega arith;
+}
+
+pub returns-in-Err-clause-read : goal.returns-in-Err-clause-read
+returns-in-Err-clause-read g c =
+    let words = c.args.words.now in
     let content = g.F.Shelf.content c.args.shelf.now in
-    let script = c.in-Ok.ensures.read in
-    let scanned = c.in-Ok-read_scanned.ensures.read in
-    let relation = same_content content (g.F.Shelf.content c.read_script.new.shelf) c.in-Ok.request.scanned c.in-Ok-read_scanned.found c.in-Ok.ensures.content scanned.agrees in
+    let name = c.in-Some.name.now in
+    let named : script_name words ≡ Some name = sym c.in-Some.ensures in
+    let read = c.in-Err.ensures.read in
     record {
-      agrees =
-          text_of_sorted _ c.in-Ok.request c.in-Ok-read_scanned.found c.in_order-relation.result c.in-Ok-of_relation.text
-          (prints c.args.words.now content c.in-Some.name.now (sym c.in-Some.ensures) c.in-Ok.request c.in-Ok-read_scanned.found script.agrees relation)
-          c.in_order-relation.ensures.schema c.in_order-relation.ensures.rows c.in-Ok-of_relation.ensures;
-      cause = tt;
-      faults_kept = omega (arith, script.faults_kept, scanned.faults_kept);
-      misses_kept = omega (arith, script.misses_kept, scanned.misses_kept);
+      agrees = script_refuses words content name named c.in-Err.refusal read.agrees;
+      cause =
+          HasCause-part _ _ _ (IsAskedOf words content) c.in-Err.refusal (within_itself _ read.faults_kept read.misses_kept)
+          (λ file asked. subst (IsAskedOf words content) (sym asked) (the_script name named)) read.cause;
+      faults_kept = read.faults_kept;
+      misses_kept = read.misses_kept;
     }
+
+pub returns-clause-read : goal.returns-clause-read
+returns-clause-read g c =
+    let words = c.args.words.now in
+    let content = g.F.Shelf.content c.args.shelf.now in
+    let name = c.in-Some.name.now in
+    let named : script_name words ≡ Some name = sym c.in-Some.ensures in
+    let script = trees_of c.in-Ok.script in
+    let read = c.in-Ok.ensures.read in
+    let run = c.prepared_script.ensures.read in
+    let same : g.F.Shelf.content c.read_script.new.shelf ≡ content = c.in-Ok.ensures.content in
+    reads_on words content name named script (g.F.Shelf.content c.read_script.new.shelf) _ _ c.prepared_script.result read.agrees same
+    (record {
+      faults_from = read.faults_kept;
+      faults_on = run.faults_kept;
+      faults_to = omega arith;
+      misses_from = read.misses_kept;
+      misses_on = run.misses_kept;
+      misses_to = omega arith;
+    })
+    run

@@ -1,4 +1,4 @@
-use Rattle.std.proofs.Common.{◌≡◌, ℕ, List, Option, ◌∙◌, subst, OnErr, IfErr, arith}
+use Rattle.std.proofs.Common.{◌∙◌, subst, arith}
 use Rattle.rel_io.specs.Outside.{TakesPart}
 use Rattle.myria_top.proofs.PieceLemmas.{on_refusal, refusal_gives, further, part_of_text}
 use Rattle.myria_top.proofs.pieces.Pieces.print.Goals as goal

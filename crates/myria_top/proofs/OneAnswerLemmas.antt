@@ -1,0 +1,109 @@
+-- A file of a script comes to one step alone, and so do the words and the files.
+use Rattle.std.proofs.Common.{◌≡◌, ℕ, true, false, List, Some, None, Ok, Err, Result, refl, sym, ◌∙◌, ap, subst, arith}
+use Rattle.rel_io.specs.Outside.{Content}
+use Rattle.myrial_ast.specs.Trees.{StatementTree}
+use Rattle.myrial_lexer.specs.Tokens.{AreTokensOf, HasFault, line_at}
+use Rattle.myrial_lexer.specs.declared.faults.LexWhat.{LexWhat}
+use Rattle.myrial_lexer.specs.declared.kinds.Token.{Token}
+use Rattle.myrial_parser.specs.Pieces.{IsFirstFault, IsScript, pieces_of}
+use Rattle.myrial_parser.proofs.ReadingLemmas.{AreRead-one, script-sound, one_first_fault}
+use Rattle.myrial_parser.proofs.StatementLemmas.{statement-unique}
+use Rattle.myria_top.specs.declared.outcomes.Outcome.TheVariants as outcome
+use Rattle.myria_top.specs.Forms.{is_built}
+use Rattle.myria_top.specs.Scripts.{TextComesTo, not_text, bad_token, bad_piece, not_built, built, ScriptComesTo, not_told, no_script, too_long, short, fault_answer}
+use Rattle.myria_top.specs.Steps.{Step, refused, goes, then_step}
+use Rattle.myria_top.specs.Verdicts.{ComesTo, unnamed, named, printed_step}
+
+abbrev Statements : Type 0
+Statements = List StatementTree
+
+one_script : (text : List ℕ) (tokens : List Token) (a b : Statements) → IsScript text tokens a → IsScript text tokens b → a ≡ b
+one_script text tokens a b r s = AreRead-one statement-unique text 1 (pieces_of tokens) a b r s
+
+-- ---- tokens
+
+abbrev Cut : Type 0
+Cut = Result (List Token) (ℕ × LexWhat)
+
+cut_alike : {a b : List Token} → ◌≡◌ {A = Cut} (Ok a) (Ok b) → a ≡ b
+cut_alike e = cc
+
+failed_alike : {a b : ℕ × LexWhat} → ◌≡◌ {A = Cut} (Err a) (Err b) → a ≡ b
+failed_alike e = cc
+
+cut_or_failed : {a : List Token} {b : ℕ × LexWhat} → ◌≡◌ {A = Cut} (Ok a) (Err b) → ⊥
+cut_or_failed e = cc
+
+same_tokens : (text : List ℕ) (a b : List Token) → AreTokensOf text a → AreTokensOf text b → a ≡ b
+same_tokens text a b x y = cut_alike (sym x.are ∙ y.are)
+
+tokens_without_fault : (text : List ℕ) (tokens : List Token) (line : ℕ) (what : LexWhat) → AreTokensOf text tokens → HasFault text line what → ⊥
+tokens_without_fault text tokens line what x y = cut_or_failed (sym x.are ∙ y.first)
+
+-- ---- texts
+
+text_one : (bytes : List ℕ) (s t : Step Statements) → TextComesTo bytes s → TextComesTo bytes t → s ≡ t
+text_one bytes s t (not_text n) (not_text m) = refl
+text_one bytes s t (not_text n) (bad_token line what h) = absurd (n h.is_text)
+text_one bytes s t (not_text n) (bad_piece tokens number fault a f) = absurd (n a.is_text)
+text_one bytes s t (not_text n) (not_built tokens script a r b) = absurd (n a.is_text)
+text_one bytes s t (not_text n) (built tokens script a r b) = absurd (n a.is_text)
+text_one bytes s t (bad_token line what h) (not_text n) = absurd (n h.is_text)
+text_one bytes s t (bad_token line what h) (bad_token line' what' g) =
+    let both : (h.place, what) ≡ (g.place, what') = failed_alike (sym h.first ∙ g.first) in
+    let place : h.place ≡ g.place = ap (λ p. p.0) both in
+    let kind : what ≡ what' = ap (λ p. p.1) both in
+    let same : line ≡ line' = h.on_line ∙ ap (line_at bytes) place ∙ sym g.on_line in
+    λ i. refused (outcome.Lex (same i) (kind i))
+text_one bytes s t (bad_token line what h) (bad_piece tokens number fault a f) = absurd (tokens_without_fault bytes tokens line what a h)
+text_one bytes s t (bad_token line what h) (not_built tokens script a r b) = absurd (tokens_without_fault bytes tokens line what a h)
+text_one bytes s t (bad_token line what h) (built tokens script a r b) = absurd (tokens_without_fault bytes tokens line what a h)
+text_one bytes s t (bad_piece tokens number fault a f) (not_text n) = absurd (n a.is_text)
+text_one bytes s t (bad_piece tokens number fault a f) (bad_token line what h) = absurd (tokens_without_fault bytes tokens line what a h)
+text_one bytes s t (bad_piece tokens number fault a f) (bad_piece tokens' number' fault' a' f') =
+    let same = same_tokens bytes tokens' tokens a' a in
+    let g : IsFirstFault bytes tokens number' fault' = subst (λ ts. IsFirstFault bytes ts number' fault') same f' in
+    let alike = one_first_fault bytes tokens number number' fault fault' f g in
+    λ i. refused (fault_answer (alike.0 i) (alike.1 i))
+text_one bytes s t (bad_piece tokens number fault a f) (not_built tokens' script a' r b) =
+    absurd (script-sound bytes tokens script number fault (subst (λ ts. IsScript bytes ts script) (same_tokens bytes tokens' tokens a' a) r) f)
+text_one bytes s t (bad_piece tokens number fault a f) (built tokens' script a' r b) =
+    absurd (script-sound bytes tokens script number fault (subst (λ ts. IsScript bytes ts script) (same_tokens bytes tokens' tokens a' a) r) f)
+text_one bytes s t (not_built tokens script a r b) (not_text n) = absurd (n a.is_text)
+text_one bytes s t (not_built tokens script a r b) (bad_token line what h) = absurd (tokens_without_fault bytes tokens line what a h)
+text_one bytes s t (not_built tokens' script a' r b) (bad_piece tokens number fault a f) =
+    absurd (script-sound bytes tokens script number fault (subst (λ ts. IsScript bytes ts script) (same_tokens bytes tokens' tokens a' a) r) f)
+text_one bytes s t (not_built tokens script a r b) (not_built tokens' script' a' r' b') = refl
+text_one bytes s t (not_built tokens script a r b) (built tokens' script' a' r' b') =
+    let same = one_script bytes tokens script script' r (subst (λ ts. IsScript bytes ts script') (same_tokens bytes tokens' tokens a' a) r') in
+    let both : false ≡ true = sym b ∙ ap is_built same ∙ b' in cc
+text_one bytes s t (built tokens script a r b) (not_text n) = absurd (n a.is_text)
+text_one bytes s t (built tokens script a r b) (bad_token line what h) = absurd (tokens_without_fault bytes tokens line what a h)
+text_one bytes s t (built tokens' script a' r b) (bad_piece tokens number fault a f) =
+    absurd (script-sound bytes tokens script number fault (subst (λ ts. IsScript bytes ts script) (same_tokens bytes tokens' tokens a' a) r) f)
+text_one bytes s t (built tokens script a r b) (not_built tokens' script' a' r' b') =
+    let same = one_script bytes tokens script script' r (subst (λ ts. IsScript bytes ts script') (same_tokens bytes tokens' tokens a' a) r') in
+    let both : true ≡ false = sym b ∙ ap is_built same ∙ b' in cc
+text_one bytes s t (built tokens script a r b) (built tokens' script' a' r' b') =
+    ap goes (one_script bytes tokens script script' r (subst (λ ts. IsScript bytes ts script') (same_tokens bytes tokens' tokens a' a) r'))
+
+-- ---- files and words
+
+pub script_one : (content : Content) (s t : Step Statements) → ScriptComesTo content s → ScriptComesTo content t → s ≡ t
+script_one content s t not_told not_told = refl
+script_one content s t no_script no_script = refl
+script_one content s t (too_long bytes h) (too_long bytes' g) = refl
+script_one content s t (too_long bytes h) (short bytes' s' g r) = absurd (omega arith)
+script_one content s t (short bytes s' h r) (too_long bytes' g) = absurd (omega arith)
+script_one content s t (short bytes s' h r) (short bytes' t' g q) = text_one bytes s' t' r q
+
+-- the words and the files come to one step
+pub comes_to_one : (words : List (List ℕ)) (content : List ℕ → Content) (s t : Step (List ℕ)) → ComesTo words content s → ComesTo words content t → s ≡ t
+comes_to_one words content s t (unnamed e) (unnamed d) = refl
+comes_to_one words content s t (unnamed e) (named name r d h) = let both : None ≡ Some name = sym e ∙ d in cc
+comes_to_one words content s t (named name r e h) (unnamed d) = let both : None ≡ Some name = sym d ∙ e in cc
+comes_to_one words content s t (named name r e h) (named name' r' d g) =
+    let both : Some name ≡ Some name' = sym e ∙ d in
+    let same : name' ≡ name = cc in
+    ap (λ (x : Step Statements). then_step x (printed_step content))
+    (script_one (content name) r r' h (subst (λ n. ScriptComesTo (content n) r') same g))

@@ -1,0 +1,189 @@
+-- What a script comes to over its files, and what the words and the files come to.
+use Rattle.std.proofs.Common.{◌≡◌, ℕ, Bool, true, false, cond, List, map, Option, Some, None, Ok, Err, Result, refl, sym, ◌∙◌, ap, subst, inl, inr, arith}
+use Rattle.std.specs.Prelude.{IfErr, OnOk, OnErr}
+use Rattle.std.specs.List.{flat_map}
+use Rattle.std.specs.Option.{option_map_or}
+use Rattle.rel_base.specs.Keys.{File}
+use Rattle.rel_base.specs.declared.faults.RunFault.{RunFault}
+use Rattle.std.specs.Io.KnownBytes.{Appends}
+use Rattle.rel_io.specs.declared.sinks.SinkFault.{SinkFault}
+use Rattle.rel_io.specs.declared.sinks.SinkFault.TheVariants as fault
+use Rattle.rel_io.specs.Outside.{Content, Rose, TakesPart}
+use Rattle.rel_io.specs.Outside as outside
+use Rattle.myrial_ast.specs.Trees.{StatementTree}
+use Rattle.myrial_meaning.specs.Faults.{run_fault}
+use Rattle.myrial_meaning.specs.Meaning.{stored_relations}
+use Rattle.myrial_meaning.specs.Ordered.{in_order}
+use Rattle.myrial_meaning.specs.Runnable.{has_meaning}
+use Rattle.myrial_meaning.specs.Scans.{scanned_keys}
+use Rattle.myria_top.specs.declared.outcomes.Outcome.{Outcome}
+use Rattle.myria_top.specs.declared.outcomes.Outcome.TheVariants as outcome
+use Rattle.myria_top.specs.declared.outcomes.Part.TheVariants as part
+use Rattle.myria_top.specs.Headline.{Run, Written, Decides, Explains, FaultsRose, IsAskedOf, TellsLine, WantsRose, of_untold, a_relation}
+use Rattle.myria_top.specs.OutputText.{output_text, relation_text_in_order}
+use Rattle.myria_top.specs.Reading.{Agrees, AgreesBy, AgreesRefused, Counts, HasCause, Meets, ReadsBy, ReadsStep, RefusesBy, script_name}
+use Rattle.myria_top.specs.Scripts.{ScriptComesTo, TextComesTo, not_text, bad_token, bad_piece, not_built, built, not_told, no_script, too_long, short}
+use Rattle.myria_top.specs.Steps.{Step, untold, refused, goes, then_step, IfTold}
+use Rattle.myria_top.specs.Verdicts.{ComesTo, named, IsFileOf, files_step, printed_step, run_answer, run_step}
+use Rattle.myria_top.proofs.OneAnswerLemmas.{comes_to_one}
+use Rattle.myria_top.proofs.OutputLemmas.{output_text-sorted}
+use Rattle.myria_top.proofs.StepLemmas.{LiesWithin, HasCause-part, met, met_further, goes_second, refused_first, refused_second}
+
+-- ---- the run of a script
+
+module _ (script : List StatementTree) (files : List File) where
+  abbrev verdict : Option RunFault → Step (List File)
+  verdict found = option_map_or (λ fault. refused (run_answer fault)) found (goes (stored_relations files script))
+
+  abbrev with_meaning : Bool → Step (List File)
+  with_meaning b = cond b (verdict (run_fault false files script)) (refused (outcome.NotBuilt part.Relation))
+
+  abbrev printed : Step (List File) → Step (List ℕ)
+  printed s = then_step s (λ stored. goes (output_text stored))
+
+  -- without a fault the text is printed
+  pub run_prints : (stored : List File) (text : List ℕ) → has_meaning files script ≡ true → run_fault false files script ≡ None
+      → stored ≡ map in_order (stored_relations files script) → text ≡ flat_map (λ (file : File). relation_text_in_order file.0 file.1) stored
+      → IfTold (printed (run_step script files)) (λ s. s ≡ goes text)
+  run_prints stored text meaning fault is texts =
+      let all : text ≡ output_text (stored_relations files script) =
+      texts ∙ ap (flat_map (λ (file : File). relation_text_in_order file.0 file.1)) is ∙ output_text-sorted (stored_relations files script) in
+      let step : printed (run_step script files) ≡ goes text =
+      ap (λ (b : Bool). printed (with_meaning b)) meaning ∙ ap (λ (o : Option RunFault). printed (verdict o)) fault ∙ ap goes (sym all) in
+      subst (λ (s : Step (List ℕ)). IfTold s (λ t. t ≡ goes text)) (sym step) refl
+
+-- ---- the files of a script, and then its run
+
+-- a refusal of the files
+pub files_refuse : (content : List ℕ → Content) (script : List StatementTree) (answer : Outcome) → AgreesRefused (files_step content (scanned_keys script)) answer → AgreesRefused (printed_step content script) answer
+files_refuse content script answer h =
+    refused_first (then_step (files_step content (scanned_keys script)) (run_step script)) (λ stored. goes (output_text stored)) answer
+    (refused_first (files_step content (scanned_keys script)) (run_step script) answer h)
+
+-- a step behind two others
+regrouped : {X Y Z : Type 0} (s : Step X) (f : X → Step Y) (g : Y → Step Z) → then_step (then_step s f) g ≡ then_step s (λ x. then_step (f x) g)
+regrouped untold f g = refl
+regrouped (refused answer) f g = refl
+regrouped (goes x) f g = refl
+
+-- a refusal of the run over the files that were read
+pub run_refuses : (content : List ℕ → Content) (script : List StatementTree) (files : List File) (answer : Outcome) → IfTold (files_step content (scanned_keys script)) (λ s. s ≡ goes files)
+    → AgreesRefused (then_step (run_step script files) (λ stored. goes (output_text stored))) answer → AgreesRefused (printed_step content script) answer
+run_refuses content script files answer read h =
+    subst (λ s. AgreesRefused s answer) (sym (regrouped (files_step content (scanned_keys script)) (run_step script) (λ stored. goes (output_text stored))))
+    (refused_second (files_step content (scanned_keys script)) (λ fs. then_step (run_step script fs) (λ stored. goes (output_text stored))) files answer read h)
+
+-- the text of the run over them
+pub run_goes : (content : List ℕ → Content) (script : List StatementTree) (files : List File) (text : List ℕ) → IfTold (files_step content (scanned_keys script)) (λ s. s ≡ goes files)
+    → IfTold (then_step (run_step script files) (λ stored. goes (output_text stored))) (λ s. s ≡ goes text) → IfTold (printed_step content script) (λ s. s ≡ goes text)
+run_goes content script files text read h =
+    subst (λ (s : Step (List ℕ)). IfTold s (λ t. t ≡ goes text)) (sym (regrouped (files_step content (scanned_keys script)) (run_step script) (λ stored. goes (output_text stored))))
+    (goes_second (files_step content (scanned_keys script)) (λ fs. then_step (run_step script fs) (λ stored. goes (output_text stored))) files text read h)
+
+-- ---- the script, and then its run
+
+told_text : (bytes : List ℕ) (s : Step (List StatementTree)) → TextComesTo bytes s → s ≡ untold → ⊥
+told_text bytes s (not_text n) e = cc
+told_text bytes s (bad_token line what h) e = cc
+told_text bytes s (bad_piece tokens number fault a f) e = cc
+told_text bytes s (not_built tokens script a r b) e = cc
+told_text bytes s (built tokens script a r b) e = cc
+
+told_file : (content : Content) (s : Step (List StatementTree)) → ScriptComesTo content s → s ≡ untold → content ≡ outside.untold
+told_file content s not_told e = refl
+told_file content s no_script e = cc
+told_file content s (too_long bytes h) e = cc
+told_file content s (short bytes t h comes) e = absurd (told_text bytes t comes e)
+
+not_told_is : (content : Content) → ScriptComesTo content untold → content ≡ outside.untold
+not_told_is content comes = told_file content untold comes refl
+
+module _ (words : List (List ℕ)) (content : List ℕ → Content) (name : List ℕ) (is_named : script_name words ≡ Some name) where
+  pub script_refuses : (answer : Outcome) → RefusesBy (ScriptComesTo (content name)) answer → RefusesBy (ComesTo words content) answer
+  script_refuses answer h =
+      met_further (ScriptComesTo (content name)) (ComesTo words content) (printed_step content) (λ s comes. named name s is_named comes) answer h
+
+  pub printed_refuses : (script : List StatementTree) (answer : Outcome) → Meets (ScriptComesTo (content name)) (goes script) → AgreesRefused (printed_step content script) answer → RefusesBy (ComesTo words content) answer
+  printed_refuses script answer m h =
+      met (ComesTo words content) (then_step m.step (printed_step content)) answer (named name m.step is_named m.comes)
+      (refused_second m.step (printed_step content) script answer m.is h)
+
+  pub printed_goes : (script : List StatementTree) (text : List ℕ) → Meets (ScriptComesTo (content name)) (goes script) → IfTold (printed_step content script) (λ s. s ≡ goes text) → Meets (ComesTo words content) (goes text)
+  printed_goes script text m h = record {
+    step = then_step m.step (printed_step content);
+    comes = named name m.step is_named m.comes;
+    is = goes_second m.step (printed_step content) script text m.is h;
+  }
+
+  pub asked : (script : List StatementTree) (file : List ℕ) → Meets (ScriptComesTo (content name)) (goes script) → IsFileOf (scanned_keys script) file → IsAskedOf words content file
+  asked script file m f = told m.step m.comes m.is
+    where
+      told : (s : Step (List StatementTree)) → ScriptComesTo (content name) s → IfTold s (λ t. t ≡ goes script) → IsAskedOf words content file
+      told untold comes is = of_untold name file is_named (not_told_is (content name) comes)
+      told (refused answer) comes is = cc
+      told (goes other) comes is =
+          let same : other ≡ script = cc in
+          subst (IsAskedOf words content) (sym f.is_named)
+          (a_relation name script f.key is_named (subst (λ t. ScriptComesTo (content name) (goes t)) same comes) f.is_one)
+
+  agrees_on : (script : List StatementTree) (r : Result (List ℕ) Outcome) → Meets (ScriptComesTo (content name)) (goes script) → Agrees (printed_step content script) r → AgreesBy (ComesTo words content) r
+  agrees_on script (Ok text) m h = printed_goes script text m h
+  agrees_on script (Err answer) m h = printed_refuses script answer m h
+
+  cause_on : (script : List StatementTree) (part run : Counts) (r : Result (List ℕ) Outcome) → Meets (ScriptComesTo (content name)) (goes script) → LiesWithin part run
+      → IfErr r (HasCause part (IsFileOf (scanned_keys script))) → IfErr r (HasCause run (IsAskedOf words content))
+  cause_on script part run (Ok text) m within h = tt
+  cause_on script part run (Err answer) m within h = HasCause-part part run _ (IsAskedOf words content) answer within (λ file f. asked script file m f) h
+
+  -- the script was read, and then its run was prepared on the same content
+  pub reads_on : (script : List StatementTree) (same : List ℕ → Content) (part run : Counts) (r : Result (List ℕ) Outcome) → Meets (ScriptComesTo (content name)) (goes script)
+      → same ≡ content → LiesWithin part run → ReadsStep (printed_step same script) part (IsFileOf (scanned_keys script)) r → ReadsBy (ComesTo words content) run (IsAskedOf words content) r
+  reads_on script same part run r m is within h = record {
+    agrees = agrees_on script r m (subst (λ (con : List ℕ → Content). Agrees (printed_step con script) r) is h.agrees);
+    cause = cause_on script part run r m within h.cause;
+    faults_kept = omega (arith, within.faults_from, within.faults_on, within.faults_to);
+    misses_kept = omega (arith, within.misses_from, within.misses_on, within.misses_to);
+  }
+
+-- ---- the words and the files decide the answer
+
+decides_done : (P : List ℕ → Type 0) (s : Step (List ℕ)) → IfTold s (λ t. (text : List ℕ) × (t ≡ goes text) × P text) → Decides s outcome.Done
+decides_done P untold h = tt
+decides_done P (refused answer) h = let e : refused answer ≡ goes h.0 = h.1 in cc
+decides_done P (goes text) h = inl refl
+
+decides_memory : (s : Step (List ℕ)) → Decides s outcome.Memory
+decides_memory untold = tt
+decides_memory (refused answer) = inr refl
+decides_memory (goes text) = inr refl
+
+decides_refused : (answer : Outcome) (s : Step (List ℕ)) → IfTold s (λ t. t ≡ refused answer) → Decides s answer
+decides_refused answer untold h = tt
+decides_refused answer (refused other) h = let same : answer ≡ other = cc in inl same
+decides_refused answer (goes text) h = cc
+
+module _ (run : Run) (step : Step (List ℕ)) (comes : ComesTo run.words run.content step) where
+  same_step : (s : Step (List ℕ)) (answer : Outcome) → ComesTo run.words run.content s → Decides s answer → Decides step answer
+  same_step s answer other h = subst (λ t. Decides t answer) (comes_to_one run.words run.content s step other comes) h
+
+  met_step : (answer : Outcome) → Meets (ComesTo run.words run.content) (refused answer) → Decides step answer
+  met_step answer m = same_step m.step answer m.comes (decides_refused answer m.step m.is)
+
+  decided_from : (answer : Outcome) → Explains run answer → ¬ Rose run.shelf.faults_before run.shelf.faults_after → ¬ FaultsRose run.out → Decides step answer
+  decided_from outcome.Done e shelf out = same_step e.step outcome.Done e.comes (decides_done _ e.step e.holds)
+  decided_from outcome.WriteFault e shelf out = absurd (out e.0)
+  decided_from outcome.Memory e shelf out = decides_memory step
+  decided_from (outcome.ReadFault name) e shelf out = absurd (shelf e.cause.0)
+  decided_from answer e shelf out = met_step answer e.agrees
+
+pub decided : (run : Run) (answer : Outcome) → Explains run answer → (step : Step (List ℕ)) → ComesTo run.words run.content step → ¬ Rose run.shelf.faults_before run.shelf.faults_after → ¬ FaultsRose run.out → Decides step answer
+decided run answer e step comes shelf out = decided_from run step comes answer e shelf out
+
+-- ---- the line of the answer
+
+pub told_line : (err : Written) (line : List ℕ) (r : Result (Unit {0}) SinkFault)
+    → OnOk r (Appends err.before err.after line) → OnErr r (TakesPart err.before err.after line)
+    → (r ≡ Err fault.Failed → FaultsRose err) → (r ≡ Err fault.Memory → WantsRose err) → TellsLine err line
+told_line err line (Ok x) ok part failed memory = inl ok
+told_line err line (Err fault.Failed) ok part failed memory = inr (inl (failed refl), part)
+told_line err line (Err fault.Memory) ok part failed memory = inr (inr (memory refl), part)

@@ -1,0 +1,16 @@
+use Rattle.std.proofs.Common.{◌∙◌, sym}
+use Rattle.myrial_ast.specs.Trees.{trees_of}
+use Rattle.myria_top.proofs.FormLemmas.{runs-built}
+use Rattle.myria_top.proofs.RunLemmas.{run_prints}
+use Rattle.myria_top.proofs.run.text_of_run.Goals as goal
+
+pub evaluate-requires-clause-runs : goal.evaluate-requires-clause-runs
+evaluate-requires-clause-runs c = runs-built (trees_of c.args.script.now) c.requires
+
+pub returns-in-Ok-of_stored-clause-agrees : goal.returns-in-Ok-of_stored-clause-agrees
+returns-in-Ok-of_stored-clause-agrees c =
+    run_prints (trees_of c.args.script.now) c.args.files.now c.in-Ok.stored c.in-Ok-of_stored.text
+    (sym c.in-Ok-true.ensures ∙ c.in-Ok-true.field-0-test) c.in-Ok.ensures.no_fault c.in-Ok.ensures.stored c.in-Ok-of_stored.ensures
+
+pub has_meaning-requires : goal.has_meaning-requires
+has_meaning-requires c = runs-built (trees_of c.args.script.now) c.requires
