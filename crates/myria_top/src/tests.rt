@@ -266,7 +266,7 @@ fn a_faulty_script_is_told_with_its_place(rt: HostRuntime) -> Result<(), Fail> {
 fn the_longest_script_is_read(rt: HostRuntime) -> Result<(), Fail> {
     let alloc = rt.alloc();
     let mut script = String::from_str(alloc, "A = scan(R); store(A, Out);")?;
-    while script.len() < 65_536 {
+    for _ in script.len()..65_536 {
         script.push_str(" ")?;
     }
     compare_script(&rt, alloc, script.as_str(), (0, PRINTED, ""))?;
