@@ -1,7 +1,7 @@
 -- Steps one after another, and what calls that came to them show.
 use Rattle.std.proofs.Common.{◌≡◌, ℕ, ◌≤◌, List, [], ◌∷◌, ◌++◌, fold, refl, sym, ap, subst, arith}
 use Rattle.rel_base.specs.Keys.{File, shelf_name_of}
-use Rattle.rel_base.specs.Relations.{Table}
+use Rattle.rel_base.specs.Relations.{RelationState}
 use Rattle.rel_base.specs.declared.names.Key.{Key}
 use Rattle.rel_io.specs.Outside.{Content}
 use Rattle.rel_io.proofs.OutsideLemmas.{Rose-part}
@@ -91,7 +91,7 @@ module _ (content : List ℕ → Content) where
       (refused_first (relation_step key (content (shelf_name_of key))) (λ table. goes (files ++ (key, table) ∷ [])) answer h)))
 
   -- one file more
-  pub files_more : (before : List Key) (key : Key) (files : List File) (table : Table)
+  pub files_more : (before : List Key) (key : Key) (files : List File) (table : RelationState)
       → IfTold (files_step content before) (λ s. s ≡ goes files) → IfTold (relation_step key (content (shelf_name_of key))) (λ s. s ≡ goes table)
       → IfTold (files_step content (before ++ key ∷ [])) (λ s. s ≡ goes (files ++ (key, table) ∷ []))
   files_more before key files table read found =

@@ -8,7 +8,7 @@
 use Rattle.std.specs.Prelude.{◌≡◌, ℕ, false, if◌then◌else◌, List, [], ◌∷◌, ◌++◌, fold, Contains, Some, None}
 use Rattle.std.specs.Option.{option_map_or}
 use Rattle.rel_base.specs.Keys.{File, shelf_name_of}
-use Rattle.rel_base.specs.Relations.{Table}
+use Rattle.rel_base.specs.Relations.{RelationState}
 use Rattle.rel_base.specs.declared.faults.RunFault.{RunFault}
 use Rattle.rel_base.specs.declared.faults.RunFault.TheVariants as fault
 use Rattle.rel_base.specs.declared.names.Key.{Key}
@@ -29,11 +29,11 @@ use Rattle.myria_top.specs.Scripts.{ScriptComesTo}
 use Rattle.myria_top.specs.Steps.{Step, refused, goes, then_step}
 
 -- what the bytes of a relation come to
-abbrev pub relation_of : List ℕ → Step Table
+abbrev pub relation_of : List ℕ → Step RelationState
 relation_of bytes = option_map_or goes (relation_of_bytes bytes) (refused (outcome.NotBuilt part.Relation))
 
 -- what the file of a scanned relation comes to
-abbrev pub relation_step : Key → Content → Step Table
+abbrev pub relation_step : Key → Content → Step RelationState
 relation_step key = file_step MOST_RELATION_BYTES (outcome.NoRelation key) (outcome.NotBuilt part.Relation) relation_of
 
 -- the files so far and, where they are good, that of one key more

@@ -12,10 +12,10 @@ use Rattle.std.specs.Ordering.{is_lt, is_gt}
 use Rattle.std.specs.List.{list_all, list_any, enumerate_from, zip}
 use Rattle.rel_base.specs.declared.values.Value.{Value}
 use Rattle.rel_base.specs.declared.values.Value.TheVariants as value
-use Rattle.rel_base.specs.Values.{value_order, number_of}
+use Rattle.rel_base.specs.Values.{value_order, number_of, in_64_bits}
 use Rattle.myrial_ast.specs.declared.operators.AggOp.{AggOp}
 use Rattle.myrial_ast.specs.declared.operators.AggOp.TheVariants as agg
-use Rattle.myrial_ast.specs.Scalars.{value_at, in_64_bits}
+use Rattle.myrial_ast.specs.Scalars.{value_at}
 use Rattle.myrial_ast.specs.Combinations.{Row, Rows}
 use Rattle.myrial_ast.specs.Bags.{same_row, distinct}
 

@@ -11,7 +11,7 @@ use Rattle.std.specs.Prelude.{ℕ, ◌^◌, ℤ, pos, negsuc, ◌+ℤ◌, ◌-�
 use Rattle.std.specs.Ordering.{is_eq, is_lt, is_gt}
 use Rattle.rel_base.specs.declared.values.Value.{Value}
 use Rattle.rel_base.specs.declared.values.Value.TheVariants as value
-use Rattle.rel_base.specs.Values.{value_order, number_of, truth_of}
+use Rattle.rel_base.specs.Values.{value_order, number_of, truth_of, in_64_bits}
 use Rattle.myrial_ast.specs.declared.operators.BinOp.{BinOp}
 use Rattle.myrial_ast.specs.declared.operators.BinOp.TheVariants as op
 
@@ -52,11 +52,6 @@ exact_value (Bin operator l r) row = applied operator (exact_value l row) (exact
 -- whether the value is true
 abbrev pub holds : Scalar → List Value → Bool
 holds e row = truth_of (exact_value e row)
-
--- whether a number lies in 64 bits, signed
-abbrev pub in_64_bits : ℤ → Bool
-in_64_bits (pos n) = nat_lt n (2 ^ 63)
-in_64_bits (negsuc n) = nat_lt n (2 ^ 63)
 
 -- whether every number that a part makes lies in 64 bits; a value that is no number counts as 0
 abbrev pub fits : Scalar → List Value → Bool

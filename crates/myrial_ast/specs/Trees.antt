@@ -9,7 +9,7 @@
 use Rattle.std.specs.Prelude.{ℕ, List, map, Option, option_map}
 use Rattle.rel_base.specs.declared.values.Value.{Value}
 use Rattle.rel_base.specs.declared.names.Key.{Key}
-use Rattle.rel_base.specs.declared.tables.Column.{Column}
+use Rattle.rel_base.specs.declared.relations.Column.{Column}
 use Rattle.myrial_ast.specs.declared.operators.BinOp.{BinOp}
 use Rattle.myrial_ast.specs.declared.operators.AggOp.{AggOp}
 use Rattle.myrial_ast.specs.declared.expressions.ColRef.{ColRef}

@@ -6,7 +6,7 @@ use Rattle.std.specs.Option.{option_map_or}
 use Rattle.rel_base.specs.Bags.{SameBag}
 use Rattle.rel_base.specs.Each.{each_or_none}
 use Rattle.rel_base.specs.Keys.{File, same_key}
-use Rattle.rel_base.specs.Relations.{Table}
+use Rattle.rel_base.specs.Relations.{RelationState}
 use Rattle.rel_base.specs.declared.names.Key.{Key}
 use Rattle.myrial_ast.specs.declared.relations.FromItem.{FromItem}
 use Rattle.myrial_ast.specs.declared.relations.Operand.{Operand}
@@ -75,7 +75,7 @@ Matched-each R f g step (x ∷ xs) =
 -- ---- relations under names and keys
 
 -- one name or key, with one relation in another order
-record SameEntry {K : Type 0} (p q : K × Table) : Type 0 where
+record SameEntry {K : Type 0} (p q : K × RelationState) : Type 0 where
   name : p.0 ≡ q.0
   table : SameTable p.1 q.1
 
@@ -92,17 +92,17 @@ files-of_entries (one_more p q files rest same others) =
 
 -- the first relation under a name or key that passes
 module _ {K : Type 0} (test : K → Bool) where
-  abbrev found_in : List (K × Table) → Option Table
-  found_in entries = option_map (λ (p : K × Table). p.1) (find (λ (p : K × Table). test p.0) entries)
+  abbrev found_in : List (K × RelationState) → Option RelationState
+  found_in entries = option_map (λ (p : K × RelationState). p.1) (find (λ (p : K × RelationState). test p.0) entries)
 
-  found-first : (passes : Bool) (p q : K × Table) (ps qs : List (K × Table)) → SameTable p.1 q.1 → Matched SameTable (found_in ps) (found_in qs)
+  found-first : (passes : Bool) (p q : K × RelationState) (ps qs : List (K × RelationState)) → SameTable p.1 q.1 → Matched SameTable (found_in ps) (found_in qs)
       → Matched SameTable
-      (option_map (λ (e : K × Table). e.1) (cond passes (Some p) (find (λ (e : K × Table). test e.0) ps)))
-      (option_map (λ (e : K × Table). e.1) (cond passes (Some q) (find (λ (e : K × Table). test e.0) qs)))
+      (option_map (λ (e : K × RelationState). e.1) (cond passes (Some p) (find (λ (e : K × RelationState). test e.0) ps)))
+      (option_map (λ (e : K × RelationState). e.1) (cond passes (Some q) (find (λ (e : K × RelationState). test e.0) qs)))
   found-first true p q ps qs same others = both p.1 q.1 same
   found-first false p q ps qs same others = others
 
-  found-same : {ps qs : List (K × Table)} → Alike SameEntry ps qs → Matched SameTable (found_in ps) (found_in qs)
+  found-same : {ps qs : List (K × RelationState)} → Alike SameEntry ps qs → Matched SameTable (found_in ps) (found_in qs)
   found-same no_more = neither
   found-same (one_more p q ps qs same others) =
       rw same.name (found-first (test q.0) (q.0, p.1) q ps qs same.table (found-same others))
@@ -163,7 +163,7 @@ module _ (files others : List File) (there here : Environment) (files-same : Ali
       → Matched SameTable (of_one f (operand_of files there o)) (of_one f (operand_of others here o))
   of_one-same f step o =
       Matched-map SameTable SameTable
-      (λ (t : Table). record { schema = t.schema; rows = f t.rows }) (λ (t : Table). record { schema = t.schema; rows = f t.rows })
+      (λ (t : RelationState). record { schema = t.schema; rows = f t.rows }) (λ (t : RelationState). record { schema = t.schema; rows = f t.rows })
       (λ t u tables. record { schema = tables.schema; rows = step t.rows u.rows tables.rows })
       (operand-same o)
 
@@ -171,10 +171,10 @@ module _ (files others : List File) (there here : Environment) (files-same : Ali
       → Matched SameTable (of_two f (operand_of files there o) (operand_of files there p)) (of_two f (operand_of others here o) (operand_of others here p))
   of_two-same f step o p =
       Matched-and_then SameTable SameTable
-      (λ (t : Table). option_map (λ (u : Table). record { schema = t.schema; rows = f t.rows u.rows }) (operand_of files there p))
-      (λ (t : Table). option_map (λ (u : Table). record { schema = t.schema; rows = f t.rows u.rows }) (operand_of others here p))
+      (λ (t : RelationState). option_map (λ (u : RelationState). record { schema = t.schema; rows = f t.rows u.rows }) (operand_of files there p))
+      (λ (t : RelationState). option_map (λ (u : RelationState). record { schema = t.schema; rows = f t.rows u.rows }) (operand_of others here p))
       (λ t u lefts. Matched-map SameTable SameTable
-      (λ (v : Table). record { schema = t.schema; rows = f t.rows v.rows }) (λ (v : Table). record { schema = u.schema; rows = f u.rows v.rows })
+      (λ (v : RelationState). record { schema = t.schema; rows = f t.rows v.rows }) (λ (v : RelationState). record { schema = u.schema; rows = f u.rows v.rows })
       (λ v w rights. record { schema = lefts.schema; rows = step t.rows u.rows v.rows w.rows lefts.rows rights.rows })
       (operand-same p))
       (operand-same o)

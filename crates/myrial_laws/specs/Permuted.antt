@@ -6,7 +6,7 @@
 use Rattle.std.specs.Prelude.{◌≡◌, List, [], ◌∷◌}
 use Rattle.rel_base.specs.Bags.{SameBag}
 use Rattle.rel_base.specs.Keys.{File}
-use Rattle.rel_base.specs.Relations.{Table}
+use Rattle.rel_base.specs.Relations.{RelationState}
 use Rattle.rel_base.specs.declared.names.Key.{Key}
 use Rattle.myrial_ast.specs.Combinations.{Rows}
 
@@ -16,11 +16,11 @@ pub data SameTables : List Rows → List Rows → Type 0 where
   a_table : (rows others : Rows) (tables rest : List Rows) → SameBag rows others → SameTables tables rest → SameTables (rows ∷ tables) (others ∷ rest)
 
 -- one relation with its rows in another order
-pub record SameTable (t u : Table) : Type 0 where
+pub record SameTable (t u : RelationState) : Type 0 where
   pub schema : t.schema ≡ u.schema
   pub rows : SameBag t.rows u.rows
 
 -- the same keys in the same order, each with one relation with its rows in another order
 pub data SameFiles : List File → List File → Type 0 where
   no_file : SameFiles [] []
-  a_file : (key : Key) (t u : Table) (files rest : List File) → SameTable t u → SameFiles files rest → SameFiles ((key, t) ∷ files) ((key, u) ∷ rest)
+  a_file : (key : Key) (t u : RelationState) (files rest : List File) → SameTable t u → SameFiles files rest → SameFiles ((key, t) ∷ files) ((key, u) ∷ rest)

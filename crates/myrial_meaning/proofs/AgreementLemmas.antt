@@ -7,7 +7,7 @@ use Rattle.std.specs.List.{list_any}
 use Rattle.std.specs.Option.{option_map_or}
 use Rattle.rel_base.specs.Each.{each_or_none, put_before}
 use Rattle.rel_base.specs.Keys.{File, same_key}
-use Rattle.rel_base.specs.Relations.{Table}
+use Rattle.rel_base.specs.Relations.{RelationState}
 use Rattle.rel_base.specs.declared.names.Key.{Key}
 use Rattle.rel_base.specs.declared.faults.RunFault.{RunFault}
 use Rattle.rel_base.specs.declared.faults.RunFault.TheVariants as fault
@@ -106,7 +106,7 @@ module _ (files : List File) (there here : Environment) where
   relation_fault-agrees number (tree.Empty schema) agrees = refl
   relation_fault-agrees number (tree.Distinct o) agrees = refl
   relation_fault-agrees number (tree.UnionAll o p) agrees =
-      ap (option_and_then (λ (t : Table). if too_many t.rows then Some (fault.TooManyRows number) else None))
+      ap (option_and_then (λ (t : RelationState). if too_many t.rows then Some (fault.TooManyRows number) else None))
       (relation-agrees (tree.UnionAll o p) agrees)
   relation_fault-agrees number (tree.Diff o p) agrees = refl
   relation_fault-agrees number (tree.From items condition emits) agrees =
@@ -120,11 +120,11 @@ abbrev pub Agrees : List StatementTree → Environment → Environment → Type 
 Agrees rest = AgreesOn (λ name. is_live name rest)
 
 -- where a name stands for a relation, names that are not live before may be assigned anew
-assigned-anew : (env : Environment) (n : Name) (t : Table) (name : Name)
+assigned-anew : (env : Environment) (n : Name) (t : RelationState) (name : Name)
     → assigned_to (with_name env n t) name ≡ cond (same_name n name) (Some t) (assigned_to env name)
 assigned-anew env n t name = by (same_name n name)
   where
-    by : (same : Bool) → option_map (λ (p : Name × Table). p.1) (cond same (Some (n, t)) (find (λ p. same_name p.0 name) env.assigned))
+    by : (same : Bool) → option_map (λ (p : Name × RelationState). p.1) (cond same (Some (n, t)) (find (λ p. same_name p.0 name) env.assigned))
         ≡ cond same (Some t) (assigned_to env name)
     by true = refl
     by false = refl
@@ -147,7 +147,7 @@ module _ (files : List File) (there here : Environment) (rest : List StatementTr
       names : (name : Name) → is_live name rest ≡ true → assigned_to there name ≡ assigned_to here name
       names name e = agrees.names name (or-second (same_name n name) (is_live name rest) e)
 
-      by : (found : Option Table) → Agrees rest (option_map_or (with_key there key) found there) (option_map_or (with_key here key) found here)
+      by : (found : Option RelationState) → Agrees rest (option_map_or (with_key there key) found there) (option_map_or (with_key here key) found here)
       by None = record { stored = agrees.stored; names = names }
       by (Some t) = record { stored = ap (λ (stored : List File). (key, t) ∷ stored) agrees.stored; names = names }
 
@@ -170,7 +170,7 @@ module _ (files : List File) (there here : Environment) (rest : List StatementTr
   after-assign n r live stands agrees =
       rw (← relation-agrees files there here r (mentioned n r live agrees)) (by (relation_of files there r) stands)
     where
-      by : (found : Option Table) → is_some found ≡ true → Agrees rest (option_map_or (with_name there n) found there) (option_map_or (with_name here n) found here)
+      by : (found : Option RelationState) → is_some found ≡ true → Agrees rest (option_map_or (with_name there n) found there) (option_map_or (with_name here n) found here)
       by None e = cc
       by (Some t) e = record {
         stored = agrees.stored;
@@ -194,7 +194,7 @@ module _ (files : List File) (there here : Environment) (rest : List StatementTr
           decide false k = k
           decide true k = let e = rw (same_name-equal n name k) at dead in cc
 
-      by : (found : Option Table) → Agrees rest (option_map_or (with_name there n) found there) here
+      by : (found : Option RelationState) → Agrees rest (option_map_or (with_name there n) found there) here
       by None = record { stored = agrees.stored; names = λ name live. others n r agrees name (apart name live) live }
       by (Some t) = record {
         stored = agrees.stored;

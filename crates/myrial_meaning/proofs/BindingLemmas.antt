@@ -6,7 +6,7 @@ use Rattle.std.proofs.lemmas.Bool.{false≢true}
 use Rattle.std.specs.List.{flat_map, list_all}
 use Rattle.rel_base.specs.Each.{each_or_none}
 use Rattle.rel_base.proofs.EachLemmas.{each_or_none-push, each_or_none-fault_at}
-use Rattle.rel_base.specs.declared.tables.Column.{Column}
+use Rattle.rel_base.specs.declared.relations.Column.{Column}
 use Rattle.myrial_ast.specs.declared.relations.EmitItem.{EmitItem}
 use Rattle.myrial_ast.specs.Trees.{Name, emit_tree_of}
 use Rattle.myrial_ast.specs.Scalars.{At}

@@ -4,9 +4,9 @@ use Rattle.std.proofs.lemmas.List.{map-append}
 use Rattle.std.specs.Option.{option_map_or}
 use Rattle.rel_base.specs.Each.{each_or_none, put_before}
 use Rattle.rel_base.specs.Keys.{File, same_key}
-use Rattle.rel_base.specs.Relations.{Table}
+use Rattle.rel_base.specs.Relations.{RelationState}
 use Rattle.rel_base.specs.declared.names.Key.{Key}
-use Rattle.rel_base.specs.declared.tables.Column.{Column}
+use Rattle.rel_base.specs.declared.relations.Column.{Column}
 use Rattle.myrial_ast.specs.declared.relations.FromItem.{FromItem}
 use Rattle.myrial_ast.specs.declared.relations.Operand.{Operand}
 use Rattle.myrial_ast.specs.declared.relations.Operand.TheVariants as operand
@@ -22,7 +22,7 @@ use Rattle.myrial_meaning.specs.Columns.{all_declared, bare, declared}
 
 -- ---- without rows
 
-bare_name : Name × Table → Name × Table
+bare_name : Name × RelationState → Name × RelationState
 bare_name p = (p.0, bare p.1)
 
 bare_file : File → File
@@ -44,17 +44,17 @@ is_some-same f o p e = sym (is_some-mapped f o) ∙ (ap is_some e ∙ is_some-ma
 
 -- ---- what a name and a key stand for
 
-found-name : (name : Name) (ps : List (Name × Table))
-    → option_map bare (option_map (λ (p : Name × Table). p.1) (find (λ (p : Name × Table). same_name p.0 name) ps))
-    ≡ option_map (λ (p : Name × Table). p.1) (find (λ (p : Name × Table). same_name p.0 name) (map bare_name ps))
+found-name : (name : Name) (ps : List (Name × RelationState))
+    → option_map bare (option_map (λ (p : Name × RelationState). p.1) (find (λ (p : Name × RelationState). same_name p.0 name) ps))
+    ≡ option_map (λ (p : Name × RelationState). p.1) (find (λ (p : Name × RelationState). same_name p.0 name) (map bare_name ps))
 unfolding bare_name
 found-name name [] = refl
 found-name name (p ∷ ps) = by (same_name p.0 name) (found-name name ps)
   where
-    by : (same : Bool) → option_map bare (option_map (λ (p : Name × Table). p.1) (find (λ (p : Name × Table). same_name p.0 name) ps))
-        ≡ option_map (λ (p : Name × Table). p.1) (find (λ (p : Name × Table). same_name p.0 name) (map (λ q. (q.0, bare q.1)) ps))
-        → option_map bare (option_map (λ (p : Name × Table). p.1) (cond same (Some p) (find (λ (p : Name × Table). same_name p.0 name) ps)))
-        ≡ option_map (λ (p : Name × Table). p.1) (cond same (Some (p.0, bare p.1)) (find (λ (p : Name × Table). same_name p.0 name) (map (λ q. (q.0, bare q.1)) ps)))
+    by : (same : Bool) → option_map bare (option_map (λ (p : Name × RelationState). p.1) (find (λ (p : Name × RelationState). same_name p.0 name) ps))
+        ≡ option_map (λ (p : Name × RelationState). p.1) (find (λ (p : Name × RelationState). same_name p.0 name) (map (λ q. (q.0, bare q.1)) ps))
+        → option_map bare (option_map (λ (p : Name × RelationState). p.1) (cond same (Some p) (find (λ (p : Name × RelationState). same_name p.0 name) ps)))
+        ≡ option_map (λ (p : Name × RelationState). p.1) (cond same (Some (p.0, bare p.1)) (find (λ (p : Name × RelationState). same_name p.0 name) (map (λ q. (q.0, bare q.1)) ps)))
     by true e = refl
     by false e = e
 
@@ -79,7 +79,7 @@ module _ (files : List File) (there here : Environment) (same : columns_of there
   unfolding columns_of
   name-columns name =
       found-name name there.assigned
-      ∙ (ap (λ (env : Environment). option_map (λ (p : Name × Table). p.1) (find (λ (p : Name × Table). same_name p.0 name) env.assigned)) same
+      ∙ (ap (λ (env : Environment). option_map (λ (p : Name × RelationState). p.1) (find (λ (p : Name × RelationState). same_name p.0 name) env.assigned)) same
       ∙ sym (found-name name here.assigned))
 
   key-columns : (key : Key) → option_map bare (kept_under files there key) ≡ option_map bare (kept_under files here key)
@@ -99,13 +99,13 @@ module _ (files : List File) (there here : Environment) (same : columns_of there
   unfolding bare_source
   source-columns item = by (operand_of files there item.source) (operand_of files here item.source) (operand-columns item.source)
     where
-      by : (o p : Option Table) → option_map bare o ≡ option_map bare p
-          → option_map (λ (s : Source). let b : Source = record { alias = s.alias; table = bare s.table } in b) (option_map (λ (t : Table). let s : Source = record { alias = item.alias; table = t } in s) o)
-          ≡ option_map (λ (s : Source). let b : Source = record { alias = s.alias; table = bare s.table } in b) (option_map (λ (t : Table). let s : Source = record { alias = item.alias; table = t } in s) p)
+      by : (o p : Option RelationState) → option_map bare o ≡ option_map bare p
+          → option_map (λ (s : Source). let b : Source = record { alias = s.alias; table = bare s.table } in b) (option_map (λ (t : RelationState). let s : Source = record { alias = item.alias; table = t } in s) o)
+          ≡ option_map (λ (s : Source). let b : Source = record { alias = s.alias; table = bare s.table } in b) (option_map (λ (t : RelationState). let s : Source = record { alias = item.alias; table = t } in s) p)
       by None None e = refl
       by None (Some t) e = cc
       by (Some t) None e = cc
-      by (Some t) (Some u) e = ap (option_map (λ (t : Table). let s : Source = record { alias = item.alias; table = t } in s)) e
+      by (Some t) (Some u) e = ap (option_map (λ (t : RelationState). let s : Source = record { alias = item.alias; table = t } in s)) e
 
   both-mapped : (o p : Option Source) (ss ts : Option (List Source)) → option_map bare_source o ≡ option_map bare_source p
       → option_map (map bare_source) ss ≡ option_map (map bare_source) ts
@@ -135,11 +135,11 @@ module _ (files : List File) (there here : Environment) (same : columns_of there
 
   over-columns : (condition : Option Tree) (emits : List EmitTree) (sources : List Source)
       → option_map bare (comprehension_over sources condition emits)
-      ≡ option_map (λ (b : Bound). let t : Table = record { schema = b.schema; rows = [] } in t) (bound_in (scope_of (items_of sources)) condition emits)
+      ≡ option_map (λ (b : Bound). let t : RelationState = record { schema = b.schema; rows = [] } in t) (bound_in (scope_of (items_of sources)) condition emits)
   over-columns condition emits sources = by (bound_in (scope_of (items_of sources)) condition emits)
     where
-      by : (bound : Option Bound) → option_map bare (option_map (λ (b : Bound). let t : Table = record { schema = b.schema; rows = comprehension_rows b (tables_of sources) } in t) bound)
-          ≡ option_map (λ (b : Bound). let t : Table = record { schema = b.schema; rows = [] } in t) bound
+      by : (bound : Option Bound) → option_map bare (option_map (λ (b : Bound). let t : RelationState = record { schema = b.schema; rows = comprehension_rows b (tables_of sources) } in t) bound)
+          ≡ option_map (λ (b : Bound). let t : RelationState = record { schema = b.schema; rows = [] } in t) bound
       by None = refl
       by (Some b) = refl
 
@@ -154,16 +154,16 @@ module _ (files : List File) (there here : Environment) (same : columns_of there
       let alike : map bare_source ss ≡ map bare_source ts = cc in
       let items : items_of ss ≡ items_of ts = sym (items-bare ss) ∙ (ap items_of alike ∙ items-bare ts) in
       over-columns condition emits ss
-      ∙ (ap (λ (its : List Item). option_map (λ (b : Bound). let t : Table = record { schema = b.schema; rows = [] } in t) (bound_in (scope_of its) condition emits)) items
+      ∙ (ap (λ (its : List Item). option_map (λ (b : Bound). let t : RelationState = record { schema = b.schema; rows = [] } in t) (bound_in (scope_of its) condition emits)) items
       ∙ sym (over-columns condition emits ts))
 
-  one-columns : (f : Rows → Rows) (o p : Option Table) → option_map bare o ≡ option_map bare p → option_map bare (of_one f o) ≡ option_map bare (of_one f p)
+  one-columns : (f : Rows → Rows) (o p : Option RelationState) → option_map bare o ≡ option_map bare p → option_map bare (of_one f o) ≡ option_map bare (of_one f p)
   one-columns f None None e = refl
   one-columns f None (Some p) e = cc
   one-columns f (Some o) None e = cc
   one-columns f (Some o) (Some p) e = e
 
-  two-columns : (f : Rows → Rows → Rows) (o p q r : Option Table) → option_map bare o ≡ option_map bare p → option_map bare q ≡ option_map bare r
+  two-columns : (f : Rows → Rows → Rows) (o p q r : Option RelationState) → option_map bare o ≡ option_map bare p → option_map bare q ≡ option_map bare r
       → option_map bare (of_two f o q) ≡ option_map bare (of_two f p r)
   two-columns f None None q r e g = refl
   two-columns f None (Some p) q r e g = cc
@@ -189,8 +189,8 @@ module _ (files : List File) (there here : Environment) (same : columns_of there
   stands-columns (tree.Assign name r) = is_some-same bare (relation_of files there r) (relation_of files here r) (relation-columns r)
   stands-columns (tree.Store name key) = is_some-same bare (assigned_to there name) (assigned_to here name) (name-columns name)
 
-  named-columns : (name : Name) (o p : Option Table) → option_map bare o ≡ option_map bare p
-      → columns_of (option_map_or (with_name there name) o there) ≡ columns_of (option_map_or (λ (t : Table). with_name here name (bare t)) p here)
+  named-columns : (name : Name) (o p : Option RelationState) → option_map bare o ≡ option_map bare p
+      → columns_of (option_map_or (with_name there name) o there) ≡ columns_of (option_map_or (λ (t : RelationState). with_name here name (bare t)) p here)
   unfolding columns_of bare_name
   named-columns name None None e = same
   named-columns name None (Some p) e = cc
@@ -201,8 +201,8 @@ module _ (files : List File) (there here : Environment) (same : columns_of there
       let stored : map bare_file there.stored ≡ map bare_file here.stored = ap (λ (env : Environment). env.stored) same in
       λ i. record { assigned = (name, alike i) ∷ assigned i; stored = stored i }
 
-  keyed-columns : (key : Key) (o p : Option Table) → option_map bare o ≡ option_map bare p
-      → columns_of (option_map_or (with_key there key) o there) ≡ columns_of (option_map_or (λ (t : Table). with_key here key (bare t)) p here)
+  keyed-columns : (key : Key) (o p : Option RelationState) → option_map bare o ≡ option_map bare p
+      → columns_of (option_map_or (with_key there key) o there) ≡ columns_of (option_map_or (λ (t : RelationState). with_key here key (bare t)) p here)
   unfolding columns_of bare_file
   keyed-columns key None None e = same
   keyed-columns key None (Some p) e = cc

@@ -4,15 +4,15 @@ use Rattle.std.proofs.lemmas.List.Folds.{find-append}
 use Rattle.std.specs.Option.{option_or}
 use Rattle.rel_base.specs.declared.names.Key.{Key}
 use Rattle.rel_base.specs.Keys.{File, same_key}
-use Rattle.rel_base.specs.Relations.{Table}
+use Rattle.rel_base.specs.Relations.{RelationState}
 use Rattle.myrial_meaning.specs.Meaning.{Environment, kept_under}
 
 module _ (files : List File) (env : Environment) (key : Key) where
   -- the relation that was stored under the key, and that of its file
-  stored_there : Option Table
+  stored_there : Option RelationState
   stored_there = option_map (λ (p : File). p.1) (find (λ (p : File). same_key p.0 key) env.stored)
 
-  file_there : Option Table
+  file_there : Option RelationState
   file_there = option_map (λ (p : File). p.1) (find (λ (p : File). same_key p.0 key) files)
 
   kept-cases : kept_under files env key ≡ option_or stored_there file_there
@@ -24,7 +24,7 @@ module _ (files : List File) (env : Environment) (key : Key) where
       by None = refl
       by (Some file) = refl
 
-  pub kept_under-stored : (t : Table) → Some t ≡ option_map (λ (p : File). p.1) (find (λ (p : File). same_key p.0 key) env.stored)
+  pub kept_under-stored : (t : RelationState) → Some t ≡ option_map (λ (p : File). p.1) (find (λ (p : File). same_key p.0 key) env.stored)
       → Some t ≡ kept_under files env key
   unfolding stored_there file_there
   kept_under-stored t e = sym (kept-cases ∙ ap (λ found. option_or found file_there) (sym e))

@@ -2,7 +2,7 @@
 use Rattle.std.proofs.Common.{◌≡◌, ◌∙◌, ℕ, suc, ◌+◌, ◌<◌, Bool, true, false, cond, ◌&&◌, Option, Some, None, List, [], ◌∷◌, length, reverse, fold, is_some, refl, sym, ap, subst, arith, add-one}
 use Rattle.std.specs.Option.{option_map_or}
 use Rattle.rel_base.specs.Keys.{File}
-use Rattle.rel_base.specs.Relations.{Table}
+use Rattle.rel_base.specs.Relations.{RelationState}
 use Rattle.rel_base.specs.declared.names.Key.{Key}
 use Rattle.rel_base.specs.declared.faults.RunFault.{RunFault}
 use Rattle.rel_base.specs.declared.faults.RunFault.TheVariants as fault
@@ -97,12 +97,12 @@ module _ (files : List File) (script : List StatementTree) where
   stored-more tree.Nothing number here few = omega arith
   stored-more (tree.Store n key) number here few = by (assigned_to here n)
     where
-      by : (found : Option Table) → length (option_map_or (with_key here key) found here).stored < number + 1
+      by : (found : Option RelationState) → length (option_map_or (with_key here key) found here).stored < number + 1
       by None = omega arith
       by (Some t) = omega arith
   stored-more (tree.Assign n r) number here few = by (relation_of files here r)
     where
-      by : (found : Option Table) → length (option_map_or (with_name here n) found here).stored < number + 1
+      by : (found : Option RelationState) → length (option_map_or (with_name here n) found here).stored < number + 1
       by None = omega arith
       by (Some t) = omega arith
 

@@ -6,10 +6,10 @@ use Rattle.rel_base.specs.declared.values.Value.{Value}
 use Rattle.rel_base.specs.declared.values.Value.TheVariants as value
 use Rattle.rel_base.specs.declared.values.ColType.TheVariants as kind
 use Rattle.rel_base.specs.declared.names.Key.{Key}
-use Rattle.rel_base.specs.declared.tables.Column.{Column}
+use Rattle.rel_base.specs.declared.relations.Column.{Column}
 use Rattle.rel_base.specs.declared.faults.RunFault.TheVariants as fault
 use Rattle.rel_base.specs.Keys.{File}
-use Rattle.rel_base.specs.Relations.{Table}
+use Rattle.rel_base.specs.Relations.{RelationState}
 use Rattle.myrial_ast.specs.declared.relations.FromItem.{FromItem}
 use Rattle.myrial_ast.specs.declared.relations.Operand.{Operand}
 use Rattle.myrial_ast.specs.declared.relations.Operand.TheVariants as operand
@@ -33,7 +33,7 @@ numbers ns = map (λ n. value.Int (pos n)) ns
 abbrev int_columns : List Name → List Column
 int_columns names = map (λ name. record { name = name; kind = kind.Int }) names
 
-abbrev table : List Name → List (List ℕ) → Table
+abbrev table : List Name → List (List ℕ) → RelationState
 table names rows = record { schema = int_columns names; rows = map numbers rows }
 
 abbrev scanned : Name → Operand
@@ -48,7 +48,7 @@ column alias name = Col (ref.OfName alias name)
 abbrev emitted : Tree → EmitTree
 emitted e = One e None
 
-abbrev file : Name → Table → File
+abbrev file : Name → RelationState → File
 file name t = (adhoc name, t)
 
 -- ---- a relation joined with itself

@@ -10,7 +10,7 @@ use Rattle.std.specs.List.{list_any, list_all, range_with_len}
 use Rattle.std.specs.Option.{option_map_or}
 use Rattle.rel_base.specs.Each.{each_or_none}
 use Rattle.rel_base.specs.Keys.{File}
-use Rattle.rel_base.specs.Relations.{Table}
+use Rattle.rel_base.specs.Relations.{RelationState}
 use Rattle.rel_base.specs.declared.faults.RunFault.{RunFault}
 use Rattle.rel_base.specs.declared.faults.RunFault.TheVariants as fault
 use Rattle.myrial_ast.specs.Trees.{RelTree, StatementTree}
@@ -65,7 +65,7 @@ relation_fault prefixes number files env (tree.From items condition emits) =
     option_and_then (λ (b : Bound). comprehension_fault prefixes number (widths_of sources) b.comprehension (tables_of sources))
     (bound_in (scope_of (items_of sources)) condition emits)) (each_or_none (source_of files env) items)
 relation_fault prefixes number files env (tree.UnionAll o p) =
-    option_and_then (λ (t : Table). if too_many t.rows then Some (fault.TooManyRows number) else None)
+    option_and_then (λ (t : RelationState). if too_many t.rows then Some (fault.TooManyRows number) else None)
     (relation_of files env (tree.UnionAll o p))
 relation_fault prefixes number files env _ = None
 

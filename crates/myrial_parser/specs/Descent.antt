@@ -17,7 +17,7 @@ use denote.Enum.Bare.{sameb}
 use Rattle.rel_base.specs.declared.values.Value.TheVariants as value
 use Rattle.rel_base.specs.declared.values.ColType.{ColType}
 use Rattle.rel_base.specs.declared.names.Key.{Key}
-use Rattle.rel_base.specs.declared.tables.Column.{Column}
+use Rattle.rel_base.specs.declared.relations.Column.{Column}
 use Rattle.myrial_ast.specs.declared.operators.BinOp.{BinOp}
 use Rattle.myrial_ast.specs.declared.operators.AggOp.{AggOp}
 use Rattle.myrial_ast.specs.declared.operators.AggOp.TheVariants as agg

@@ -11,7 +11,7 @@ use Rattle.rel_base.specs.declared.values.Value.TheVariants as value
 use Rattle.rel_base.specs.declared.values.ColType.{ColType}
 use Rattle.rel_base.specs.declared.values.ColType.TheVariants as type
 use Rattle.rel_base.specs.declared.names.Key.{Key}
-use Rattle.rel_base.specs.declared.tables.Column.{Column}
+use Rattle.rel_base.specs.declared.relations.Column.{Column}
 use Rattle.myrial_ast.specs.declared.operators.BinOp.{BinOp}
 use Rattle.myrial_ast.specs.declared.operators.BinOp.TheVariants as op
 use Rattle.myrial_ast.specs.declared.operators.AggOp.{AggOp}

@@ -8,7 +8,7 @@ use Rattle.std.specs.Prelude.{◌≡◌, ℕ, Bool, true, ◌&&◌, not, List, [
 use Rattle.std.specs.List.{list_any}
 use Rattle.std.specs.Cmp.Lexicographic.{pointwise}
 use Rattle.rel_base.specs.declared.names.Key.{Key}
-use Rattle.rel_base.specs.Relations.{Table}
+use Rattle.rel_base.specs.Relations.{RelationState}
 
 -- user, program and name, with a colon between them
 abbrev pub key_text : Key → List ℕ
@@ -24,7 +24,7 @@ same_key j k = pointwise nat_eq j.user k.user && pointwise nat_eq j.program k.pr
 
 -- a relation under its key
 abbrev pub File : Type 0
-File = Key × Table
+File = Key × RelationState
 
 -- whether one of the files has this key
 abbrev pub holds_key : List File → Key → Bool

@@ -1,5 +1,6 @@
 -- The words of this crate, lowest first.
 pub mod Each
+pub mod Limits
 pub mod Values
 pub mod ValueLaws
 pub mod Codes

@@ -2,14 +2,14 @@
 --
 --   has_type t v        value v is of type t
 --   HasTypes s row      the row has a value of its type for each column of the schema s, and no more
---   Table               what contracts see of a relation
+--   RelationState               what contracts see of a relation
 use Rattle.std.specs.Prelude.{IsTrue, Bool, true, false, List}
 use Rattle.std.specs.Cmp.Lexicographic.{pointwise}
 use Rattle.rel_base.specs.declared.values.Value.{Value}
 use Rattle.rel_base.specs.declared.values.Value.TheVariants as variant
 use Rattle.rel_base.specs.declared.values.ColType.{ColType}
 use Rattle.rel_base.specs.declared.values.ColType.TheVariants as kind
-use Rattle.rel_base.specs.declared.tables.Column.{Column}
+use Rattle.rel_base.specs.declared.relations.Column.{Column}
 
 -- the type of a value
 abbrev pub type_of : Value → ColType
@@ -33,6 +33,6 @@ abbrev pub HasTypes : List Column → List Value → Type 0
 HasTypes schema row = IsTrue (fits_schema schema row)
 
 -- a relation: columns, and rows in the order in which they stand
-pub record Table : Type 0 where
+pub record RelationState : Type 0 where
   pub schema : List Column
   pub rows : List (List Value)

@@ -2,7 +2,8 @@
 --
 --   value_order a b    how two values compare
 --   row_order r s      how two rows compare: column by column, and then by their lengths
-use Rattle.std.specs.Prelude.{ℕ, ℤ, pos, Bool, false, List, []}
+--   in_64_bits n       whether a number is one that an int can hold
+use Rattle.std.specs.Prelude.{ℕ, ◌^◌, ℤ, pos, negsuc, Bool, false, nat_lt, List, []}
 use Rattle.std.specs.declared.cmp.Ordering.{Ordering}
 use Rattle.std.specs.Ordering.{nat_cmp, int_cmp, bool_cmp, on, then_cmp}
 use Rattle.std.specs.Cmp.Lexicographic.{slice_cmp}
@@ -42,3 +43,8 @@ value_order =
 -- rows compare column by column; a row comes before each longer row that begins with it
 abbrev pub row_order : List Value → List Value → Ordering
 row_order = slice_cmp value_order
+
+-- whether a number lies in 64 bits, signed
+abbrev pub in_64_bits : ℤ → Bool
+in_64_bits (pos n) = nat_lt n (2 ^ 63)
+in_64_bits (negsuc n) = nat_lt n (2 ^ 63)

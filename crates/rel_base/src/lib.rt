@@ -16,9 +16,10 @@ mod copying;
 mod counting;
 mod failure;
 mod faults;
+mod limits;
 mod list;
 mod names;
-mod tables;
+mod relations;
 #[cfg(test)]
 mod tests;
 mod texts;
@@ -29,9 +30,14 @@ pub use copying::Duplicate;
 pub use counting::Steps;
 pub use failure::Memory;
 pub use faults::RunFault;
+pub use limits::{
+    MOST_BATCH, MOST_CAPACITY, MOST_COLUMNS, MOST_ITEMS, MOST_NESTING, MOST_PIECES,
+    MOST_RELATION_BYTES, MOST_ROWS, MOST_SCRIPT_BYTES, MOST_TOKENS, MOST_VARIABLES, MOST_WORKERS,
+    TAPS, limits_are_as_defined,
+};
 pub use list::{Items, Places};
 pub use names::{Files, Key, Keys, Stored};
-pub use tables::{Column, Parts, Relation, Rows, Schema, Spread, sorted_permutation_is_unique};
+pub use relations::{Column, Parts, Relation, Rows, Schema, Spread, sorted_permutation_is_unique};
 pub use texts::Text;
 pub use tuples::Row;
 pub use values::{ColType, Value};

@@ -9,7 +9,7 @@ use Rattle.std.proofs.lemmas.List.Folds.{list_any_at, list_any_none}
 use Rattle.std.proofs.lemmas.List.Sums.{prefix_len_is}
 use Rattle.std.proofs.lemmas.Str.Pattern.{NoCharPasses-char}
 use Rattle.rel_base.specs.declared.values.ColType.{ColType}
-use Rattle.rel_base.specs.declared.tables.Column.{Column}
+use Rattle.rel_base.specs.declared.relations.Column.{Column}
 use Rattle.relation_csv.specs.Fields.{column_of_field, is_colon, type_of_name}
 
 -- behind the last colon stands as much as there is behind its place

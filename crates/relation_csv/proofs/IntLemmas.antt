@@ -8,7 +8,8 @@ use Rattle.std.proofs.lemmas.Bool.{eqb-false, eqb-true}
 use Rattle.std.proofs.lemmas.Bool.Decides.{Decides-and, Decides-like, Decides-ltb, Decides-not, Decides-eqb}
 use Rattle.std.proofs.lemmas.Str.Parse.{parse_signed_minus, parse_signed_plain, parse_signed_plus}
 use Rattle.relation_csv.proofs.DecimalLemmas.{numerals}
-use Rattle.relation_csv.specs.Fields.{fits_int, int_of_field, is_numeral, signed_number}
+use Rattle.relation_csv.specs.Fields.{int_of_field, is_numeral, signed_number}
+use Rattle.rel_base.specs.Values.{in_64_bits}
 
 -- what stands under a condition stands under a test that decides it
 result_ok-OkIff : {E : Type 0} (r : Result ℤ E) (P : Type 0) (n : ℤ) (test : Bool) → OkIff r P n → Decides test P
@@ -27,19 +28,19 @@ Decides-is_numeral ds =
 
 -- digits behind a sign
 signed_number-OkIff : {E : Type 0} (r : Result ℤ E) (sign : ℕ → ℤ) (ds : List ℕ) (Within : Type 0)
-    → Decides (fits_int (sign (digits_value 10 ds))) Within
+    → Decides (in_64_bits (sign (digits_value 10 ds))) Within
     → OkIff r ((all_ascii_digits ds ≡ true) × (0 < length ds) × Within) (sign (digits_value 10 ds))
     → result_ok r ≡ signed_number sign ds
 signed_number-OkIff r sign ds Within d h =
-    result_ok-OkIff r _ (sign (digits_value 10 ds)) (is_numeral ds && fits_int (sign (digits_value 10 ds))) h
-    (Decides-like (is_numeral ds && fits_int (sign (digits_value 10 ds))) (λ p. (p.0.1, p.0.0, p.1))
+    result_ok-OkIff r _ (sign (digits_value 10 ds)) (is_numeral ds && in_64_bits (sign (digits_value 10 ds))) h
+    (Decides-like (is_numeral ds && in_64_bits (sign (digits_value 10 ds))) (λ p. (p.0.1, p.0.0, p.1))
     (λ p. ((p.1, p.0), p.2))
-    (Decides-and (is_numeral ds) (fits_int (sign (digits_value 10 ds))) (Decides-is_numeral ds) d))
+    (Decides-and (is_numeral ds) (in_64_bits (sign (digits_value 10 ds))) (Decides-is_numeral ds) d))
 
-Decides-fits_pos : (n : ℕ) → Decides (fits_int (pos n)) (n < 2 ^ 63)
+Decides-fits_pos : (n : ℕ) → Decides (in_64_bits (pos n)) (n < 2 ^ 63)
 Decides-fits_pos n = Decides-ltb n (2 ^ 63)
 
-Decides-fits_neg : (n : ℕ) → Decides (fits_int (neg_ℤ (pos n))) (n ≤ 2 ^ 63)
+Decides-fits_neg : (n : ℕ) → Decides (in_64_bits (neg_ℤ (pos n))) (n ≤ 2 ^ 63)
 Decides-fits_neg zero = (λ e. omega arith, λ h. refl)
 Decides-fits_neg (suc n) = Decides-like (ltb n (2 ^ 63)) (λ h. omega arith) (λ h. omega arith) (Decides-ltb n (2 ^ 63))
 

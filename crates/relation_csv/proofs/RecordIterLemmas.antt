@@ -6,7 +6,7 @@ use Rattle.std.specs.Iterator.Adapters.{zip_first, zip_second}
 use Rattle.std.specs.Slice.Iter.{iter_rest}
 use Rattle.std.specs.List.{zip}
 use Rattle.std.proofs.iter.Yields.{fronts}
-use Rattle.rel_base.specs.declared.tables.Column.{Column}
+use Rattle.rel_base.specs.declared.relations.Column.{Column}
 use Rattle.std.specs.Option.{IfSome}
 use Rattle.std.proofs.lemmas.Iterator.{YieldsList, YieldsList-from_slice, YieldsList-from_zip, zips}
 use Rattle.std.proofs.lemmas.Iterator.Consumers.{YieldsList-from_shown}

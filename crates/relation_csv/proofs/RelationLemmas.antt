@@ -1,6 +1,6 @@
 -- The relation of a file, by its header and its rows.
 use Rattle.std.proofs.Common.{◌≡◌, ℕ, Some, None, List, [], ◌∷◌, refl}
-use Rattle.rel_base.specs.declared.tables.Column.{Column}
+use Rattle.rel_base.specs.declared.relations.Column.{Column}
 use Rattle.rel_base.specs.declared.values.Value.{Value}
 use Rattle.relation_csv.specs.Files.{Record, records_of_bytes, relation_of_bytes, rows_of_records, schema_of_record}
 use Rattle.relation_csv.specs.RecordsLeft.{StartsWithNoText}

@@ -19,10 +19,11 @@ use Rattle.rel_base.specs.declared.values.Value.{Value}
 use Rattle.rel_base.specs.declared.values.Value.TheVariants as variant
 use Rattle.rel_base.specs.declared.values.ColType.{ColType}
 use Rattle.rel_base.specs.declared.values.ColType.TheVariants as kind
-use Rattle.rel_base.specs.declared.tables.Column.{Column}
-use Rattle.rel_base.specs.Relations.{HasTypes, Table, fits_schema, same_type, type_of}
+use Rattle.rel_base.specs.declared.relations.Column.{Column}
+use Rattle.rel_base.specs.Relations.{HasTypes, RelationState, fits_schema, same_type, type_of}
 use Rattle.relation_csv.specs.declared.files.TheConstants.{MOST_ROWS}
-use Rattle.relation_csv.specs.Fields.{column_of_field, fits_int, int_of_field, signed_number, value_of_field}
+use Rattle.relation_csv.specs.Fields.{column_of_field, int_of_field, signed_number, value_of_field}
+use Rattle.rel_base.specs.Values.{in_64_bits}
 use Rattle.rel_base.specs.Each.{each_or_none}
 use Rattle.relation_csv.specs.Files.{Record, is_text, records_of_bytes, relation_of_bytes, row_of_record, value_under}
 use Rattle.relation_csv.specs.RecordsLeft.{records_after}
@@ -40,7 +41,7 @@ use Rattle.relation_csv.proofs.RecordsLeftLemmas.{records_after-Some, records_af
 -- ---- ints
 
 -- digits behind a sign are a number, where it fits
-signed_number-decimal : (sign : ℕ → ℤ) (n : ℕ) → n < 2 ^ 64 → fits_int (sign n) ≡ true
+signed_number-decimal : (sign : ℕ → ℤ) (n : ℕ) → n < 2 ^ 64 → in_64_bits (sign n) ≡ true
     → signed_number sign (decimal n) ≡ Some (sign n)
 signed_number-decimal sign n small fits =
     let value = digits_value-decimal numerals n small in
@@ -56,7 +57,7 @@ int_of_field-digits (d ∷ ds) some all =
     rw (ne_eqb d 45 (λ e. omega arith), ne_eqb d 43 (λ e. omega arith)) refl
 
 -- an int is read back
-int_of_field-signed_decimal : (z : ℤ) → fits_int z ≡ true → int_of_field (signed_decimal z) ≡ Some z
+int_of_field-signed_decimal : (z : ℤ) → in_64_bits z ≡ true → int_of_field (signed_decimal z) ≡ Some z
 int_of_field-signed_decimal (pos n) fits =
     let low = ltb-true n (2 ^ 63) fits in
     int_of_field-digits (decimal n) (decimal_nonempty n (omega arith)) (digits_decimal numerals n (omega arith))
@@ -66,7 +67,7 @@ int_of_field-signed_decimal (negsuc n) fits =
     signed_number-decimal (λ m. neg_ℤ (pos m)) (suc n) (omega arith) fits
 
 -- its text is text
-is_utf8-signed_decimal : (z : ℤ) → fits_int z ≡ true → is_utf8 (signed_decimal z) ≡ true
+is_utf8-signed_decimal : (z : ℤ) → in_64_bits z ≡ true → is_utf8 (signed_decimal z) ≡ true
 is_utf8-signed_decimal (pos n) fits =
     let low = ltb-true n (2 ^ 63) fits in
     is_utf8-from_IsUtf8 (decimal n) (IsUtf8-from_ascii (decimal n) (IsAscii-decimal n (omega arith)))
@@ -238,6 +239,6 @@ relation_of_bytes-written (c ∷ cs) rows h =
     (rows_written (c ∷ cs) rows h.int_columns h.typed h.held))
 
 -- the same of a relation
-pub relation_of_bytes-file_text : (relation : Table) → IsIntRelation relation
+pub relation_of_bytes-file_text : (relation : RelationState) → IsIntRelation relation
     → relation_of_bytes (file_text relation) ≡ Some relation
 relation_of_bytes-file_text relation h = relation_of_bytes-written relation.schema relation.rows h

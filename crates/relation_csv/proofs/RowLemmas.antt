@@ -1,7 +1,7 @@
 -- The row of a record, and when there is none.
 use Rattle.std.proofs.Common.{◌≡◌, ◌&&◌, ◌≢◌, eqb, true, Some, None, List, length, zip, refl}
 use Rattle.std.proofs.lemmas.Bool.{eq-eqb, ne_eqb}
-use Rattle.rel_base.specs.declared.tables.Column.{Column}
+use Rattle.rel_base.specs.declared.relations.Column.{Column}
 use Rattle.rel_base.specs.declared.values.Value.{Value}
 use Rattle.rel_base.specs.Each.{each_or_none}
 use Rattle.relation_csv.specs.Files.{Record, is_text, row_of_record, value_under}

@@ -1,7 +1,7 @@
 -- The columns of a header, and when there are none.
 use Rattle.std.proofs.Common.{◌≡◌, ◌&&◌, ◌<◌, ◌≤◌, Bool, true, false, cond, leb, Option, Some, None, List, length, refl}
 use Rattle.std.proofs.lemmas.Bool.{le-leb, lt-leb}
-use Rattle.rel_base.specs.declared.tables.Column.{Column}
+use Rattle.rel_base.specs.declared.relations.Column.{Column}
 use Rattle.relation_csv.specs.declared.files.TheConstants.{MOST_COLUMNS}
 use Rattle.relation_csv.specs.Fields.{column_of_field}
 use Rattle.rel_base.specs.Each.{each_or_none}

@@ -3,7 +3,7 @@ use Rattle.std.proofs.Common.{◌≡◌, ℕ, pos, negsuc, true, false, codes, S
 use Rattle.rel_base.specs.declared.values.Value.{Value}
 use Rattle.rel_base.specs.declared.values.Value.TheVariants as variant
 use Rattle.rel_base.specs.declared.values.ColType.TheVariants as kind
-use Rattle.rel_base.specs.declared.tables.Column.{Column}
+use Rattle.rel_base.specs.declared.relations.Column.{Column}
 use Rattle.relation_csv.specs.Fields.{int_of_field, column_of_field}
 use Rattle.relation_csv.specs.Files.{relation_of_bytes}
 use Rattle.relation_csv.specs.RecordTexts.{header_record, row_record}

@@ -11,12 +11,8 @@ use Rattle.rel_base.specs.declared.values.Value.{Value}
 use Rattle.rel_base.specs.declared.values.Value.TheVariants as variant
 use Rattle.rel_base.specs.declared.values.ColType.{ColType}
 use Rattle.rel_base.specs.declared.values.ColType.TheVariants as kind
-use Rattle.rel_base.specs.declared.tables.Column.{Column}
-
--- whether the number lies in 64 bits, signed
-abbrev pub fits_int : ℤ → Bool
-fits_int (pos n) = nat_lt n (2 ^ 63)
-fits_int (negsuc n) = nat_lt n (2 ^ 63)
+use Rattle.rel_base.specs.declared.relations.Column.{Column}
+use Rattle.rel_base.specs.Values.{in_64_bits}
 
 -- whether there is a digit, and nothing but digits
 abbrev pub is_numeral : List ℕ → Bool
@@ -26,7 +22,7 @@ is_numeral digits = not (length digits == 0) && all_ascii_digits digits
 abbrev pub signed_number : (ℕ → ℤ) → List ℕ → Option ℤ
 signed_number sign digits =
     let number = sign (digits_value 10 digits) in
-    if is_numeral digits && fits_int number then Some number else None
+    if is_numeral digits && in_64_bits number then Some number else None
 
 -- the number of an int field: a plus, a minus or no sign, and then its digits
 abbrev pub int_of_field : List ℕ → Option ℤ

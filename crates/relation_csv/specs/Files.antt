@@ -8,9 +8,9 @@ use Rattle.std.specs.List.{list_all, zip}
 use Rattle.std.specs.Str.{is_utf8}
 use Rattle.csv.specs.Reading.{default_config, records, strip_bom}
 use Rattle.rel_base.specs.declared.values.Value.{Value}
-use Rattle.rel_base.specs.declared.tables.Column.{Column}
+use Rattle.rel_base.specs.declared.relations.Column.{Column}
 use Rattle.rel_base.specs.Each.{each_or_none}
-use Rattle.rel_base.specs.Relations.{Table}
+use Rattle.rel_base.specs.Relations.{RelationState}
 use Rattle.relation_csv.specs.declared.files.TheConstants.{MOST_COLUMNS, MOST_ROWS}
 use Rattle.relation_csv.specs.declared.faults.RelFault.{RelFault}
 use Rattle.relation_csv.specs.declared.faults.RelFault.TheVariants as fault
@@ -53,17 +53,17 @@ rows_of_records schema others =
     if nat_le (length others) MOST_ROWS then each_or_none (row_of_record schema) others else None
 
 -- the relation of these columns, and of the rows of these records
-abbrev pub relation_under : List Record → List Column → Option Table
+abbrev pub relation_under : List Record → List Column → Option RelationState
 relation_under others schema =
     option_map (λ rows. record { schema = schema; rows = rows }) (rows_of_records schema others)
 
 -- the relation of a list of records: the first is the header, and the others are the rows
-abbrev pub relation_of_records : List Record → Option Table
+abbrev pub relation_of_records : List Record → Option RelationState
 relation_of_records [] = None
 relation_of_records (header ∷ others) = option_and_then (relation_under others) (schema_of_record header)
 
 -- the relation of a file, if the file is good
-unfoldable pub relation_of_bytes : List ℕ → Option Table
+unfoldable pub relation_of_bytes : List ℕ → Option RelationState
 relation_of_bytes bytes = relation_of_records (records_of_bytes bytes)
 
 -- what was read is what the definition gives, a fault where it gives nothing; after `Memory` either may be so

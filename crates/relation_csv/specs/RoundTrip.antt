@@ -9,14 +9,14 @@ use Rattle.csv.specs.Reading.{strip_bom}
 use Rattle.rel_base.specs.declared.values.Value.{Value}
 use Rattle.rel_base.specs.declared.values.Value.TheVariants as variant
 use Rattle.rel_base.specs.declared.values.ColType.TheVariants as kind
-use Rattle.rel_base.specs.declared.tables.Column.{Column}
-use Rattle.rel_base.specs.Relations.{HasTypes, Table, same_type}
+use Rattle.rel_base.specs.declared.relations.Column.{Column}
+use Rattle.rel_base.specs.Relations.{HasTypes, RelationState, same_type}
 use Rattle.relation_csv.specs.declared.files.TheConstants.{MOST_COLUMNS, MOST_ROWS}
-use Rattle.relation_csv.specs.Fields.{fits_int}
+use Rattle.rel_base.specs.Values.{in_64_bits}
 use Rattle.relation_csv.specs.RecordTexts.{header_record, row_record}
 
 -- the record of the header, and then the records of the rows
-abbrev pub file_text : Table → List ℕ
+abbrev pub file_text : RelationState → List ℕ
 file_text relation = header_record relation.schema ++ flat_map row_record relation.rows
 
 -- whether a column is one of ints, with a name that is text
@@ -25,7 +25,7 @@ is_int_column column = same_type column.kind kind.Int && is_utf8 column.name
 
 -- whether a program holds such a value: a number in 64 bits, text, or a truth value
 abbrev pub is_held : Value → Bool
-is_held (variant.Int n) = fits_int n
+is_held (variant.Int n) = in_64_bits n
 is_held (variant.Str s) = is_utf8 s
 is_held (variant.Bool b) = true
 
@@ -35,7 +35,7 @@ StartsUnmarked [] = Unit {0}
 StartsUnmarked (first ∷ rest) = strip_bom first.name ≡ first.name
 
 -- a relation of ints that is within the limits of a file
-pub record IsIntRelation (relation : Table) : Type 0 where
+pub record IsIntRelation (relation : RelationState) : Type 0 where
   pub some_column : 0 < length relation.schema
   pub few_columns : length relation.schema ≤ MOST_COLUMNS
   pub few_rows : length relation.rows ≤ MOST_ROWS

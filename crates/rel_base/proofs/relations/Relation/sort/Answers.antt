@@ -1,11 +1,11 @@
 use Rattle.std.proofs.Common.{◌∙◌, ap}
 use Rattle.std.proofs.lemmas.List.Sorted.{All-permutation}
 use Rattle.rel_base.specs.Bags.{sorted}
-use Rattle.rel_base.specs.Relations.{Table, HasTypes}
+use Rattle.rel_base.specs.Relations.{RelationState, HasTypes}
 use Rattle.rel_base.specs.ValueLaws.{row_order_total, row_order-IsAntisymmetric}
 use Rattle.rel_base.specs.Values.{row_order}
 use Rattle.rel_base.proofs.SortedLemmas.{sorted_by-unique}
-use Rattle.rel_base.proofs.tables.Relation.sort.Goals as goal
+use Rattle.rel_base.proofs.relations.Relation.sort.Goals as goal
 
 pub invariant_of-self : goal.invariant_of-self
 invariant_of-self c = All-permutation (HasTypes c.self.inside.schema) _ _ c.sort.ensures.permutation c.self.invariant
@@ -13,4 +13,4 @@ invariant_of-self c = All-permutation (HasTypes c.self.inside.schema) _ _ c.sort
 pub returns-clause-rows : goal.returns-clause-rows
 returns-clause-rows c =
     sorted_by-unique row_order row_order_total row_order-IsAntisymmetric _ _ c.sort.ensures.permutation c.sort.ensures.sorted
-    ∙ ap (λ (t : Table). sorted t.rows) c.self.view_is
+    ∙ ap (λ (t : RelationState). sorted t.rows) c.self.view_is

@@ -46,9 +46,9 @@ pub struct Relation {
 
 impl Model for Relation {
     ghost use Rattle.std.specs.Prelude.{All};
-    ghost use Rattle.rel_base.specs.Relations.{Table, HasTypes};
+    ghost use Rattle.rel_base.specs.Relations.{RelationState, HasTypes};
 
-    ghost Value = { Table };
+    ghost Value = { RelationState };
 
     ghost view = { λ r. record { schema = r.schema; rows = r.rows } };
 
@@ -56,7 +56,7 @@ impl Model for Relation {
 }
 
 impl Relation {
-    ghost use Rattle.rel_base.specs.Relations.{Table, HasTypes};
+    ghost use Rattle.rel_base.specs.Relations.{RelationState, HasTypes};
 
     /// The relation of this schema and these rows.
     pub fn new(schema: Schema, rows: Rows) -> Relation

@@ -5,7 +5,7 @@ use Rattle.rel_base.specs.Bags.{sorted, IsSortedPermutation}
 use Rattle.rel_base.specs.ValueLaws.{row_order_total, row_order-IsAntisymmetric}
 use Rattle.rel_base.specs.Values.{row_order}
 use Rattle.rel_base.proofs.SortedLemmas.{sorted_by-unique, Ascending-sorted_by, IsSorted-Ascending, IsPermutation-sorted_by}
-use Rattle.rel_base.proofs.tables.sorted_permutation_is_unique.Goals as goal
+use Rattle.rel_base.proofs.relations.sorted_permutation_is_unique.Goals as goal
 
 its_own : (rows : List (List Value)) → IsSortedPermutation rows (sorted rows)
 its_own rows = record {
