@@ -4,9 +4,9 @@
 //! Here `a` and `b` are not drawn but made from the hash seed, by the constants of Knuth's generator MMIX.
 ghost use Rattle.std.specs.Prelude.{◌≡◌, ◌%◌, ◌^◌, ◌<◌, ◌≤◌, length, All};
 ghost use Rattle.hash_partition.specs.Hashing.{coordinate_of, key_of, key_code_of, home_of};
-ghost use Rattle.rel_base.specs.Codes.{modulus, mixed_with};
+ghost use Rattle.rel_base.specs.Codes.{modulus};
 
-use rel_base::{Places, Row, Value};
+use rel_base::{Places, Row, Value, mixed_with};
 
 /// What the seed of a dimension is multiplied by for the multiplier of its hash.
 const MULTIPLIER_FACTOR: u64 = 6_364_136_223_846_793_005;
@@ -53,14 +53,6 @@ pub fn key_code(row: &Row, columns: &Places) -> u64
         mixed = mixed_with(mixed, row.get(*column).code());
     }
     mixed % Value::CODES
-}
-
-/// What is mixed so far, with one part more.
-fn mixed_with(mixed: u64, part: u64) -> u64
-    requires { part < modulus }
-    ensures { result ≡ mixed_with mixed part }
-{
-    mixed.wrapping_mul(257).wrapping_add(part + 1)
 }
 
 /// The worker at which the rows with one key meet: the key that a row has in these columns, over so many workers.

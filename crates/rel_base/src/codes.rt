@@ -43,8 +43,8 @@ fn code_of_bytes(bytes: &[u8]) -> u64
     mixed % Value::CODES
 }
 
-/// What is mixed so far, with one part more.
-fn mixed_with(mixed: u64, part: u64) -> u64
+/// What is mixed so far, with one part more, as the codes of texts and of keys are made.
+pub fn mixed_with(mixed: u64, part: u64) -> u64
     requires { part < 2 ^ 64 - 1 }
     ensures { result ≡ mixed_with mixed part }
 {

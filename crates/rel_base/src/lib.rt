@@ -26,6 +26,7 @@ mod texts;
 mod tuples;
 mod values;
 
+pub use codes::mixed_with;
 pub use copying::Duplicate;
 pub use counting::Steps;
 pub use failure::Memory;
