@@ -1,8 +1,10 @@
 -- The words of this crate, lowest first.
 pub mod Trees
+pub mod Operands
 pub mod Scalars
 pub mod Combinations
 pub mod Bags
 pub mod Groups
 pub mod Classes
 pub mod KeptRows
+pub mod ScalarTrees

@@ -12,12 +12,14 @@ mod expressions;
 mod laws;
 mod operators;
 mod relations;
+mod scalars;
 mod statements;
 
 pub use expressions::{ColRef, Expr};
 pub use laws::linked_columns_share_a_class;
 pub use operators::{AggOp, BinOp};
 pub use relations::{EmitItem, EmitItems, FromItem, FromItems, Operand, RelExpr};
+pub use scalars::{Scalar, Scalars};
 pub use statements::{Script, Stmt};
 
 #[cfg(test)]

@@ -1,5 +1,6 @@
 //! Relation expressions: what stands behind the `=` of an assignment.
 ghost use Rattle.std.specs.Prelude.{◌≡◌, IfOk, map, option_map};
+ghost use Rattle.myrial_ast.specs.Operands.{operands_of};
 ghost use Rattle.myrial_ast.specs.Trees.{tree_of, emit_tree_of, rel_tree_of};
 
 use crate::expressions::Expr;
@@ -122,7 +123,32 @@ impl EmitItem {
     }
 }
 
+/// The sources of the items, in order.
+fn sources_of(alloc: Global, items: &[FromItem]) -> Result<Vec<&Operand>, Memory>
+    ensures { IfOk result (λ found. map (λ o. o.now) found.items ≡ map (λ item. item.source) items.entry.now) }
+{
+    let mut sources = Vec::with_capacity(alloc, items.len())?;
+    for item in items {
+        sources.push(&item.source)?;
+    }
+    Ok(sources)
+}
+
 impl RelExpr {
+    /// The operands, in order.
+    pub fn operands(&self, alloc: Global) -> Result<Vec<&Operand>, Memory>
+        ensures { IfOk result (λ found. map (λ o. o.now) found.items ≡ operands_of (rel_tree_of self.entry.now)) }
+    {
+        match self {
+            RelExpr::Empty(_) => Ok(Vec::new(alloc)),
+            RelExpr::Copy(operand) => Ok(vec![in alloc; operand]?),
+            RelExpr::Distinct(operand) => Ok(vec![in alloc; operand]?),
+            RelExpr::UnionAll(left, right) => Ok(vec![in alloc; left, right]?),
+            RelExpr::Diff(left, right) => Ok(vec![in alloc; left, right]?),
+            RelExpr::From(items, _, _) => sources_of(alloc, items.as_slice()),
+        }
+    }
+
     /// A relation expression with the same tree, in memory of its own.
     pub fn copy(&self, alloc: Global) -> Result<RelExpr, Memory>
         ensures { IfOk result (λ made. rel_tree_of made ≡ rel_tree_of self.now) }
