@@ -11,6 +11,7 @@ use Rattle.rel_io.specs.declared.sinks.SinkFault.TheVariants as fault
 use Rattle.rel_io.specs.Outside.{Content, Rose, TakesPart}
 use Rattle.rel_io.specs.Outside as outside
 use Rattle.myrial_ast.specs.Trees.{StatementTree}
+use Rattle.myrial_ast.specs.CandidateFaults.{Uncounted}
 use Rattle.myrial_meaning.specs.Faults.{run_fault}
 use Rattle.myrial_meaning.specs.Meaning.{stored_relations}
 use Rattle.myrial_meaning.specs.Ordered.{in_order}
@@ -36,13 +37,13 @@ module _ (script : List StatementTree) (files : List File) where
   verdict found = option_map_or (λ fault. refused (run_answer fault)) found (goes (stored_relations files script))
 
   abbrev with_meaning : Bool → Step (List File)
-  with_meaning b = cond b (verdict (run_fault false files script)) (refused (outcome.NotBuilt part.Relation))
+  with_meaning b = cond b (verdict (run_fault Uncounted files script)) (refused (outcome.NotBuilt part.Relation))
 
   abbrev printed : Step (List File) → Step (List ℕ)
   printed s = then_step s (λ stored. goes (output_text stored))
 
   -- without a fault the text is printed
-  pub run_prints : (stored : List File) (text : List ℕ) → has_meaning files script ≡ true → run_fault false files script ≡ None
+  pub run_prints : (stored : List File) (text : List ℕ) → has_meaning files script ≡ true → run_fault Uncounted files script ≡ None
       → stored ≡ map in_order (stored_relations files script) → text ≡ flat_map (λ (file : File). relation_text_in_order file.0 file.1) stored
       → IfTold (printed (run_step script files)) (λ s. s ≡ goes text)
   run_prints stored text meaning fault is texts =

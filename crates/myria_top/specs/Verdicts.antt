@@ -15,6 +15,7 @@ use Rattle.rel_base.specs.declared.names.Key.{Key}
 use Rattle.rel_io.specs.Outside.{Content}
 use Rattle.relation_csv.specs.Files.{relation_of_bytes}
 use Rattle.myrial_ast.specs.Trees.{StatementTree}
+use Rattle.myrial_ast.specs.CandidateFaults.{Uncounted}
 use Rattle.myrial_meaning.specs.Faults.{run_fault}
 use Rattle.myrial_meaning.specs.Meaning.{stored_relations}
 use Rattle.myrial_meaning.specs.Runnable.{has_meaning}
@@ -63,7 +64,7 @@ run_answer fault.Memory = outcome.Memory
 abbrev pub run_step : List StatementTree → List File → Step (List File)
 run_step script files =
     if has_meaning files script
-    then option_map_or (λ found. refused (run_answer found)) (run_fault false files script) (goes (stored_relations files script))
+    then option_map_or (λ found. refused (run_answer found)) (run_fault Uncounted files script) (goes (stored_relations files script))
     else refused (outcome.NotBuilt part.Relation)
 
 -- what the script comes to: the text that is printed

@@ -1,2 +1,2 @@
 mod WorkedRows
-mod ClassLemmas
+pub mod ClassLemmas

@@ -4,7 +4,7 @@ use Rattle.std.specs.Prelude.{ℤ, pos, negsuc, map, codes}
 use Rattle.rel_base.specs.declared.values.Value.TheVariants as value
 use Rattle.myrial_ast.specs.declared.operators.BinOp.TheVariants as op
 use Rattle.myrial_ast.specs.declared.operators.AggOp.TheVariants as agg
-use Rattle.myrial_ast.specs.Scalars.{Scalar, Lit, At, Neg, Bin, fits, conjuncts, arithmetic_of}
+use Rattle.myrial_ast.specs.Scalars.{Scalar, Lit, At, Neg, Bin, fits, conjuncts, plain_of, arithmetic_of}
 use Rattle.myrial_ast.specs.Combinations.{Row, Rows, Comprehension, candidates, listed_rows}
 use Rattle.myrial_ast.specs.Bags.{distinct, difference, union_all}
 use Rattle.myrial_ast.specs.Groups.{Kinds, groups, sums_fit}
@@ -69,13 +69,13 @@ listed-both_equal = refl
 pub variables-both_equal : variables (2 ∷ 1 ∷ []) (equalities (conjuncts both_equal)) ≡ (0 ∷ 1 ∷ 2 ∷ []) ∷ []
 variables-both_equal = refl
 
-pub kept-both_equal_left : kept_rows (2 ∷ 1 ∷ []) (conjuncts both_equal) 0 r_rows ≡ pairs_of ((1, 1) ∷ (2, 2) ∷ [])
+pub kept-both_equal_left : kept_rows (2 ∷ 1 ∷ []) (conjuncts both_equal) (equalities (conjuncts both_equal)) 0 r_rows ≡ pairs_of ((1, 1) ∷ (2, 2) ∷ [])
 kept-both_equal_left = refl
 
-pub kept-both_equal_right : kept_rows (2 ∷ 1 ∷ []) (conjuncts both_equal) 1 s_rows ≡ s_rows
+pub kept-both_equal_right : kept_rows (2 ∷ 1 ∷ []) (conjuncts both_equal) (equalities (conjuncts both_equal)) 1 s_rows ≡ s_rows
 kept-both_equal_right = refl
 
-pub prefix-both_equal : prefix_candidates (2 ∷ 1 ∷ []) (conjuncts both_equal) 1 (r_rows ∷ s_rows ∷ [])
+pub prefix-both_equal : prefix_candidates (2 ∷ 1 ∷ []) (conjuncts both_equal) (equalities (conjuncts both_equal)) 1 (r_rows ∷ s_rows ∷ [])
     ≡ pairs_of ((1, 1) ∷ (2, 2) ∷ [])
 prefix-both_equal = refl
 
@@ -142,11 +142,11 @@ abbrev with_large : Rows
 with_large = ints (1 ∷ 3 ∷ 4 ∷ []) ∷ large ∷ []
 
 -- the row that overflows has no partner
-pub candidates-product : candidates with_product (with_large ∷ column (1 ∷ []) ∷ []) ≡ ints (1 ∷ 3 ∷ 4 ∷ 1 ∷ []) ∷ []
+pub candidates-product : candidates (plain_of with_product) (with_large ∷ column (1 ∷ []) ∷ []) ≡ ints (1 ∷ 3 ∷ 4 ∷ 1 ∷ []) ∷ []
 candidates-product = refl
 
 -- where it has one, the product does not fit
-pub fits-product : map (λ row. map (λ e. fits e row) (arithmetic_of with_product)) (candidates with_product (with_large ∷ column (1 ∷ 2 ∷ []) ∷ []))
+pub fits-product : map (λ row. map (λ e. fits e row) (arithmetic_of with_product)) (candidates (plain_of with_product) (with_large ∷ column (1 ∷ 2 ∷ []) ∷ []))
     ≡ (true ∷ []) ∷ (false ∷ []) ∷ []
 fits-product = refl
 

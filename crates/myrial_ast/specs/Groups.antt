@@ -76,6 +76,11 @@ result_rows kinds rows = if has_aggregate kinds then groups kinds rows else rows
 abbrev pub row_fits : Row → Bool
 row_fits row = list_all (λ v. in_64_bits (number_of v)) row
 
--- whether every sum of a group lies in 64 bits; every other value of a group is a count of rows or a value of a listed row
+-- whether the value of a group in a column with this kind, where it is a sum, lies in 64 bits
+abbrev pub sum_fits : Option AggOp → Value → Bool
+sum_fits (Some agg.Sum) v = in_64_bits (number_of v)
+sum_fits _ v = true
+
+-- whether every sum of a group lies in 64 bits
 abbrev pub sums_fit : Kinds → Rows → Bool
-sums_fit kinds rows = if has_aggregate kinds then list_all row_fits (groups kinds rows) else true
+sums_fit kinds rows = list_all (λ row. list_all (λ p. sum_fits p.0 p.1) (zip kinds row)) (groups kinds rows)

@@ -2,9 +2,11 @@
 pub mod Trees
 pub mod Operands
 pub mod Scalars
+pub mod ScalarTrees
 pub mod Combinations
 pub mod Bags
 pub mod Groups
+pub mod Partials
 pub mod Classes
 pub mod KeptRows
-pub mod ScalarTrees
+pub mod CandidateFaults

@@ -112,11 +112,11 @@ pub listed_rows-same : (c : Comprehension) (ts us : List Rows) → SameTables ts
 listed_rows-same c ts us h =
     let rows : SameBag (combined_rows ts) (combined_rows us) =
     IsPermutation-map combined_row (combinations ts) (combinations us) (combinations-same ts us h) in
-    let plain : SameBag (candidates c.conjuncts ts) (candidates c.conjuncts us) =
+    let plain : SameBag (candidates (plain_of c.conjuncts) ts) (candidates (plain_of c.conjuncts) us) =
     filter_rows-same (all_hold (plain_of c.conjuncts)) (combined_rows ts) (combined_rows us) rows in
     let all : Row → Bool = all_hold (arithmetic_of c.conjuncts) in
-    IsPermutation-map (emitted c.emits) (filter all (candidates c.conjuncts ts)) (filter all (candidates c.conjuncts us))
-    (filter_rows-same all (candidates c.conjuncts ts) (candidates c.conjuncts us) plain)
+    IsPermutation-map (emitted c.emits) (filter all (candidates (plain_of c.conjuncts) ts)) (filter all (candidates (plain_of c.conjuncts) us))
+    (filter_rows-same all (candidates (plain_of c.conjuncts) ts) (candidates (plain_of c.conjuncts) us) plain)
 
 pub union_all-same : (a b x y : Rows) → SameBag a b → SameBag x y → SameBag (union_all a x) (union_all b y)
 union_all-same a b x y h k = IsPermutation-append a b x y h k

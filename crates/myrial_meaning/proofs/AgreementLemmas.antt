@@ -17,11 +17,12 @@ use Rattle.myrial_ast.specs.declared.relations.Operand.TheVariants as operand
 use Rattle.myrial_ast.specs.Trees.{Name, RelTree, StatementTree}
 use Rattle.myrial_ast.specs.Trees as tree
 use Rattle.myrial_ast.specs.Bags.{union_all, distinct, difference}
+use Rattle.myrial_ast.specs.CandidateFaults.{Uncounted, too_many, comprehension_fault}
 use Rattle.myrial_meaning.specs.Scopes.{same_name, scope_of}
 use Rattle.myrial_meaning.specs.Emits.{Bound, bound_in}
 use Rattle.myrial_meaning.specs.Meaning.{Environment, Source, after, assigned_to, comprehension_over, items_of, kept_under, of_one, of_two, operand_of, relation_of, source_of, tables_of, with_key, with_name}
 use Rattle.myrial_meaning.specs.Needed.{is_live, is_name, is_needed, mentions, operands_of}
-use Rattle.myrial_meaning.specs.Faults.{comprehension_fault, relation_fault, statement_fault, too_many, widths_of}
+use Rattle.myrial_meaning.specs.Faults.{relation_fault, statement_fault, widths_of}
 
 -- ---- names
 
@@ -101,7 +102,7 @@ module _ (files : List File) (there here : Environment) where
 
   -- and has the same fault
   pub relation_fault-agrees : (number : ℕ) (r : RelTree) → AgreesOn (λ name. mentions name r) there here
-      → relation_fault false number files there r ≡ relation_fault false number files here r
+      → relation_fault Uncounted number files there r ≡ relation_fault Uncounted number files here r
   relation_fault-agrees number (tree.Copy o) agrees = refl
   relation_fault-agrees number (tree.Empty schema) agrees = refl
   relation_fault-agrees number (tree.Distinct o) agrees = refl
@@ -110,7 +111,7 @@ module _ (files : List File) (there here : Environment) where
       (relation-agrees (tree.UnionAll o p) agrees)
   relation_fault-agrees number (tree.Diff o p) agrees = refl
   relation_fault-agrees number (tree.From items condition emits) agrees =
-      ap (option_and_then (λ sources. option_and_then (λ (b : Bound). comprehension_fault false number (widths_of sources) b.comprehension (tables_of sources))
+      ap (option_and_then (λ sources. option_and_then (λ (b : Bound). comprehension_fault Uncounted number (widths_of sources) b.comprehension (tables_of sources))
       (bound_in (scope_of (items_of sources)) condition emits))) (sources-agree items agrees)
 
 -- ---- one statement

@@ -8,6 +8,7 @@ use Rattle.rel_base.specs.declared.faults.RunFault.{RunFault}
 use Rattle.rel_base.specs.declared.faults.RunFault.TheVariants as fault
 use Rattle.myrial_ast.specs.Trees.{Name, RelTree, StatementTree}
 use Rattle.myrial_ast.specs.Trees as tree
+use Rattle.myrial_ast.specs.CandidateFaults.{Uncounted}
 use Rattle.myrial_meaning.specs.Meaning.{Environment, after, assigned_to, nothing_yet, relation_of, stored_relations, with_key, with_name}
 use Rattle.myrial_meaning.specs.Needed.{is_live, is_needed}
 use Rattle.myrial_meaning.specs.Faults.{fault_from, run_fault, statement_fault}
@@ -23,7 +24,7 @@ pub record Stage (files : List File) (script rest : List StatementTree) (number 
   pub agrees : Agrees rest there here
   pub meaningful : all_stand files there rest ≡ true
   pub stored : reverse (fold (after files) there rest).stored ≡ stored_relations files script
-  pub fault : fault_from false files number there rest ≡ run_fault false files script
+  pub fault : fault_from Uncounted files number there rest ≡ run_fault Uncounted files script
   -- no more was stored than there were statements
   pub few : length here.stored < number
 
@@ -55,7 +56,7 @@ module _ (files : List File) (script : List StatementTree) where
   pub stored-end : (number : ℕ) (here : Environment) → Stage files script [] number here → reverse here.stored ≡ stored_relations files script
   stored-end number here stage = ap reverse (sym stage.agrees.stored) ∙ stage.stored
 
-  pub fault-end : (number : ℕ) (here : Environment) → Stage files script [] number here → run_fault false files script ≡ None
+  pub fault-end : (number : ℕ) (here : Environment) → Stage files script [] number here → run_fault Uncounted files script ≡ None
   fault-end number here stage = sym stage.fault
 
   module _ (s : StatementTree) (rest : List StatementTree) (number : ℕ) (here : Environment) (stage : Stage files script (s ∷ rest) number here) where
@@ -67,15 +68,15 @@ module _ (files : List File) (script : List StatementTree) where
 
     -- the fault of a needed statement, or of those behind it
     fault-needed : is_needed s rest ≡ true
-        → run_fault false files script ≡ first_or (statement_fault false number files stage.there s) (fault_from false files (suc number) (after files stage.there s) rest)
+        → run_fault Uncounted files script ≡ first_or (statement_fault Uncounted number files stage.there s) (fault_from Uncounted files (suc number) (after files stage.there s) rest)
     unfolding first_or
     fault-needed needed = sym stage.fault ∙ rw needed refl
 
-    fault-unneeded : is_needed s rest ≡ false → fault_from false files (suc number) (after files stage.there s) rest ≡ run_fault false files script
+    fault-unneeded : is_needed s rest ≡ false → fault_from Uncounted files (suc number) (after files stage.there s) rest ≡ run_fault Uncounted files script
     fault-unneeded unneeded = sym (sym stage.fault ∙ rw unneeded refl)
 
   statement_fault-same : (s : StatementTree) (rest : List StatementTree) (number : ℕ) (there here : Environment) → Agrees (s ∷ rest) there here → is_needed s rest ≡ true
-      → statement_fault false number files there s ≡ statement_fault false number files here s
+      → statement_fault Uncounted number files there s ≡ statement_fault Uncounted number files here s
   statement_fault-same tree.Nothing rest number there here agrees needed = refl
   statement_fault-same (tree.Store n key) rest number there here agrees needed = refl
   statement_fault-same (tree.Assign n r) rest number there here agrees needed =
@@ -128,30 +129,30 @@ module _ (files : List File) (script : List StatementTree) where
 
   -- a needed one without a fault
   pub stage-run : (s : StatementTree) (rest : List StatementTree) (number : ℕ) (here : Environment) → is_needed s rest ≡ true
-      → statement_fault false number files here s ≡ None
+      → statement_fault Uncounted number files here s ≡ None
       → Stage files script (s ∷ rest) number here → Stage files script rest (number + 1) (after files here s)
   stage-run s rest number here needed faultless stage =
-      let own : statement_fault false number files stage.there s ≡ None = statement_fault-same s rest number stage.there here stage.agrees needed ∙ faultless in
-      let others = fault_from false files (suc number) (after files stage.there s) rest in
+      let own : statement_fault Uncounted number files stage.there s ≡ None = statement_fault-same s rest number stage.there here stage.agrees needed ∙ faultless in
+      let others = fault_from Uncounted files (suc number) (after files stage.there s) rest in
       record {
         there = after files stage.there s;
         agrees = after-needed s rest stage.there here needed (meaningful-first s rest number here stage) stage.agrees;
         meaningful = meaningful-rest s rest number here stage;
         stored = stage.stored;
-        fault = rw (add-one number) (sym (fault-needed s rest number here stage needed ∙ none-first (statement_fault false number files stage.there s) others own));
+        fault = rw (add-one number) (sym (fault-needed s rest number here stage needed ∙ none-first (statement_fault Uncounted number files stage.there s) others own));
         few = stored-more s number here stage.few;
       }
 
   -- and one with a fault
   fault-some : (s : StatementTree) (rest : List StatementTree) (number : ℕ) (here : Environment) (f : RunFault) → is_needed s rest ≡ true
-      → statement_fault false number files here s ≡ Some f → Stage files script (s ∷ rest) number here → run_fault false files script ≡ Some f
+      → statement_fault Uncounted number files here s ≡ Some f → Stage files script (s ∷ rest) number here → run_fault Uncounted files script ≡ Some f
   fault-some s rest number here f needed faulty stage =
-      let own : statement_fault false number files stage.there s ≡ Some f = statement_fault-same s rest number stage.there here stage.agrees needed ∙ faulty in
+      let own : statement_fault Uncounted number files stage.there s ≡ Some f = statement_fault-same s rest number stage.there here stage.agrees needed ∙ faulty in
       fault-needed s rest number here stage needed
-      ∙ some-first (statement_fault false number files stage.there s) (fault_from false files (suc number) (after files stage.there s) rest) f own
+      ∙ some-first (statement_fault Uncounted number files stage.there s) (fault_from Uncounted files (suc number) (after files stage.there s) rest) f own
 
   pub stage-fault : (s : StatementTree) (rest : List StatementTree) (number : ℕ) (here : Environment) (f : RunFault) → is_needed s rest ≡ true
-      → IsFault f (statement_fault false number files here s) → Stage files script (s ∷ rest) number here → IsFault f (run_fault false files script)
+      → IsFault f (statement_fault Uncounted number files here s) → Stage files script (s ∷ rest) number here → IsFault f (run_fault Uncounted files script)
   stage-fault s rest number here (fault.TooManyRows n) needed is stage = fault-some s rest number here (fault.TooManyRows n) needed is stage
   stage-fault s rest number here (fault.Overflow n) needed is stage = fault-some s rest number here (fault.Overflow n) needed is stage
   stage-fault s rest number here (fault.AggregateOverflow n) needed is stage = fault-some s rest number here (fault.AggregateOverflow n) needed is stage

@@ -17,6 +17,7 @@ use Rattle.myrial_ast.specs.declared.expressions.ColRef.TheVariants as ref
 use Rattle.myrial_ast.specs.declared.operators.BinOp.TheVariants as op
 use Rattle.myrial_ast.specs.declared.operators.AggOp.TheVariants as agg
 use Rattle.myrial_ast.specs.Trees.{Name, Tree, EmitTree, RelTree, StatementTree, Lit, Col, Bin, Agg, AggAll, All, One, Copy, Distinct, Diff, From, Assign, Store, Nothing}
+use Rattle.myrial_ast.specs.CandidateFaults.{Counted, Uncounted}
 use Rattle.myrial_meaning.specs.Meaning.{stored_relations}
 use Rattle.myrial_meaning.specs.Needed.{is_needed}
 use Rattle.myrial_meaning.specs.Faults.{run_fault}
@@ -69,7 +70,7 @@ pub stored-two_edges : stored_relations edges two_edges
     ≡ file (codes "Out") (table (codes "x" ∷ codes "y" ∷ []) ((1 ∷ 3 ∷ []) ∷ (1 ∷ 3 ∷ []) ∷ (2 ∷ 1 ∷ []) ∷ (2 ∷ 1 ∷ []) ∷ (3 ∷ 2 ∷ []) ∷ [])) ∷ []
 stored-two_edges = refl
 
-pub fault-two_edges : run_fault true edges two_edges ≡ None
+pub fault-two_edges : run_fault Counted edges two_edges ≡ None
 fault-two_edges = refl
 
 pub runs-two_edges : runs two_edges ≡ true
@@ -128,10 +129,10 @@ abbrev copied : StatementTree
 copied = Assign (codes "A") (Copy (scanned (codes "P")))
 
 -- a statement whose value no store needs has no fault
-pub fault-unneeded : run_fault false largest (overflowing ∷ copied ∷ Store (codes "A") (adhoc (codes "Out")) ∷ []) ≡ None
+pub fault-unneeded : run_fault Uncounted largest (overflowing ∷ copied ∷ Store (codes "A") (adhoc (codes "Out")) ∷ []) ≡ None
 fault-unneeded = refl
 
-pub fault-needed : run_fault false largest (Nothing ∷ overflowing ∷ Store (codes "N") (adhoc (codes "Out")) ∷ []) ≡ Some (fault.Overflow 2)
+pub fault-needed : run_fault Uncounted largest (Nothing ∷ overflowing ∷ Store (codes "N") (adhoc (codes "Out")) ∷ []) ≡ Some (fault.Overflow 2)
 fault-needed = refl
 
 -- a value that is assigned anew before it is used isn't needed

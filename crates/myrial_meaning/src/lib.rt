@@ -32,6 +32,3 @@ pub use evaluating::evaluate;
 
 #[cfg(test)]
 mod tests;
-
-/// The most candidates of a comprehension, and rows of a relation.
-pub const MOST_CANDIDATES: u32 = 4_194_304;
