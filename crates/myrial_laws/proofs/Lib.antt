@@ -1,5 +1,2 @@
 -- Proofs of the laws.
-mod AnyOrder
-mod RowPermutations
-mod GroupPermutations
 mod MeaningPermutations

@@ -18,9 +18,10 @@ use Rattle.myrial_ast.specs.Combinations.{Rows, listed_rows}
 use Rattle.myrial_meaning.specs.Scopes.{scope_of, same_name}
 use Rattle.myrial_meaning.specs.Emits.{Bound, bound_in}
 use Rattle.myrial_meaning.specs.Meaning.{Environment, Source, after, comprehension_over, comprehension_rows, items_of, nothing_yet, of_one, of_two, operand_of, relation_of, source_of, stored_relations, tables_of, with_key, with_name}
-use Rattle.myrial_laws.proofs.GroupPermutations.{result_rows-same}
-use Rattle.myrial_laws.proofs.RowPermutations.{listed_rows-same, union_all-same, distinct-same, difference-same}
-use Rattle.myrial_laws.specs.Permuted.{SameFiles, SameTable, SameTables, a_file, a_table, no_file, no_table}
+use Rattle.bag_laws.proofs.GroupPermutations.{result_rows-same}
+use Rattle.bag_laws.proofs.RowPermutations.{listed_rows-same, union_all-same, distinct-same, difference-same}
+use Rattle.bag_laws.specs.Permuted.{SameTables, a_table, no_table}
+use Rattle.myrial_laws.specs.Permuted.{SameFiles, SameTable, a_file, no_file}
 
 -- ---- lists and options whose items are alike
 

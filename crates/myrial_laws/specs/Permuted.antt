@@ -1,6 +1,5 @@
 -- Rows in another order: bags of rows that are the same, one after another.
 --
---   SameTables ts us      item by item, the same rows in another order
 --   SameTable t u         one relation with its rows in another order
 --   SameFiles fs gs       the same keys, each with one relation with its rows in another order
 use Rattle.std.specs.Prelude.{◌≡◌, List, [], ◌∷◌}
@@ -8,12 +7,6 @@ use Rattle.rel_base.specs.Bags.{SameBag}
 use Rattle.rel_base.specs.Keys.{File}
 use Rattle.rel_base.specs.Relations.{RelationState}
 use Rattle.rel_base.specs.declared.names.Key.{Key}
-use Rattle.myrial_ast.specs.Combinations.{Rows}
-
--- item by item, the same rows in another order
-pub data SameTables : List Rows → List Rows → Type 0 where
-  no_table : SameTables [] []
-  a_table : (rows others : Rows) (tables rest : List Rows) → SameBag rows others → SameTables tables rest → SameTables (rows ∷ tables) (others ∷ rest)
 
 -- one relation with its rows in another order
 pub record SameTable (t u : RelationState) : Type 0 where

@@ -14,10 +14,10 @@ use Rattle.rel_base.specs.Bags.{SameBag, sorted_by}
 use Rattle.rel_base.specs.Values.{row_order}
 use Rattle.rel_base.specs.ValueLaws.{row_order_total, row_order-IsAntisymmetric}
 use Rattle.rel_base.proofs.SortedLemmas.{occurrences, occurrences-IsPermutation, same_counts, Ascending-sorted_by, IsPermutation-sorted_by}
-use Rattle.myrial_ast.specs.Scalars.{plain_of, arithmetic_of}
-use Rattle.myrial_ast.specs.Combinations.{Row, Rows, Comprehension, combinations, combined_row, combined_rows, all_hold, candidates, emitted, listed_rows}
+use Rattle.myrial_ast.specs.Scalars.{Scalar, plain_of, arithmetic_of}
+use Rattle.myrial_ast.specs.Combinations.{Row, Rows, Comprehension, combinations, combined_row, combined_rows, all_hold, candidates, emitted, listed_from, listed_rows}
 use Rattle.myrial_ast.specs.Bags.{same_row, has_row, union_all, distinct, difference}
-use Rattle.myrial_laws.specs.Permuted.{SameTables, no_table, a_table}
+use Rattle.bag_laws.specs.Permuted.{SameTables, no_table, a_table}
 
 -- a step of a count in a filtered list: q is whether the counted item passes, t whether this one does, b whether they tie
 one_more : (q t b : Bool) (m n : ℕ) → (b ≡ true → q ≡ t) → m ≡ cond q n 0 → cond t (cond b (1 + m) m) m ≡ cond q (cond b (1 + n) n) 0
@@ -91,12 +91,12 @@ module _ {X : Type 0} (R : X → X → Ordering) where
         (λ x. occurrences-flat_map x f xs ∙ sym (sum_by-IsPermutation (λ y. occurrences R x (f y)) xs ys h) ∙ sym (occurrences-flat_map x f ys))
 
 -- lists of permutations, one after another
-flat_map-each : {X Y : Type 0} (f g : Y → List X) → ((y : Y) → IsPermutation (f y) (g y)) → (ys : List Y) → IsPermutation (flat_map f ys) (flat_map g ys)
+pub flat_map-each : {X Y : Type 0} (f g : Y → List X) → ((y : Y) → IsPermutation (f y) (g y)) → (ys : List Y) → IsPermutation (flat_map f ys) (flat_map g ys)
 flat_map-each f g h [] = IsPermutation-refl []
 flat_map-each f g h (y ∷ ys) = IsPermutation-append (f y) (g y) (flat_map f ys) (flat_map g ys) (h y) (flat_map-each f g h ys)
 
 -- tables with their rows in another order have the same combinations in another order
-combinations-same : (ts us : List Rows) → SameTables ts us → IsPermutation (combinations ts) (combinations us)
+pub combinations-same : (ts us : List Rows) → SameTables ts us → IsPermutation (combinations ts) (combinations us)
 combinations-same _ _ no_table = IsPermutation-refl ([] ∷ [])
 combinations-same _ _ (a_table rows others tables rest h hs) =
     let before : Row → List (List Row) = λ row. map (λ behind. row ∷ behind) (combinations tables) in
@@ -108,15 +108,19 @@ combinations-same _ _ (a_table rows others tables rest h hs) =
 pub filter_rows-same : (p : Row → Bool) (a b : Rows) → SameBag a b → SameBag (filter p a) (filter p b)
 filter_rows-same = filter-same row_order row_order_total row_order-IsAntisymmetric
 
+pub candidates-same : (tests : List Scalar) (ts us : List Rows) → SameTables ts us → SameBag (candidates tests ts) (candidates tests us)
+candidates-same tests ts us h =
+    filter_rows-same (all_hold tests) (combined_rows ts) (combined_rows us)
+    (IsPermutation-map combined_row (combinations ts) (combinations us) (combinations-same ts us h))
+
+pub listed_from-same : (arithmetic emits : List Scalar) (a b : Rows) → SameBag a b → SameBag (listed_from arithmetic emits a) (listed_from arithmetic emits b)
+listed_from-same arithmetic emits a b h =
+    IsPermutation-map (emitted emits) (filter (all_hold arithmetic) a) (filter (all_hold arithmetic) b) (filter_rows-same (all_hold arithmetic) a b h)
+
 pub listed_rows-same : (c : Comprehension) (ts us : List Rows) → SameTables ts us → SameBag (listed_rows c ts) (listed_rows c us)
 listed_rows-same c ts us h =
-    let rows : SameBag (combined_rows ts) (combined_rows us) =
-    IsPermutation-map combined_row (combinations ts) (combinations us) (combinations-same ts us h) in
-    let plain : SameBag (candidates (plain_of c.conjuncts) ts) (candidates (plain_of c.conjuncts) us) =
-    filter_rows-same (all_hold (plain_of c.conjuncts)) (combined_rows ts) (combined_rows us) rows in
-    let all : Row → Bool = all_hold (arithmetic_of c.conjuncts) in
-    IsPermutation-map (emitted c.emits) (filter all (candidates (plain_of c.conjuncts) ts)) (filter all (candidates (plain_of c.conjuncts) us))
-    (filter_rows-same all (candidates (plain_of c.conjuncts) ts) (candidates (plain_of c.conjuncts) us) plain)
+    let plain = plain_of c.conjuncts in
+    listed_from-same (arithmetic_of c.conjuncts) c.emits (candidates plain ts) (candidates plain us) (candidates-same plain ts us h)
 
 pub union_all-same : (a b x y : Rows) → SameBag a b → SameBag x y → SameBag (union_all a x) (union_all b y)
 union_all-same a b x y h k = IsPermutation-append a b x y h k
