@@ -12,7 +12,7 @@ pub const TAPS: usize = 128;
 /// As many taps as a run takes, with nothing counted.
 pub fn fresh_taps(alloc: Global) -> Result<Vec<CountTap>, Memory>
     ensures count { IfOk result (λ taps. vec_len taps ≡ TAPS) }
-    ensures fresh { IfOk result (λ taps. All (λ tap. tap ≡ no_rows) taps.items) }
+    ensures fresh { IfOk result (λ taps. All (λ tap. tap.totals ≡ no_rows) taps.items) }
 {
     let mut taps = Vec::with_capacity(alloc, TAPS)?;
     for _ in 0..TAPS {

@@ -1,16 +1,11 @@
 -- Adapters of the operating system: what contracts see of them.
 --
---   ShelfCounts                 the counts of a shelf that tells no content
 --   counts_after answer counts  the counts after a fetch
-use Rattle.std.specs.Prelude.{ℕ, Result, Ok, Err}
+use Rattle.std.specs.Prelude.{Result, Ok, Err}
 use Rattle.rel_io.specs.Outside.{capped_sum}
+use Rattle.rel_io.specs.Shelves.{ShelfCounts}
 use Rattle.rel_io.specs.declared.shelves.ShelfFault.{ShelfFault}
 use Rattle.rel_io.specs.declared.shelves.ShelfFault.TheVariants as refusal
-
--- how often the outside failed, and how often a name was not there
-pub record ShelfCounts : Type 0 where
-  pub faults : ℕ
-  pub misses : ℕ
 
 -- the counts after a fetch that was answered so: one rises at each fault and one at each miss
 abbrev pub counts_after : Result (Unit {0}) ShelfFault → ShelfCounts → ShelfCounts

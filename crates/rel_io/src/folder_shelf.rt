@@ -26,7 +26,7 @@ pub struct FolderShelf<'r, R> {
 }
 
 impl<'r, R> Model for FolderShelf<'r, R> {
-    ghost use Rattle.rel_io.specs.Adapters.{ShelfCounts};
+    ghost use Rattle.rel_io.specs.Shelves.{ShelfCounts};
 
     ghost Value = { ShelfCounts };
 

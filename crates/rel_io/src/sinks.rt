@@ -1,7 +1,7 @@
 //! Sinks: where the engine writes its output.
-ghost use Rattle.std.specs.Prelude.{◌≡◌, ℕ, ◌<◌, ◌≤◌, List, Option, Err, IfOk, OnOk, OnErr, length};
-ghost use Rattle.std.specs.Io.KnownBytes.{Appends, WriteAppends};
-ghost use Rattle.rel_io.specs.Outside.{Rose, TakesPart};
+ghost use Rattle.std.specs.Prelude.{◌≡◌, ℕ, ◌<◌, ◌≤◌, List, Option, Err, IfOk, length};
+ghost use Rattle.std.specs.Io.KnownBytes.{WriteAppends};
+ghost use Rattle.rel_io.specs.Outside.{Rose};
 
 use std::error::Error;
 use std::fmt;
@@ -54,26 +54,4 @@ pub trait Sink {
         // No count falls.
         ensures faults { faults self.old ≤ faults self.new }
         ensures wants { wants self.old ≤ wants self.new };
-}
-
-/// Offers a piece until the sink has taken it whole.
-///
-/// After a refusal the sink has taken a beginning of the piece, but not all of it.
-pub fn offer<S: Sink>(sink: &mut S, piece: &[u8]) -> Result<(), SinkFault>
-    ensures ok { OnOk result (Appends (S.taken sink.old) (S.taken sink.new) piece.now) }
-    ensures err { OnErr result (TakesPart (S.taken sink.old) (S.taken sink.new) piece.now) }
-
-    // Each refusal has its cause in this call.
-    ensures failed { result ≡ Err SinkFault.Failed → Rose (S.faults sink.old) (S.faults sink.new) }
-    ensures memory { result ≡ Err SinkFault.Memory → Rose (S.wants sink.old) (S.wants sink.new) }
-
-    // No count falls.
-    ensures faults { S.faults sink.old ≤ S.faults sink.new }
-    ensures wants { S.wants sink.old ≤ S.wants sink.new }
-{
-    let mut done = 0;
-    while done < piece.len() {
-        done += sink.write(&piece[done..])?;
-    }
-    Ok(())
 }

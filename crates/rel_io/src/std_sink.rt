@@ -1,8 +1,8 @@
 //! Standard output and standard error.
-ghost use Rattle.std.specs.Prelude.{◌≡◌, ◌^◌, ◌<◌, [], IfOk, IfErr, OnOk, OnErr};
+ghost use Rattle.std.specs.Prelude.{◌≡◌, ◌^◌, ◌<◌, ◌≤◌, [], length, IfOk, IfErr, OnOk, OnErr};
 ghost use Rattle.std.specs.Io.Buffered.{writer_inner, writer_buffer, writer_capacity, writer_contents};
-ghost use Rattle.std.specs.Io.KnownBytes.{Keeps};
-ghost use Rattle.rel_io.specs.Outside.{capped_sum};
+ghost use Rattle.std.specs.Io.KnownBytes.{Keeps, WriteAppends};
+ghost use Rattle.rel_io.specs.Outside.{Rose, capped_sum};
 
 use crate::{Sink, SinkFault};
 use rel_base::Memory;
@@ -89,7 +89,19 @@ impl<W: Write> Sink for StdSink<W> {
 
     ghost wants = { λ _. 0 };
 
-    fn write(&mut self, piece: &[u8]) -> Result<usize, SinkFault> {
+    fn write(&mut self, piece: &[u8]) -> Result<usize, SinkFault>
+        requires { 0 < length piece.now }
+        ensures taken { WriteAppends (W.contents self.old.0) (W.contents self.new.0) result piece.now }
+        ensures some { IfOk result (λ n. 0 < n) }
+        ensures within { IfOk result (λ n. n ≤ length piece.now) }
+
+        // The count rises exactly where the piece is refused.
+        ensures refusal { IfErr result (λ e. e ≡ SinkFault.Failed) }
+        ensures ok_faults { OnOk result (self.new.1 ≡ self.old.1) }
+        ensures err_faults { OnErr result (self.new.1 ≡ capped_sum self.old.1 1) }
+        ensures failed { OnErr result (Rose self.old.1 self.new.1) }
+        ensures faults { self.old.1 ≤ self.new.1 }
+    {
         match self.writer.write(piece) {
             Ok(count) if count > 0 => Ok(count),
             Ok(_) | Err(_) => Err(self.fault()),

@@ -6,5 +6,5 @@ use Rattle.myria_top.proofs.counted.fresh_taps.Given as goal
 abbrev pub invariant-loop : goal.invariant-loop
 invariant-loop l = record {
   count : vec_len l.taps ≡ l.counter;
-  fresh : All (λ tap. tap ≡ no_rows) l.taps.items;
+  fresh : All (λ tap. tap.totals ≡ no_rows) l.taps.items;
 }

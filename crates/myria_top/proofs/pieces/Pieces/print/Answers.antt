@@ -10,8 +10,8 @@ loop-len-preserved g c =
     record {
       within = omega (arith, kept.within);
       taken = further _ _ _ _ _ _ (omega arith) kept.taken offered.ok;
-      faults = omega (arith, kept.faults, offered.faults);
-      wants = omega (arith, kept.wants, offered.wants);
+      faults = omega (arith, kept.faults, offered.faults_kept);
+      wants = omega (arith, kept.wants, offered.wants_kept);
     }
 
 pub returns-in_err-offer-clause-err : goal.returns-in_err-offer-clause-err

@@ -1,7 +1,7 @@
 -- the sink has taken the first `done` bytes, and no count fell
 use Rattle.std.proofs.Common.{◌≤◌, ◌-◌, length, take}
 use Rattle.std.specs.Io.KnownBytes.{Appends}
-use Rattle.rel_io.proofs.sinks.offer.Given as goal
+use Rattle.rel_io.proofs.offers.offer.Given as goal
 
 abbrev pub invariant-loop-done : goal.invariant-loop-done
 invariant-loop-done g l = record {
