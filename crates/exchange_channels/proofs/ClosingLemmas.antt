@@ -6,8 +6,8 @@ use Rattle.std.proofs.lemmas.List.Elements.{All-push}
 use Rattle.exchange_channels.specs.declared.messages.Message.{Message}
 use Rattle.exchange_channels.specs.Ports.{PortState}
 use Rattle.exchange_channels.specs.Wirings.{WiringState, OutletState, IntakeState, IsIntakeOf, AreIntakeEnds, HasEachEnd, cells_of, sent_to, untaken}
-use Rattle.exchange_channels.specs.Outlets.{outlet_of, places_of}
-use Rattle.exchange_channels.specs.Keeps.{keeper_with_returned, keeper_with_all, keeper_with_receiver}
+use Rattle.exchange_channels.specs.inner.Outlets.{outlet_of, places_of}
+use Rattle.exchange_channels.specs.inner.Keeps.{keeper_with_returned, keeper_with_all, keeper_with_receiver}
 
 -- what is known of intakes that have taken nothing is known of their ends
 module _ (wiring : WiringState) (ins : List IntakeState) (ends : AreIntakeEnds wiring ins) where

@@ -9,8 +9,8 @@ use Rattle.exchange_channels.specs.declared.messages.Message.{Message}
 use Rattle.exchange_channels.specs.Messages.{sender_of, is_end, batches_of}
 use Rattle.exchange_channels.specs.Ports.{PortState}
 use Rattle.exchange_channels.specs.Wirings.{WiringState, OutletState, IntakeState, new_intake, sent_to, HasEachEnd, IsDelivered, cells_of}
-use Rattle.exchange_channels.specs.Outlets.{places_of}
-use Rattle.exchange_channels.specs.Keeps.{IsSettled, keeper_with_all, keeper_with_receiver}
+use Rattle.exchange_channels.specs.inner.Outlets.{places_of}
+use Rattle.exchange_channels.specs.inner.Keeps.{IsSettled, keeper_with_all, keeper_with_receiver}
 use Rattle.exchange_channels.proofs.PortLemmas.{map_same, map-map}
 
 -- some element of a list that has one
@@ -22,7 +22,7 @@ any_intake : PortState → IntakeState
 any_intake port = new_intake port.place 0 0
 
 -- a cell whose keeper knows an inbox with every end mark took just what was sent
-delivered_at : (outs : List OutletState) (taken : IntakeState) (keeper : PortState) (k : ℕ) → IsSettled keeper → keeper.knows.number ≡ length outs
+delivered_at : (outs : List OutletState) (taken : IntakeState) (keeper : PortState) (k : ℕ) → IsSettled keeper → keeper.knows.senders ≡ length outs
     → keeper.knows.returned ≡ map (λ out. sent_to out k) outs → keeper.knows.got ≡ taken.got → taken.cell ≡ k → HasEachEnd (length outs) taken.got → IsDelivered outs taken
 delivered_at outs taken keeper k settled number returned got cell each = record {
   all_taken = λ s d below. delivered.all_got s ∙ get_or-map (λ (out : OutletState). sent_to out k) outs s d [] below ∙ ap (λ (c : ℕ). sent_to (get_or outs s d) c) (sym cell);
@@ -52,11 +52,11 @@ module _ (cells outlets_back intakes_back : List PortState) (outs : List OutletS
     pub returned_at : (k : ℕ) (d : PortState) → k < length cells → (get_or intakes_back k d).knows.returned ≡ map (λ out. sent_to out k) outs
     returned_at k d below = ap (λ (p : PortState). p.knows.returned) (both k d (any_intake d) below)
 
-    module _ (number : All (λ (p : PortState). p.knows.number ≡ length outs) cells) where
-      number_at : (k : ℕ) (d : PortState) → k < length cells → (get_or intakes_back k d).knows.number ≡ length outs
-      number_at k d below = ap (λ (p : PortState). p.knows.number) (both k d (any_intake d) below) ∙ number k d below
+    module _ (number : All (λ (p : PortState). p.knows.senders ≡ length outs) cells) where
+      number_at : (k : ℕ) (d : PortState) → k < length cells → (get_or intakes_back k d).knows.senders ≡ length outs
+      number_at k d below = ap (λ (p : PortState). p.knows.senders) (both k d (any_intake d) below) ∙ number k d below
 
-      pub all_returned : All (λ (p : PortState). length p.knows.returned ≡ p.knows.number) intakes_back
+      pub all_returned : All (λ (p : PortState). length p.knows.returned ≡ p.knows.senders) intakes_back
       all_returned k d below =
           ap length (returned_at k d (omega arith)) ∙ length-map outs (λ (out : OutletState). sent_to out k) ∙ sym (number_at k d (omega arith))
 

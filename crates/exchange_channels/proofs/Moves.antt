@@ -14,7 +14,7 @@ use Rattle.shuffle_core.proofs.InboxLemmas.{IsInbox-new_inbox, IsInbox-with_sent
 use Rattle.exchange_channels.specs.declared.messages.Message.{Message}
 use Rattle.exchange_channels.specs.declared.rule.View.{View}
 use Rattle.exchange_channels.specs.Messages.{sender_of, is_end}
-use Rattle.exchange_channels.specs.CellRule.{idle_view, first_view, with_more_capacity, with_next_sender, next_sender_view, receiver_view, without_receiver, with_returned, with_receiver, FitsSender, FitsReceiver, FitsKeeper, Fits, IsInboxOf, Sends, Takes, IsWholeInbox}
+use Rattle.exchange_channels.specs.inner.CellRule.{idle_view, first_view, with_more_capacity, with_next_sender, next_sender_view, receiver_view, without_receiver, with_returned, with_receiver, FitsSender, FitsReceiver, FitsKeeper, Fits, IsInboxOf, Sends, Takes, IsWholeInbox}
 
 -- F of each pass and what it knows
 abbrev Each : (ℕ → View → Type 0) → List View → Type 0
@@ -93,7 +93,7 @@ begins = record {
 }
 
 -- a sender sends
-pub sends : (n pass : ℕ) (v : View) (message : Message) → v.sends ≡ true → message.sender ≡ v.number → list_any is_end v.sent ≡ false → n ≡ v.capacity
+pub sends : (n pass : ℕ) (v : View) (message : Message) → v.sends ≡ true → message.sender ≡ v.sender → list_any is_end v.sent ≡ false → n ≡ v.capacity
     → Pushes IsInboxOf n pass v message (Sends v message)
 sends n pass v message may from running room items views free h at = (w, after, refl)
   where
@@ -127,11 +127,11 @@ sends n pass v message may from running room items views free h at = (w, after, 
     others : (j : ℕ) (u : View) → j ≢ pass → get_elem? views j ≡ some u → Fits next h.seat h.reader h.keeper j u
     others j u other e = let theirs = h.fits j u e in record {
       if_sends = λ yes. let s = theirs.if_sends yes in
-          let apart : message.sender ≢ u.number = λ (same : message.sender ≡ u.number). other (omega (arith, ap h.seat (sym from ∙ same), mine.seated, s.seated)) in record {
+          let apart : message.sender ≢ u.sender = λ (same : message.sender ≡ u.sender). other (omega (arith, ap h.seat (sym from ∙ same), mine.seated, s.seated)) in record {
             made = s.made;
             seated = s.seated;
             same_capacity = s.same_capacity;
-            same_sent = s.same_sent ∙ sym (sent_by-with_sent_other sender_of h.inbox message u.number apart);
+            same_sent = s.same_sent ∙ sym (sent_by-with_sent_other sender_of h.inbox message u.sender apart);
           };
       if_takes = λ yes. receiver_fits j u (theirs.if_takes yes);
       if_keeps = λ yes. keeper_fits j u (theirs.if_keeps yes);
@@ -195,7 +195,7 @@ takes pass v may message items views h at = (w, after, refl)
     }
 
 -- the keeper lets one more message wait, before it makes a sender
-pub widens : (pass : ℕ) (v : View) → v.keeps ≡ true → v.number ≡ 0 → Forks IsInboxOf pass v (with_more_capacity v) idle_view
+pub widens : (pass : ℕ) (v : View) → v.keeps ≡ true → v.senders ≡ 0 → Forks IsInboxOf pass v (with_more_capacity v) idle_view
 widens pass v may none items views h at = record {
   inbox = next;
   seat = h.seat;
@@ -253,7 +253,12 @@ makes_sender pass v may items views h at = record {
   waits = h.waits;
   fits = each_push (Fits next seats h.reader h.keeper) (set views pass (with_next_sender v)) (next_sender_view v)
       (each_set (Fits next seats h.reader h.keeper) views pass (with_next_sender v) record {
-        if_sends = λ yes. absurd (omega (arith, ((h.fits pass v at).if_sends yes).made, mine.same_senders));
+        if_sends = λ yes. let s = (h.fits pass v at).if_sends yes in record {
+          made = omega (arith, s.made);
+          seated = seats_other v.sender (λ (e : v.sender ≡ h.inbox.senders). omega (arith, s.made)) ∙ s.seated;
+          same_capacity = s.same_capacity;
+          same_sent = s.same_sent ∙ sym (same v.sender);
+        };
         if_takes = λ yes. let r = (h.fits pass v at).if_takes yes in record { is_reader = r.is_reader; same_got = r.same_got };
         if_keeps = λ _. record {
           is_keeper = mine.is_keeper;
@@ -267,9 +272,9 @@ makes_sender pass v may items views h at = record {
       } (λ j u other e. let theirs = h.fits j u e in record {
         if_sends = λ yes. let s = theirs.if_sends yes in record {
           made = omega (arith, s.made);
-          seated = seats_other u.number (λ (e : u.number ≡ h.inbox.senders). omega (arith, s.made)) ∙ s.seated;
+          seated = seats_other u.sender (λ (e : u.sender ≡ h.inbox.senders). omega (arith, s.made)) ∙ s.seated;
           same_capacity = s.same_capacity;
-          same_sent = s.same_sent ∙ sym (same u.number);
+          same_sent = s.same_sent ∙ sym (same u.sender);
         };
         if_takes = λ yes. record { is_reader = (theirs.if_takes yes).is_reader; same_got = (theirs.if_takes yes).same_got };
         if_keeps = λ yes. absurd (other ((theirs.if_keeps yes).is_keeper ∙ sym mine.is_keeper));
@@ -338,7 +343,7 @@ gives_receiver pass v may items views h at = record {
     mine = (h.fits pass v at).if_takes may
 
 -- a sender comes back to the keeper, after all that were made before it
-pub sender_returns : (pass : ℕ) (v : View) (other : ℕ) (w : View) → v.keeps ≡ true → w.sends ≡ true → w.number ≡ length v.returned
+pub sender_returns : (pass : ℕ) (v : View) (other : ℕ) (w : View) → v.keeps ≡ true → w.sends ≡ true → w.sender ≡ length v.returned
     → Merges IsInboxOf pass v other w (with_returned v w.sent) idle_view
 sender_returns pass v other w may sent next items views h at two at' = record {
   inbox = h.inbox;
@@ -364,17 +369,22 @@ sender_returns pass v other w may sent next items views h at two at' = record {
     theirs = (h.fits other w was).if_sends sent
 
     seats : ℕ → ℕ
-    seats s = cond (eqb s w.number) 0 (h.seat s)
+    seats s = cond (eqb s w.sender) 0 (h.seat s)
 
     seats_empty : (s : ℕ) → h.seat s ≡ 0 → seats s ≡ 0
-    seats_empty s e = ⊎_elim (λ x. ap (λ (b : Bool). cond b 0 (h.seat s)) x.0) (λ x. ap (λ (b : Bool). cond b 0 (h.seat s)) x.0 ∙ e) (eqb_tells s w.number)
+    seats_empty s e = ⊎_elim (λ x. ap (λ (b : Bool). cond b 0 (h.seat s)) x.0) (λ x. ap (λ (b : Bool). cond b 0 (h.seat s)) x.0 ∙ e) (eqb_tells s w.sender)
 
-    seats_other : (s : ℕ) → s ≢ w.number → seats s ≡ h.seat s
-    seats_other s differ = ap (λ (b : Bool). cond b 0 (h.seat s)) (ne_eqb s w.number differ)
+    seats_other : (s : ℕ) → s ≢ w.sender → seats s ≡ h.seat s
+    seats_other s differ = ap (λ (b : Bool). cond b 0 (h.seat s)) (ne_eqb s w.sender differ)
 
     both_fits : Fits h.inbox seats h.reader h.keeper pass both
     both_fits = record {
-      if_sends = λ yes. absurd (omega (arith, ((h.fits pass v at).if_sends yes).made, mine.same_senders));
+      if_sends = λ yes. let s = (h.fits pass v at).if_sends yes in record {
+        made = s.made;
+        seated = seats_other v.sender (λ (same : v.sender ≡ w.sender). two (omega (arith, ap h.seat same, s.seated, theirs.seated))) ∙ s.seated;
+        same_capacity = s.same_capacity;
+        same_sent = s.same_sent;
+      };
       if_takes = λ yes. let r = (h.fits pass v at).if_takes yes in record { is_reader = r.is_reader; same_got = r.same_got };
       if_keeps = λ _. record {
         is_keeper = mine.is_keeper;
@@ -382,10 +392,10 @@ sender_returns pass v other w may sent next items views h at two at' = record {
         same_senders = mine.same_senders;
         seats_to_come = λ s past. seats_empty s (mine.seats_to_come s past);
         seats_returned = λ s less. ⊎_elim (λ (below : s < length v.returned). seats_empty s (mine.seats_returned s below))
-            (λ (past : length v.returned ≤ s). let here : s ≡ w.number = omega (arith, length_push v.returned w.sent) in
-            ap (λ (b : Bool). cond b 0 (h.seat s)) (eq-eqb s w.number here)) (cases_lt s (length v.returned));
+            (λ (past : length v.returned ≤ s). let here : s ≡ w.sender = omega (arith, length_push v.returned w.sent) in
+            ap (λ (b : Bool). cond b 0 (h.seat s)) (eq-eqb s w.sender here)) (cases_lt s (length v.returned));
         same_returned = λ s less. ⊎_elim (λ (below : s < length v.returned). get_or_append_left v.returned (w.sent ∷ []) [] s below ∙ mine.same_returned s below)
-            (λ (past : length v.returned ≤ s). let here : s ≡ w.number = omega (arith, length_push v.returned w.sent) in
+            (λ (past : length v.returned ≤ s). let here : s ≡ w.sender = omega (arith, length_push v.returned w.sent) in
             get_or_push v.returned w.sent [] s (sym next ∙ sym here) ∙ theirs.same_sent ∙ ap (sent_by h.inbox) (sym here)) (cases_lt s (length v.returned));
         returned_made = omega (arith, length_push v.returned w.sent, theirs.made);
       };
@@ -395,7 +405,7 @@ sender_returns pass v other w may sent next items views h at two at' = record {
     others j u differ e apart = let fit = h.fits j u e in record {
       if_sends = λ yes. let s = fit.if_sends yes in record {
         made = s.made;
-        seated = seats_other u.number (λ (same : u.number ≡ w.number). apart (omega (arith, ap h.seat same, s.seated, theirs.seated))) ∙ s.seated;
+        seated = seats_other u.sender (λ (same : u.sender ≡ w.sender). apart (omega (arith, ap h.seat same, s.seated, theirs.seated))) ∙ s.seated;
         same_capacity = s.same_capacity;
         same_sent = s.same_sent;
       };
@@ -440,7 +450,7 @@ receiver_returns pass v other w taking items views h at two at' = record {
     }
 
 -- the keeper to which every pass came back knows the inbox
-pub learns : (pass : ℕ) (v : View) → v.keeps ≡ true → v.takes ≡ true → length v.returned ≡ v.number → Learns IsInboxOf pass v (IsWholeInbox v)
+pub learns : (pass : ℕ) (v : View) → v.keeps ≡ true → v.takes ≡ true → length v.returned ≡ v.senders → Learns IsInboxOf pass v (IsWholeInbox v)
 learns pass v keeping taking all items views h at =
     subst (IsInbox sender_of is_end) (λ i. record { senders = sym mine.same_senders i; capacity = sym mine.same_capacity i; sent = sym lists i; queue = h.waits i; got = sym reads.same_got i }) h.is_inbox
   where

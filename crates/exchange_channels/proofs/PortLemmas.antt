@@ -6,8 +6,8 @@ use Rattle.exchange_channels.specs.declared.messages.Message.{Message}
 use Rattle.exchange_channels.specs.Messages.{end_of}
 use Rattle.exchange_channels.specs.Ports.{PortState}
 use Rattle.exchange_channels.specs.Wirings.{with_sent_to, with_ends}
-use Rattle.exchange_channels.specs.Keeps.{IsSettled}
-use Rattle.exchange_channels.specs.Outlets.{outlet_of, places_of, port_with_sent}
+use Rattle.exchange_channels.specs.inner.Keeps.{IsSettled}
+use Rattle.exchange_channels.specs.inner.Outlets.{outlet_of, places_of, port_with_sent}
 
 -- two lists of which f and g tell the same, place by place
 pub map_same : {X Y : Type 0} (f g : X → Y) (xs ys : List X) → length ys ≡ length xs → ((k : ℕ) (d : X) → k < length xs → f (get_or ys k d) ≡ g (get_or xs k d)) → map f ys ≡ map g xs
@@ -15,6 +15,13 @@ map_same f g [] [] long same = refl
 map_same f g [] (y ∷ ys) long same = absurd (omega arith)
 map_same f g (x ∷ xs) [] long same = absurd (omega arith)
 map_same f g (x ∷ xs) (y ∷ ys) long same = λ i. same 0 x (omega arith) i ∷ map_same f g xs ys (omega arith) (λ k d below. same (suc k) d (omega arith)) i
+
+-- a list of which each element is that of another, mapped
+pub map_of_places : {X : Type 0} (f : X → X) (xs ys : List X) → length ys ≡ length xs → ((k : ℕ) (d : X) → k < length xs → get_or ys k d ≡ f (get_or xs k d)) → ys ≡ map f xs
+map_of_places f [] [] long same = refl
+map_of_places f [] (y ∷ ys) long same = absurd (omega arith)
+map_of_places f (x ∷ xs) [] long same = absurd (omega arith)
+map_of_places f (x ∷ xs) (y ∷ ys) long same = λ i. same 0 x (omega arith) i ∷ map_of_places f xs ys (omega arith) (λ k d below. same (suc k) d (omega arith)) i
 
 pub map-map : {X Y Z : Type 0} (f : X → Y) (g : Y → Z) (xs : List X) → map g (map f xs) ≡ map (λ x. g (f x)) xs
 map-map f g [] = refl
@@ -38,13 +45,11 @@ module _ (sender senders capacity : ℕ) (ports : List PortState) where
           ∙ ap (λ l. set (map (λ p. p.knows.sent) ports) cell (l ++ message ∷ [])) (sym (get_or-map (λ p. p.knows.sent) ports cell d [] here))
 
   -- the end mark was sent through every port
-  pub outlet_of-ended : (ended : List PortState) → length ended ≡ length ports → ((k : ℕ) (d : PortState) → k < length ports → get_or ended k d ≡ port_with_sent (get_or ports k d) (end_of sender))
-      → outlet_of sender senders capacity ended ≡ with_ends (outlet_of sender senders capacity ports)
-  outlet_of-ended ended long each = λ i. record {
-    wiring = record { places = map_same (λ p. p.place) (λ p. p.place) ports ended long (λ k d below. ap (λ (p : PortState). p.place) (each k d below)) i; senders = senders; capacity = capacity };
+  pub outlet_of-ended : outlet_of sender senders capacity (map (λ port. port_with_sent port (end_of sender)) ports) ≡ with_ends (outlet_of sender senders capacity ports)
+  outlet_of-ended = λ i. record {
+    wiring = record { places = map-map (λ port. port_with_sent port (end_of sender)) (λ p. p.place) ports i; senders = senders; capacity = capacity };
     sender = sender;
-    sent = (map_same (λ p. p.knows.sent) (λ p. p.knows.sent ++ end_of sender ∷ []) ports ended long (λ k d below. ap (λ (p : PortState). p.knows.sent) (each k d below))
-        ∙ sym (map-map (λ p. p.knows.sent) (λ messages. messages ++ end_of sender ∷ []) ports)) i;
+    sent = (map-map (λ port. port_with_sent port (end_of sender)) (λ p. p.knows.sent) ports ∙ sym (map-map (λ p. p.knows.sent) (λ messages. messages ++ end_of sender ∷ []) ports)) i;
   }
 
 -- one more keeper is settled, which stays as it is

@@ -11,9 +11,9 @@ use Rattle.shuffle_core.proofs.InboxLemmas.{of_sender-push_same, of_sender-push_
 use Rattle.exchange_channels.specs.declared.messages.Batch.{Batch}
 use Rattle.exchange_channels.specs.declared.messages.Message.{Message}
 use Rattle.exchange_channels.specs.Messages.{sender_of, is_end, batch_of, end_of, drained_of}
-use Rattle.exchange_channels.specs.CellRule.{with_taken}
+use Rattle.exchange_channels.specs.inner.CellRule.{with_taken}
 use Rattle.exchange_channels.specs.Ports.{PortState}
-use Rattle.exchange_channels.specs.Intakes.{IsTaking}
+use Rattle.exchange_channels.specs.inner.Intakes.{IsTaking}
 
 drained_of-batch : (got : List Message) (sender : ℕ) (batch : Batch) → drained_of (got ++ batch_of sender batch ∷ []) ≡ drained_of got ++ (sender, batch) ∷ []
 drained_of-batch got sender batch = filter_map-append (λ (m : Message). option_map (λ b. (m.sender, b)) m.batch) got (batch_of sender batch ∷ [])

@@ -1,15 +1,15 @@
 -- How a wiring is made of its keepers.
-use Rattle.std.proofs.Common.{◌≡◌, ℕ, zero, suc, ◌+◌, ◌<◌, ◌≤◌, ⊎_elim, List, [], ◌∷◌, ◌++◌, length, get_or, map, replicate, All, Some, refl, sym, ◌∙◌, ap, arith}
+use Rattle.std.proofs.Common.{◌≡◌, ℕ, zero, suc, ◌+◌, ◌<◌, ◌≤◌, ⊎_elim, List, [], ◌∷◌, ◌++◌, length, get_or, map, replicate, All, Some, refl, sym, ◌∙◌, ap, subst, arith}
 use Rattle.std.specs.Prelude.{slice_get}
 use Rattle.std.proofs.lemmas.Bool.{cases_lt}
 use Rattle.std.proofs.lemmas.List.{length-map, length_push, get_or_append_left, get_or_push}
 use Rattle.std.proofs.lemmas.List.Elements.{All-map}
-use Rattle.exchange_channels.specs.CellRule.{with_next_sender}
+use Rattle.exchange_channels.specs.inner.CellRule.{with_next_sender}
 use Rattle.exchange_channels.specs.Ports.{PortState}
 use Rattle.exchange_channels.specs.Wirings.{IntakeState, new_outlet}
-use Rattle.exchange_channels.specs.Outlets.{outlet_of, places_of, wiring_of, IsRunning}
-use Rattle.exchange_channels.specs.Keeps.{IsKept, receiver_of, next_sender_of, keeper_with_sender}
-use Rattle.exchange_channels.proofs.PortLemmas.{map_same, map-map}
+use Rattle.exchange_channels.specs.inner.Outlets.{outlet_of, places_of, wiring_of, IsRunning}
+use Rattle.exchange_channels.specs.inner.Keeps.{IsKept, receiver_of, next_sender_of, keeper_with_sender}
+use Rattle.exchange_channels.proofs.PortLemmas.{map-map}
 
 map-const : {X Y : Type 0} (y : Y) (xs : List X) → map (λ _. y) xs ≡ replicate (length xs) y
 map-const y [] = refl
@@ -31,20 +31,20 @@ in_order_more intakes intake next before k d below =
     ap (λ (i : IntakeState). i.cell) (get_or_push intakes intake d k there) ∙ next ∙ there) (cases_lt k (length intakes))
 
 -- each cell made one more sender
-module _ (old new : List PortState) (long : length new ≡ length old) (each : (k : ℕ) (d : PortState) → k < length old → get_or new k d ≡ keeper_with_sender (get_or old k d)) where
+module _ (old new : List PortState) (each : new ≡ map keeper_with_sender old) where
   pub kept_more : (capacity number : ℕ) → All (IsKept capacity number) old → All (IsKept capacity (number + 1)) new
-  kept_more capacity number kept k d below =
-      let here : k < length old = omega arith in
-      ap (λ (p : PortState). p.knows) (each k d here) ∙ ap with_next_sender (kept k d here)
+  kept_more capacity number kept =
+      subst (All (IsKept capacity (number + 1))) (sym each)
+      (All-map (IsKept capacity (number + 1)) keeper_with_sender old (λ k d below. ap with_next_sender (kept k d below)))
 
   pub places_kept : places_of new ≡ places_of old
-  places_kept = map_same (λ p. p.place) (λ p. p.place) old new long (λ k d below. ap (λ (p : PortState). p.place) (each k d below))
+  places_kept = ap places_of each ∙ map-map keeper_with_sender (λ p. p.place) old
 
 module _ (cells : List PortState) where
   -- the ends of the next sender belong to it, and it may send
   pub next_sender_runs : (capacity number : ℕ) → All (IsKept capacity number) cells → All (IsRunning number) (map next_sender_of cells)
   next_sender_runs capacity number kept =
-      All-map (IsRunning number) next_sender_of cells (λ k d below. record { of_sender = ap (λ v. v.number) (kept k d below); no_end = refl })
+      All-map (IsRunning number) next_sender_of cells (λ k d below. record { of_sender = ap (λ v. v.senders) (kept k d below); no_end = refl })
 
   -- the outlet of the next sender has sent nothing
   pub outlet_of-next_sender : (number senders capacity : ℕ) → outlet_of number senders capacity (map next_sender_of cells) ≡ new_outlet (wiring_of cells senders capacity) number

@@ -2,6 +2,7 @@
 --
 --   WiringState                        the channels of the cells, the number of senders, the capacity
 --   OutletState, IntakeState           what an outlet has sent to each cell; what an intake has taken
+--   AreNumbered number xs               the items are numbered in order, from 0
 --   new_outlet, new_intake             an outlet that has sent nothing; an intake that has taken nothing
 --   AreIntakes                         these are all intakes of a wiring, in order, and have taken nothing
 --   AreOutletEnds, AreIntakeEnds       these are all the ends of a wiring, in order
@@ -41,6 +42,10 @@ pub record ReceiptState : Type 0 where
   pub capacity : ℕ
   pub batches : List (List (List Batch))
 
+-- the items are numbered in order: the first has number 0, the next 1, and so on
+abbrev pub AreNumbered : {X : Type 0} → (X → ℕ) → List X → Type 0
+AreNumbered {X} number xs = (k : ℕ) (d : X) → k < length xs → number (slice_index_or xs k d) ≡ k
+
 -- the number of cells
 abbrev pub cells_of : WiringState → ℕ
 cells_of wiring = length wiring.places
@@ -48,6 +53,10 @@ cells_of wiring = length wiring.places
 -- the outlet of a sender that has sent nothing
 abbrev pub new_outlet : WiringState → ℕ → OutletState
 new_outlet wiring sender = record { wiring = wiring; sender = sender; sent = replicate (cells_of wiring) [] }
+
+-- the outlets of so many senders, in order, which have sent nothing
+abbrev pub new_outlets : WiringState → ℕ → List OutletState
+new_outlets wiring senders = map (new_outlet wiring) (range_with_len 0 senders)
 
 -- the intake of a cell that has taken nothing
 abbrev pub new_intake : Place → ℕ → ℕ → IntakeState
@@ -73,7 +82,7 @@ HasEachEnd senders got = (s : ℕ) → s < senders → IsTrue (list_any is_end (
 pub record AreOutletEnds (wiring : WiringState) (outs : List OutletState) : Type 0 where
   pub count : length outs ≡ wiring.senders
   pub of_wiring : All (λ out. out.wiring ≡ wiring) outs
-  pub in_order : (k : ℕ) (d : OutletState) → k < length outs → (slice_index_or outs k d).sender ≡ k
+  pub in_order : AreNumbered (λ out. out.sender) outs
 
 -- the intake is at the channel of its cell among these
 abbrev pub IsAtItsCell : List Place → IntakeState → Type 0
@@ -88,7 +97,7 @@ pub record IsIntakeOf (wiring : WiringState) (intake : IntakeState) : Type 0 whe
 pub record AreIntakes (wiring : WiringState) (intakes : List IntakeState) : Type 0 where
   pub count : length intakes ≡ cells_of wiring
   pub of_wiring : All (IsIntakeOf wiring) intakes
-  pub in_order : (k : ℕ) (d : IntakeState) → k < length intakes → (slice_index_or intakes k d).cell ≡ k
+  pub in_order : AreNumbered (λ intake. intake.cell) intakes
   pub nothing_taken : All (λ intake. intake.got ≡ []) intakes
 
 -- the intake before it took anything
@@ -116,5 +125,5 @@ pub record IsWired (keep : WiringState) (outlets : List OutletState) (intakes : 
   pub same_cells : cells_of keep ≡ cells
   pub same_senders : keep.senders ≡ senders
   pub same_capacity : keep.capacity ≡ capacity
-  pub all_outlets : outlets ≡ map (new_outlet keep) (range_with_len 0 senders)
+  pub all_outlets : outlets ≡ new_outlets keep senders
   pub all_intakes : AreIntakes keep intakes

@@ -1,23 +1,25 @@
 //! The closing of a wiring: all ends come back to the keeper, and what was taken is known to be what was sent.
-ghost use Rattle.std.specs.Prelude.{◌≡◌, ℕ, ◌<◌, true, [], length, map, All, slice_index_or};
-ghost use Rattle.exchange_channels.specs.Ports.{PortState};
-ghost use Rattle.exchange_channels.specs.Wirings.{AreOutletEnds, AreIntakeEnds, IsAtItsCell, IsDelivered, HasEachEnd, receipt_of, sent_to, IntakeState, OutletState};
-ghost use Rattle.exchange_channels.specs.Outlets.{places_of};
-ghost use Rattle.exchange_channels.specs.Keeps.{IsSettled, keeper_with_returned, keeper_with_all, keeper_with_receiver};
+ghost use Rattle.std.specs.Prelude.{◌≡◌, ◌≤◌, true, [], length, map, All};
+ghost use Rattle.exchange_channels.specs.Wirings.{AreOutletEnds, AreIntakeEnds, AreNumbered};
+ghost use Rattle.exchange_channels.specs.Wirings.{IsAtItsCell, IsDelivered, HasEachEnd, receipt_of};
+ghost use Rattle.exchange_channels.specs.inner.Closings as back;
+ghost use Rattle.exchange_channels.specs.inner.Keeps.{IsSettled};
+ghost use Rattle.exchange_channels.specs.inner.Outlets.{places_of};
 
-use crate::ports::{KeepPort, SendPort};
+use crate::ports::{KeepPass, KeepPort, SendPort};
 use crate::wiring::Keep;
-use crate::{IntakeEnd, IntakeEnds, OutletEnds};
+use crate::{Ends, IntakeEnd, IntakeEnds, OutletEnds};
 use rel_base::Items;
 use std::marker::Model;
 
-/// What went through a wiring: for each cell and each sender, the batches that the sender sent there. It holds the passes
-/// of the channels, which know them, and no rows. Only `close` makes one.
+/// What went through a wiring: for each cell and each sender, the batches that the sender sent there.
+///
+/// It holds the passes of the channels, which know them, no rows and no channel. Only `close` makes one.
 #[derive(Drop)]
 pub struct Receipt {
     capacity: u32,
-    /// The keeper of each cell's channel, to which every end came back.
-    cells: Vec<KeepPort>,
+    /// The pass of each cell's keeper, to which every end came back.
+    passes: Ends<KeepPass>,
 }
 
 /// Receipts, in order.
@@ -30,11 +32,14 @@ impl Model for Receipt {
 
     ghost Value = { ReceiptState };
 
-    ghost view = { λ r. record { capacity = r.capacity; batches = map (λ cell. map batches_of cell.knows.returned) r.cells.items } };
+    ghost view = { λ r. record {
+      capacity = r.capacity;
+      batches = map (λ cell. map batches_of cell.returned) r.passes.items;
+    } };
 }
 
-/// Takes back all ends of a wiring. What each cell took of each sender is then known to be what the sender sent there, in
-/// its order. It takes no memory.
+/// Takes back all ends of a wiring. What each cell took of each sender is then known to be what the sender sent there,
+/// in its order. It takes no memory.
 pub fn close(keep: Keep, outs: OutletEnds, ins: IntakeEnds) -> Receipt
     requires outs { AreOutletEnds keep outs.items }
     requires ins { AreIntakeEnds keep ins.items }
@@ -45,22 +50,19 @@ pub fn close(keep: Keep, outs: OutletEnds, ins: IntakeEnds) -> Receipt
         senders: _,
         capacity,
         mut cells,
+        passes,
     } = keep;
-    close_cells(cells.as_mut_slice(), outs, ins);
-    Receipt { capacity, cells }
+    take_ends_back(cells.as_mut_slice(), outs, ins);
+    Receipt {
+        capacity,
+        passes: passes_of(cells, passes),
+    }
 }
 
 /// Takes back all ends of the cells of a wiring.
-fn close_cells(cells: &mut [KeepPort], outs: OutletEnds, ins: IntakeEnds)
-    requires none { All (λ cell. cell.knows.returned ≡ []) cells.old }
-    requires number { All (λ cell. cell.knows.number ≡ length outs.items) cells.old }
-    requires outs_places { All (λ out. out.wiring.places ≡ places_of cells.old) outs.items }
-    requires outs_in_order { (k : ℕ) (e : OutletState) → k < length outs.items → (slice_index_or outs.items k e).sender ≡ k }
-    requires ins_count { length ins.items ≡ length cells.old }
-    requires ins_places { All (IsAtItsCell (places_of cells.old)) ins.items }
-    requires ins_senders { All (λ taken. taken.senders ≡ length outs.items) ins.items }
-    requires ins_in_order { (k : ℕ) (e : IntakeState) → k < length ins.items → (slice_index_or ins.items k e).cell ≡ k }
-    ensures returned { (k : ℕ) (d : PortState) → k < length cells.old → (slice_index_or cells.new k d).knows.returned ≡ map (λ out. sent_to out k) outs.items }
+fn take_ends_back(cells: &mut [KeepPort], outs: OutletEnds, ins: IntakeEnds)
+    requires { back.AreEndsOf cells.old outs.items ins.items }
+    ensures returned { back.KnowAllSent outs.items cells.new }
     ensures delivered { All (IsDelivered outs.items) ins.items }
 {
     take_outlets_back(cells, outs);
@@ -71,9 +73,9 @@ fn close_cells(cells: &mut [KeepPort], outs: OutletEnds, ins: IntakeEnds)
 /// Takes back the outlets of all senders, in order.
 fn take_outlets_back(cells: &mut [KeepPort], outs: OutletEnds)
     requires places { All (λ out. out.wiring.places ≡ places_of cells.old) outs.items }
-    requires in_order { (k : ℕ) (e : OutletState) → k < length outs.items → (slice_index_or outs.items k e).sender ≡ k }
+    requires in_order { AreNumbered (λ out. out.sender) outs.items }
     requires none { All (λ cell. cell.knows.returned ≡ []) cells.old }
-    ensures { (k : ℕ) (d : PortState) → k < length cells.old → slice_index_or cells.new k d ≡ keeper_with_all (slice_index_or cells.old k d) (map (λ out. sent_to out k) outs.items) }
+    ensures { back.HaveOutletsBack outs.items cells.old cells.new }
 {
     for out in outs.items {
         take_ports_back(cells, out.ports);
@@ -82,10 +84,8 @@ fn take_outlets_back(cells: &mut [KeepPort], outs: OutletEnds)
 
 /// Takes back the ends of the next sender, one at each cell.
 fn take_ports_back(cells: &mut [KeepPort], ports: Vec<SendPort>)
-    requires count { length ports.items ≡ length cells.old }
-    requires places { (k : ℕ) (d e : PortState) → k < length cells.old → (slice_index_or ports.items k e).place ≡ (slice_index_or cells.old k d).place }
-    requires next { (k : ℕ) (d e : PortState) → k < length cells.old → (slice_index_or ports.items k e).knows.number ≡ length (slice_index_or cells.old k d).knows.returned }
-    ensures { (k : ℕ) (d e : PortState) → k < length cells.old → slice_index_or cells.new k d ≡ keeper_with_returned (slice_index_or cells.old k d) (slice_index_or ports.items k e).knows.sent }
+    requires { back.AreNextPorts cells.old ports.items }
+    ensures { back.HavePortsBack ports.items cells.old cells.new }
 {
     let mut ports = ports;
     while let Some(port) = ports.pop() {
@@ -97,8 +97,8 @@ fn take_ports_back(cells: &mut [KeepPort], ports: Vec<SendPort>)
 fn take_intakes_back(cells: &mut [KeepPort], ins: IntakeEnds)
     requires count { length ins.items ≡ length cells.old }
     requires places { All (IsAtItsCell (places_of cells.old)) ins.items }
-    requires in_order { (k : ℕ) (e : IntakeState) → k < length ins.items → (slice_index_or ins.items k e).cell ≡ k }
-    ensures cells { (k : ℕ) (d : PortState) (e : IntakeState) → k < length cells.old → slice_index_or cells.new k d ≡ keeper_with_receiver (slice_index_or cells.old k d) (slice_index_or ins.items k e).got }
+    requires in_order { AreNumbered (λ taken. taken.cell) ins.items }
+    ensures cells { back.HaveIntakesBack ins.items cells.old cells.new }
     ensures ends { All (λ taken. HasEachEnd taken.senders taken.got) ins.items }
 {
     for taken in ins.items {
@@ -114,11 +114,24 @@ fn take_intakes_back(cells: &mut [KeepPort], ins: IntakeEnds)
 /// Learns of each cell's channel that what it knows is an inbox.
 fn settle(cells: &mut [KeepPort])
     requires receivers { All (λ cell. cell.knows.takes ≡ true) cells.old }
-    requires senders { All (λ cell. length cell.knows.returned ≡ cell.knows.number) cells.old }
+    requires senders { All (λ cell. length cell.knows.returned ≡ cell.knows.senders) cells.old }
     ensures same { cells.new ≡ cells.old }
     ensures settled { All IsSettled cells.new }
 {
     for cell in cells.iter_mut() {
         cell.learn();
     }
+}
+
+/// The passes of the keepers, in the room that was made for them. Their channels are let go.
+fn passes_of(cells: Vec<KeepPort>, room: Ends<KeepPass>) -> Ends<KeepPass>
+    requires empty { room.items ≡ [] }
+    requires room { length cells.items ≤ room.spare }
+    ensures { result.items ≡ map (λ cell. cell.knows) cells.items }
+{
+    let mut passes = room;
+    for cell in cells {
+        passes.put(cell.into_pass());
+    }
+    passes
 }

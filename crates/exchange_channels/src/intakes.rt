@@ -1,11 +1,9 @@
 //! Intakes: the ends at which a cell takes what all senders sent to it.
-ghost use Rattle.std.specs.Prelude.{◌≡◌, ℕ, ◌<◌, IsTrue, List, [], ◌∷◌, ◌++◌, length, IfOk, IsOkAnd, slice_set, true};
-ghost use Rattle.rel_io.specs.Outside.{capped_sum};
-ghost use Rattle.exchange_channels.specs.declared.messages.Message.{Message as Sent};
+ghost use Rattle.std.specs.Prelude.{◌≡◌, IsTrue, [], ◌∷◌, ◌++◌, length, IfOk, IsOkAnd, slice_set, true};
+ghost use Rattle.rel_io.specs.Taps.{with_got};
 ghost use Rattle.exchange_channels.specs.Messages.{drained_of, rows_of};
-ghost use Rattle.exchange_channels.specs.CellRule.{with_taken};
 ghost use Rattle.exchange_channels.specs.Wirings.{HasEachEnd, untaken};
-ghost use Rattle.exchange_channels.specs.Intakes.{told};
+ghost use Rattle.exchange_channels.specs.inner.Intakes.{TakesMessage};
 
 use crate::ports::TakePort;
 use crate::{Batch, Drained, Message};
@@ -29,7 +27,7 @@ pub struct Intake {
 
 impl Model for Intake {
     ghost use Rattle.exchange_channels.specs.Wirings.{IntakeState};
-    ghost use Rattle.exchange_channels.specs.Intakes.{intake_of, IsIntake};
+    ghost use Rattle.exchange_channels.specs.inner.Intakes.{intake_of, IsIntake};
 
     ghost Value = { IntakeState };
 
@@ -48,7 +46,7 @@ pub struct IntakeEnd {
 
 impl Model for IntakeEnd {
     ghost use Rattle.exchange_channels.specs.Wirings.{IntakeState, HasEachEnd};
-    ghost use Rattle.exchange_channels.specs.Intakes.{intake_of};
+    ghost use Rattle.exchange_channels.specs.inner.Intakes.{intake_of};
 
     ghost Value = { IntakeState };
 
@@ -69,7 +67,8 @@ impl Intake {
         ensures same { untaken result.0 ≡ self }
         ensures ends { HasEachEnd self.senders result.0.got }
         ensures drained { IfOk result.1 (λ drained. drained ≡ drained_of result.0.got) }
-        ensures tap { T.totals tap.new ≡ record (T.totals tap.old) { got = capped_sum (T.totals tap.old).got (rows_of result.0.got) } }
+        ensures tap { T.totals tap.new ≡ with_got (T.totals tap.old) (rows_of result.0.got) }
+        ensures tag { T.tag tap.new ≡ T.tag tap.old }
     {
         let Intake {
             number,
@@ -115,13 +114,17 @@ struct Taking {
 }
 
 impl Model for Taking {
-    ghost use Rattle.exchange_channels.specs.Intakes.{TakingState, IsTaking};
+    ghost use Rattle.exchange_channels.specs.inner.Intakes.{TakingState, IsTaking};
 
     ghost Value = { TakingState };
 
     ghost view = { λ t. record { port = t.port; ended = t.ended.items; drained = t.drained } };
 
-    ghost invariant = { λ t. IsTaking (record { port = t.port; ended = t.ended.items; drained = t.drained }) };
+    ghost invariant = { λ t. IsTaking (record {
+      port = t.port;
+      ended = t.ended.items;
+      drained = t.drained;
+    }) };
 }
 
 impl Taking {
@@ -136,7 +139,8 @@ impl Taking {
     fn take<T: Tap, R: Wait>(&mut self, rt: &R, tap: &mut T)
         ensures place { self.new.port.place ≡ self.old.port.place }
         ensures senders { length self.new.ended ≡ length self.old.ended }
-        ensures taken { (message : Sent) × (self.new.port.knows ≡ with_taken self.old.port.knows message) × (T.totals tap.new ≡ told (T.totals tap.old) message.batch) }
+        ensures taken { TakesMessage self.old self.new (T.totals tap.old) (T.totals tap.new) }
+        ensures tag { T.tag tap.new ≡ T.tag tap.old }
     {
         let Message { sender, batch } = self.port.take(rt);
         match batch {
@@ -152,7 +156,8 @@ impl Taking {
 
 /// The batches with one more. Where memory was refused or is, all are let go.
 fn kept(drained: Result<Drained, Memory>, sender: u32, batch: Batch) -> Result<Drained, Memory>
-    ensures { IfOk result (λ now. IsOkAnd drained (λ before. now ≡ before ++ (sender, batch) ∷ [])) }
+    ensures { IfOk result (λ now.
+        IsOkAnd drained (λ before. now ≡ before ++ (sender, batch) ∷ [])) }
 {
     let mut drained = drained?;
     if drained.len() == u32::MAX {

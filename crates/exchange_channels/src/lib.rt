@@ -15,7 +15,7 @@
 //! Not promised: that a call which may wait returns, the order of two senders' batches, that memory is there for `wire`
 //! and for what a cell keeps. Sends, end marks and the closing take none.
 //!
-//! Read `specs/Wirings.antt` for what contracts see, `specs/CellRule.antt` for the rule, then `wiring.rt`, `outlets.rt`,
+//! Read `specs/Wirings.antt` for what contracts see, `specs/inner/CellRule.antt` for the rule, then `wiring.rt`, `outlets.rt`,
 //! `intakes.rt` and `closing.rt`.
 #![tactic(auto)]
 

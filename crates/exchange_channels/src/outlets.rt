@@ -1,9 +1,8 @@
 //! Outlets: the ends at which one sender sends to every cell.
-ghost use Rattle.std.specs.Prelude.{◌≡◌, ℕ, ◌<◌, ◌↔◌, IsTrue, All, length, slice_index_or};
+ghost use Rattle.std.specs.Prelude.{◌≡◌, ◌<◌, ◌↔◌, IsTrue, All, map};
 ghost use Rattle.exchange_channels.specs.Messages.{batch_of, end_of};
-ghost use Rattle.exchange_channels.specs.Ports.{PortState};
 ghost use Rattle.exchange_channels.specs.Wirings.{cells_of, with_sent_to, with_ends};
-ghost use Rattle.exchange_channels.specs.Outlets.{IsRunning, port_with_sent};
+ghost use Rattle.exchange_channels.specs.inner.Outlets.{IsRunning, port_with_sent};
 
 use crate::ports::SendPort;
 use crate::{Batch, Message};
@@ -24,7 +23,7 @@ pub struct Outlet {
 impl Model for Outlet {
     ghost use Rattle.std.specs.Prelude.{All};
     ghost use Rattle.exchange_channels.specs.Wirings.{OutletState};
-    ghost use Rattle.exchange_channels.specs.Outlets.{outlet_of, IsRunning};
+    ghost use Rattle.exchange_channels.specs.inner.Outlets.{outlet_of, IsRunning};
 
     ghost Value = { OutletState };
 
@@ -45,13 +44,13 @@ pub struct OutletEnd {
 impl Model for OutletEnd {
     ghost use Rattle.std.specs.Prelude.{◌≡◌, All};
     ghost use Rattle.exchange_channels.specs.Wirings.{OutletState};
-    ghost use Rattle.exchange_channels.specs.Outlets.{outlet_of};
+    ghost use Rattle.exchange_channels.specs.inner.Outlets.{outlet_of};
 
     ghost Value = { OutletState };
 
     ghost view = { λ o. outlet_of o.number o.senders o.capacity o.ports.items };
 
-    ghost invariant = { λ o. All (λ port. port.knows.number ≡ o.number) o.ports.items };
+    ghost invariant = { λ o. All (λ port. port.knows.sender ≡ o.number) o.ports.items };
 }
 
 impl Outlet {
@@ -97,7 +96,7 @@ impl Outlet {
 /// Sends a sender's end mark through each of its ports.
 fn end_each<R: Wait>(rt: &R, sender: u32, ports: &mut [SendPort])
     requires { All (IsRunning sender) ports.old }
-    ensures { (k : ℕ) (d : PortState) → k < length ports.old → slice_index_or ports.new k d ≡ port_with_sent (slice_index_or ports.old k d) (end_of sender) }
+    ensures { ports.new ≡ map (λ port. port_with_sent port (end_of sender)) ports.old }
 {
     for port in ports.iter_mut() {
         port.send(

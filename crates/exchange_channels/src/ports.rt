@@ -1,10 +1,11 @@
 //! The ends of a cell's channel, each with its pass: the keeper, the senders and the receiver.
-ghost use Rattle.std.specs.Prelude.{◌≡◌, ◌≤◌, List, [], ◌∷◌, ◌++◌, length, true, false, IfOk, OnOk, OnErr};
+ghost use Rattle.std.specs.Prelude.{◌≡◌, ◌≤◌, length, true, false, IfOk, OnOk, OnErr};
 ghost use Rattle.std.specs.List.{list_any};
 ghost use Rattle.crossbeam_channel.specs.Claims.{view as knows, IsSeatAt};
 ghost use Rattle.crossbeam_channel.specs.Ends.{sends_on, receives_on, ruled_capacity};
 ghost use Rattle.exchange_channels.specs.Messages.{is_end};
-ghost use Rattle.exchange_channels.specs.CellRule.{first_view, keeper_view, receiver_view, next_sender_view, with_next_sender, with_sent, with_taken, with_returned, with_receiver, IsWholeInbox};
+ghost use Rattle.exchange_channels.specs.inner.CellRule.{first_view, keeper_view, with_sent, with_taken};
+ghost use Rattle.exchange_channels.specs.inner.Keeps.{receiver_of, next_sender_of, keeper_with_sender, keeper_with_returned, keeper_with_receiver, IsSettled};
 
 use crate::Message;
 use crate::rule::{
@@ -34,13 +35,15 @@ impl Model for SendPort {
 
     ghost view = { λ p. record { place = place_of (sends_on p.end); knows = knows p.pass } };
 
-    ghost invariant = { λ p. IsSeatAt (sends_on p.end) p.pass × (ruled_capacity (sends_on p.end) ≡ (knows p.pass).capacity) × ((knows p.pass).sends ≡ true) };
+    ghost invariant = { λ p. IsSeatAt (sends_on p.end) p.pass
+        × (ruled_capacity (sends_on p.end) ≡ (knows p.pass).capacity)
+        × ((knows p.pass).sends ≡ true) };
 }
 
 impl SendPort {
     /// Sends a message.
     pub fn send<R: Wait>(&mut self, rt: &R, message: Message)
-        requires sender { message.sender ≡ self.old.knows.number }
+        requires sender { message.sender ≡ self.old.knows.sender }
         requires running { list_any is_end self.old.knows.sent ≡ false }
         ensures { self.new ≡ record self.old { knows = with_sent self.old.knows message } }
     {
@@ -58,7 +61,7 @@ fn send_until_sent<R: Wait>(
     requires seat { IsSeatAt (sends_on end.now) pass.old }
     requires capacity { ruled_capacity (sends_on end.now) ≡ (knows pass.old).capacity }
     requires sends { (knows pass.old).sends ≡ true }
-    requires sender { message.sender ≡ (knows pass.old).number }
+    requires sender { message.sender ≡ (knows pass.old).sender }
     requires running { list_any is_end (knows pass.old).sent ≡ false }
     ensures seat { IsSeatAt (sends_on end.now) pass.new }
     ensures sent { knows pass.new ≡ with_sent (knows pass.old) message }
@@ -134,7 +137,9 @@ impl Model for KeepPort {
 
     ghost view = { λ p. record { place = place_of (sends_on p.end); knows = knows p.pass } };
 
-    ghost invariant = { λ p. IsSeatAt (sends_on p.end) p.pass × (ruled_capacity (sends_on p.end) ≡ (knows p.pass).capacity) × ((knows p.pass).keeps ≡ true) };
+    ghost invariant = { λ p. IsSeatAt (sends_on p.end) p.pass
+        × (ruled_capacity (sends_on p.end) ≡ (knows p.pass).capacity)
+        × ((knows p.pass).keeps ≡ true) };
 }
 
 impl KeepPort {
@@ -142,7 +147,7 @@ impl KeepPort {
     pub fn new(alloc: Global, capacity: u32) -> Result<(KeepPort, TakePort), Memory>
         requires { 1 ≤ capacity }
         ensures keeper { IfOk result (λ ports. ports.0.knows ≡ keeper_view capacity) }
-        ensures receiver { IfOk result (λ ports. ports.1 ≡ record { place = ports.0.place; knows = receiver_view [] }) }
+        ensures receiver { IfOk result (λ ports. ports.1 ≡ receiver_of ports.0) }
     {
         let (end, receiver, mut pass) = bounded_with::<Message, View, OneInbox, Global>(
             alloc,
@@ -159,8 +164,8 @@ impl KeepPort {
 
     /// The end of the next sender.
     pub fn make_sender(&mut self) -> Result<SendPort, Memory>
-        ensures kept { OnOk result (self.new ≡ record self.old { knows = with_next_sender self.old.knows }) }
-        ensures sender { IfOk result (λ port. port ≡ record { place = self.old.place; knows = next_sender_view self.old.knows }) }
+        ensures kept { OnOk result (self.new ≡ keeper_with_sender self.old) }
+        ensures sender { IfOk result (λ port. port ≡ next_sender_of self.old) }
         ensures err { OnErr result (self.new ≡ self.old) }
     {
         let end = self.end.try_clone()?;
@@ -171,8 +176,8 @@ impl KeepPort {
     /// Takes a sender's end back, after those of all senders before it.
     pub fn take_sender_back(&mut self, port: SendPort)
         requires place { port.place ≡ self.old.place }
-        requires next { port.knows.number ≡ length self.old.knows.returned }
-        ensures { self.new ≡ record self.old { knows = with_returned self.old.knows port.knows.sent } }
+        requires next { port.knows.sender ≡ length self.old.knows.returned }
+        ensures { self.new ≡ keeper_with_returned self.old port.knows.sent }
     {
         self.end.absorb::<SenderBack>(&mut self.pass, port.pass);
     }
@@ -180,7 +185,7 @@ impl KeepPort {
     /// Takes the receiver's end back.
     pub fn take_receiver_back(&mut self, port: TakePort)
         requires { port.place ≡ self.old.place }
-        ensures { self.new ≡ record self.old { knows = with_receiver self.old.knows port.knows.got } }
+        ensures { self.new ≡ keeper_with_receiver self.old port.knows.got }
     {
         self.end.absorb::<ReceiverBack>(&mut self.pass, port.pass);
     }
@@ -188,12 +193,35 @@ impl KeepPort {
     /// Learns the inbox, once every end was taken back.
     pub fn learn(&mut self)
         requires receiver { self.old.knows.takes ≡ true }
-        requires senders { length self.old.knows.returned ≡ self.old.knows.number }
+        requires senders { length self.old.knows.returned ≡ self.old.knows.senders }
         ensures same { self.new ≡ self.old }
-        ensures inbox { (items : List Message) × IsWholeInbox self.old.knows items }
+        ensures inbox { IsSettled self.old }
     {
         self.end.learn_as::<TheInbox>(&mut self.pass);
     }
+
+    /// Lets the channel go, and keeps what the pass knows.
+    pub fn into_pass(self) -> KeepPass
+        ensures { result ≡ self.knows }
+    {
+        let KeepPort { end: _, pass } = self;
+        KeepPass { _pass: pass }
+    }
+}
+
+/// The pass of a keeper whose channel was let go. It takes no byte, and contracts see what it knows.
+#[derive(Drop)]
+pub struct KeepPass {
+    _pass: Pass<Message, View>,
+}
+
+impl Model for KeepPass {
+    ghost use Rattle.crossbeam_channel.specs.Claims.{view as knows};
+    ghost use Rattle.exchange_channels.specs.declared.rule.View.{View};
+
+    ghost Value = { View };
+
+    ghost view = { λ p. knows p._pass };
 }
 
 /// Lets so many messages wait in the channel.

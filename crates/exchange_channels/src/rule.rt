@@ -16,8 +16,10 @@ pub struct View {
     pub takes: bool,
     /// How many messages may wait.
     pub capacity: u64,
-    /// The number of the sender; of the keeper's pass, how many senders were made.
-    pub number: u64,
+    /// The number of the sender that the pass sends for.
+    pub sender: u64,
+    /// How many senders the keeper's pass has made.
+    pub senders: u64,
     /// What the sender has sent.
     pub sent: LinkedList<Message>,
     /// What the cell has taken.
@@ -30,7 +32,7 @@ pub struct View {
 pub struct OneInbox;
 
 impl Protocol<Message, View> for OneInbox {
-    ghost use Rattle.exchange_channels.specs.CellRule.{IsInboxOf, first_view};
+    ghost use Rattle.exchange_channels.specs.inner.CellRule.{IsInboxOf, first_view};
 
     ghost holds = { IsInboxOf };
 
@@ -41,7 +43,7 @@ impl Protocol<Message, View> for OneInbox {
 pub struct MoreCapacity;
 
 impl Split<View> for MoreCapacity {
-    ghost use Rattle.exchange_channels.specs.CellRule.{with_more_capacity, idle_view};
+    ghost use Rattle.exchange_channels.specs.inner.CellRule.{with_more_capacity, idle_view};
 
     ghost left = { with_more_capacity };
 
@@ -52,7 +54,7 @@ impl Split<View> for MoreCapacity {
 pub struct NextSender;
 
 impl Split<View> for NextSender {
-    ghost use Rattle.exchange_channels.specs.CellRule.{with_next_sender, next_sender_view};
+    ghost use Rattle.exchange_channels.specs.inner.CellRule.{with_next_sender, next_sender_view};
 
     ghost left = { with_next_sender };
 
@@ -63,7 +65,7 @@ impl Split<View> for NextSender {
 pub struct TheReceiver;
 
 impl Split<View> for TheReceiver {
-    ghost use Rattle.exchange_channels.specs.CellRule.{without_receiver, receiver_view};
+    ghost use Rattle.exchange_channels.specs.inner.CellRule.{without_receiver, receiver_view};
 
     ghost left = { without_receiver };
 
@@ -74,7 +76,7 @@ impl Split<View> for TheReceiver {
 pub struct SenderBack;
 
 impl Join<View> for SenderBack {
-    ghost use Rattle.exchange_channels.specs.CellRule.{with_returned, idle_view};
+    ghost use Rattle.exchange_channels.specs.inner.CellRule.{with_returned, idle_view};
 
     ghost both = { λ v w. with_returned v w.sent };
 
@@ -85,7 +87,7 @@ impl Join<View> for SenderBack {
 pub struct ReceiverBack;
 
 impl Join<View> for ReceiverBack {
-    ghost use Rattle.exchange_channels.specs.CellRule.{with_receiver, idle_view};
+    ghost use Rattle.exchange_channels.specs.inner.CellRule.{with_receiver, idle_view};
 
     ghost both = { λ v w. with_receiver v w.got };
 
@@ -96,7 +98,7 @@ impl Join<View> for ReceiverBack {
 pub struct Sent;
 
 impl Outcome<Message, View> for Sent {
-    ghost use Rattle.exchange_channels.specs.CellRule.{Sends};
+    ghost use Rattle.exchange_channels.specs.inner.CellRule.{Sends};
 
     ghost then = { Sends };
 }
@@ -111,7 +113,7 @@ impl Lesson<Message, View> for Sent {
 pub struct Taken;
 
 impl Outcome<Message, View> for Taken {
-    ghost use Rattle.exchange_channels.specs.CellRule.{Takes};
+    ghost use Rattle.exchange_channels.specs.inner.CellRule.{Takes};
 
     ghost then = { Takes };
 }
@@ -126,7 +128,7 @@ impl Lesson<Message, View> for Taken {
 pub struct TheInbox;
 
 impl Lesson<Message, View> for TheInbox {
-    ghost use Rattle.exchange_channels.specs.CellRule.{IsWholeInbox};
+    ghost use Rattle.exchange_channels.specs.inner.CellRule.{IsWholeInbox};
 
     ghost fact = { IsWholeInbox };
 }

@@ -1,13 +1,12 @@
 //! Wirings: an inbox for each cell, an outlet for each sender, and the keeper of them all.
-ghost use Rattle.std.specs.Prelude.{◌≡◌, ℕ, ◌+◌, ◌<◌, ◌≤◌, [], length, map, All, IfOk, OnOk, slice_index_or};
-ghost use Rattle.exchange_channels.specs.Wirings.{new_outlet, new_intake, AreIntakes, IsWired};
-ghost use Rattle.exchange_channels.specs.Ports.{PortState};
-ghost use Rattle.exchange_channels.specs.Outlets.{places_of, wiring_of};
-ghost use Rattle.exchange_channels.specs.Keeps.{IsKept, receiver_of, next_sender_of, keeper_with_sender};
-ghost use Rattle.std.specs.List.{range_with_len};
+ghost use Rattle.std.specs.Prelude.{◌≡◌, ◌+◌, ◌≤◌, [], length, map, All, IfOk, OnOk};
+ghost use Rattle.rel_base.specs.Limits.{most_workers, most_capacity};
+ghost use Rattle.exchange_channels.specs.Wirings.{new_outlet, new_outlets, new_intake, AreIntakes, IsWired};
+ghost use Rattle.exchange_channels.specs.inner.Outlets.{places_of, wiring_of};
+ghost use Rattle.exchange_channels.specs.inner.Keeps.{IsKept, receiver_of, next_sender_of, keeper_with_sender};
 
-use crate::ports::{KeepPort, SendPort, TakePort};
-use crate::{Intake, Outlet};
+use crate::ports::{KeepPass, KeepPort, SendPort, TakePort};
+use crate::{Ends, Intake, Outlet};
 use rel_base::{Items, Memory};
 use std::alloc::Global;
 use std::marker::Model;
@@ -26,19 +25,22 @@ pub struct Keep {
     pub(crate) capacity: u32,
     /// The keeper of each cell's channel, in order.
     pub(crate) cells: Vec<KeepPort>,
+    /// Room for the pass of each keeper, for the receipt.
+    pub(crate) passes: Ends<KeepPass>,
 }
 
 impl Model for Keep {
     ghost use Rattle.std.specs.Prelude.{All};
     ghost use Rattle.exchange_channels.specs.Wirings.{WiringState};
-    ghost use Rattle.exchange_channels.specs.Outlets.{wiring_of};
-    ghost use Rattle.exchange_channels.specs.Keeps.{IsKept};
+    ghost use Rattle.exchange_channels.specs.inner.Outlets.{wiring_of};
+    ghost use Rattle.exchange_channels.specs.inner.Keeps.{IsKept, IsRoomFor};
 
     ghost Value = { WiringState };
 
     ghost view = { λ k. wiring_of k.cells.items k.senders k.capacity };
 
-    ghost invariant = { λ k. All (IsKept k.capacity k.senders) k.cells.items };
+    ghost invariant = { λ k. All (IsKept k.capacity k.senders) k.cells.items
+        × IsRoomFor k.cells.items k.passes };
 }
 
 /// A wiring: an outlet for each sender, an intake for each cell, and the keeper that takes their ends back.
@@ -56,17 +58,21 @@ pub struct Wiring {
 ///
 /// All memory that sends and end marks need is taken here.
 pub fn wire(alloc: Global, cells: u32, senders: u32, capacity: u32) -> Result<Wiring, Memory>
-    requires cells { (1 ≤ cells) × (cells ≤ 64) }
-    requires senders { (1 ≤ senders) × (senders ≤ 64) }
-    requires capacity { (1 ≤ capacity) × (capacity ≤ 1024) }
-    ensures { IfOk result (λ wiring. IsWired wiring.keep wiring.outlets wiring.intakes cells senders capacity) }
+    requires cells { (1 ≤ cells) × (cells ≤ most_workers) }
+    requires senders { (1 ≤ senders) × (senders ≤ most_workers) }
+    requires capacity { (1 ≤ capacity) × (capacity ≤ most_capacity) }
+    ensures { IfOk result (λ wiring.
+        IsWired wiring.keep wiring.outlets wiring.intakes cells senders capacity) }
 {
     let (mut keepers, receivers) = make_cells(alloc, cells, capacity)?;
     let outlets = make_outlets(alloc, keepers.as_mut_slice(), senders, capacity)?;
+    let mut passes = Ends::new(alloc);
+    passes.reserve(cells)?;
     let keep = Keep {
         senders,
         capacity,
         cells: keepers,
+        passes,
     };
     let intakes = make_intakes(alloc, &keep, receivers)?;
     Ok(Wiring {
@@ -105,10 +111,11 @@ fn make_outlets(
     capacity: u32,
 ) -> Result<Outlets, Memory>
     requires cells { All (IsKept capacity 0) cells.old }
-    requires senders { senders ≤ 64 }
+    requires senders { senders ≤ most_workers }
     ensures cells { OnOk result (All (IsKept capacity senders) cells.new) }
     ensures places { OnOk result (places_of cells.new ≡ places_of cells.old) }
-    ensures outlets { IfOk result (λ outlets. outlets ≡ map (new_outlet (wiring_of cells.old senders capacity)) (range_with_len 0 senders)) }
+    ensures outlets { IfOk result (λ outlets.
+        outlets ≡ new_outlets (wiring_of cells.old senders capacity) senders) }
 {
     let mut outlets = Outlets::with_capacity(alloc, senders)?;
     for number in 0..senders {
@@ -129,7 +136,8 @@ fn make_outlet(
     requires { All (IsKept capacity number) cells.old }
     ensures cells { OnOk result (All (IsKept capacity (number + 1)) cells.new) }
     ensures places { OnOk result (places_of cells.new ≡ places_of cells.old) }
-    ensures outlet { IfOk result (λ outlet. outlet ≡ new_outlet (wiring_of cells.old senders capacity) number) }
+    ensures outlet { IfOk result (λ outlet.
+        outlet ≡ new_outlet (wiring_of cells.old senders capacity) number) }
 {
     let ports = make_ports(alloc, cells)?;
     Ok(Outlet {
@@ -142,7 +150,7 @@ fn make_outlet(
 
 /// The ends of the next sender at these cells.
 fn make_ports(alloc: Global, cells: &mut [KeepPort]) -> Result<Vec<SendPort>, Memory>
-    ensures cells { OnOk result ((k : ℕ) (d : PortState) → k < length cells.old → slice_index_or cells.new k d ≡ keeper_with_sender (slice_index_or cells.old k d)) }
+    ensures cells { OnOk result (cells.new ≡ map keeper_with_sender cells.old) }
     ensures ports { IfOk result (λ ports. ports.items ≡ map next_sender_of cells.old) }
 {
     let mut ports = Vec::with_capacity(alloc, cells.len())?;
@@ -155,7 +163,7 @@ fn make_ports(alloc: Global, cells: &mut [KeepPort]) -> Result<Vec<SendPort>, Me
 
 /// The intakes of a wiring, whose receivers are these.
 fn make_intakes(alloc: Global, keep: &Keep, receivers: Vec<TakePort>) -> Result<Intakes, Memory>
-    requires count { length receivers.items ≤ 64 }
+    requires count { length receivers.items ≤ most_workers }
     requires places { keep.now.places ≡ places_of receivers.items }
     requires fresh { All (λ port. port.knows.got ≡ []) receivers.items }
     ensures { IfOk result (AreIntakes keep.now) }

@@ -1,5 +1,5 @@
 use Rattle.std.proofs.Common.{◌≡◌, ◌<◌, ◌∙◌, length, sym, subst, arith}
-use Rattle.exchange_channels.specs.Keeps.{IsSettled}
+use Rattle.exchange_channels.specs.inner.Keeps.{IsSettled}
 use Rattle.exchange_channels.proofs.PortLemmas.{set_unchanged, settled_more}
 use Rattle.exchange_channels.proofs.closing.settle.Goals as goal
 

@@ -3,7 +3,7 @@ use Rattle.std.proofs.lemmas.Iterator.Consumers.{YieldsList-turn}
 use Rattle.std.proofs.lemmas.Iterator.Adapters.{YieldsList-from_vec}
 use Rattle.exchange_channels.specs.Ports.{PortState}
 use Rattle.exchange_channels.specs.Wirings.{IntakeState, HasEachEnd}
-use Rattle.exchange_channels.specs.Keeps.{keeper_with_receiver}
+use Rattle.exchange_channels.specs.inner.Keeps.{keeper_with_receiver}
 use Rattle.exchange_channels.proofs.ClosingLemmas.{back_more, rest_more, ends_more}
 use Rattle.exchange_channels.proofs.closing.take_intakes_back.Goals as goal
 

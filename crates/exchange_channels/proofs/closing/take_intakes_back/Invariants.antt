@@ -2,7 +2,7 @@
 use Rattle.std.proofs.Common.{◌≡◌, ℕ, ◌<◌, ◌≤◌, length, get_or, All}
 use Rattle.exchange_channels.specs.Ports.{PortState}
 use Rattle.exchange_channels.specs.Wirings.{IntakeState, HasEachEnd}
-use Rattle.exchange_channels.specs.Keeps.{keeper_with_receiver}
+use Rattle.exchange_channels.specs.inner.Keeps.{keeper_with_receiver}
 use Rattle.exchange_channels.proofs.closing.take_intakes_back.Given as goal
 
 abbrev pub invariant-loop-taken : goal.invariant-loop-taken

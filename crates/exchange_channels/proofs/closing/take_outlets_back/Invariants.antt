@@ -2,7 +2,7 @@
 use Rattle.std.proofs.Common.{◌≡◌, ℕ, ◌<◌, length, get_or, map}
 use Rattle.exchange_channels.specs.Ports.{PortState}
 use Rattle.exchange_channels.specs.Wirings.{sent_to}
-use Rattle.exchange_channels.specs.Keeps.{keeper_with_all}
+use Rattle.exchange_channels.specs.inner.Keeps.{keeper_with_all}
 use Rattle.exchange_channels.proofs.closing.take_outlets_back.Given as goal
 
 abbrev pub invariant-loop-out : goal.invariant-loop-out

@@ -1,7 +1,7 @@
 -- the ports that are left are the first ones; the cells of the others have them back, and the rest are as they were
 use Rattle.std.proofs.Common.{◌≡◌, ℕ, ◌<◌, ◌≤◌, length, get_or, vec_len}
 use Rattle.exchange_channels.specs.Ports.{PortState}
-use Rattle.exchange_channels.specs.Keeps.{keeper_with_returned}
+use Rattle.exchange_channels.specs.inner.Keeps.{keeper_with_returned}
 use Rattle.exchange_channels.proofs.closing.take_ports_back.Given as goal
 
 abbrev pub decreases-loop-port : goal.decreases-loop-port

@@ -2,7 +2,7 @@
 use Rattle.std.proofs.Common.{◌≡◌, ℕ, ◌<◌, ◌≤◌, get_or}
 use Rattle.exchange_channels.specs.Ports.{PortState}
 use Rattle.exchange_channels.specs.Messages.{end_of}
-use Rattle.exchange_channels.specs.Outlets.{port_with_sent}
+use Rattle.exchange_channels.specs.inner.Outlets.{port_with_sent}
 use Rattle.exchange_channels.proofs.outlets.end_each.Given as goal
 
 abbrev pub invariant-loop-port : goal.invariant-loop-port

@@ -2,7 +2,7 @@
 use Rattle.std.proofs.Common.{◌≡◌}
 use Rattle.crossbeam_channel.specs.Claims.{view as knows, IsSeatAt}
 use Rattle.crossbeam_channel.specs.Ends.{sends_on}
-use Rattle.exchange_channels.specs.CellRule.{first_view}
+use Rattle.exchange_channels.specs.inner.CellRule.{first_view}
 use Rattle.exchange_channels.proofs.ports.widen.Given as goal
 
 abbrev pub invariant-loop-wider : goal.invariant-loop-wider

@@ -1,6 +1,6 @@
 -- so many cells were made as there were rounds
 use Rattle.std.proofs.Common.{◌≡◌, length, map, All}
-use Rattle.exchange_channels.specs.Keeps.{IsKept, receiver_of}
+use Rattle.exchange_channels.specs.inner.Keeps.{IsKept, receiver_of}
 use Rattle.exchange_channels.proofs.wiring.make_cells.Given as goal
 
 abbrev pub invariant-loop-cell : goal.invariant-loop-cell

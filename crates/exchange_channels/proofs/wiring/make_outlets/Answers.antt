@@ -3,7 +3,7 @@ use Rattle.std.specs.List.{range_with_len}
 use Rattle.std.proofs.lemmas.List.FromFn.{length-map-range_with_len, map-range_with_len_more}
 use Rattle.exchange_channels.specs.Ports.{Place}
 use Rattle.exchange_channels.specs.Wirings.{OutletState, new_outlet}
-use Rattle.exchange_channels.specs.Outlets.{wiring_of}
+use Rattle.exchange_channels.specs.inner.Outlets.{wiring_of}
 use Rattle.exchange_channels.proofs.wiring.make_outlets.Goals as goal
 
 pub push-requires : goal.push-requires

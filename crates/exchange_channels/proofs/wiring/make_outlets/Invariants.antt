@@ -2,8 +2,8 @@
 use Rattle.std.proofs.Common.{◌≡◌, map, All}
 use Rattle.std.specs.List.{range_with_len}
 use Rattle.exchange_channels.specs.Wirings.{new_outlet}
-use Rattle.exchange_channels.specs.Outlets.{places_of, wiring_of}
-use Rattle.exchange_channels.specs.Keeps.{IsKept}
+use Rattle.exchange_channels.specs.inner.Outlets.{places_of, wiring_of}
+use Rattle.exchange_channels.specs.inner.Keeps.{IsKept}
 use Rattle.exchange_channels.proofs.wiring.make_outlets.Given as goal
 
 abbrev pub invariant-loop-number : goal.invariant-loop-number

@@ -1,7 +1,7 @@
 -- the cells so far have made the sender, and the others are as they were
 use Rattle.std.proofs.Common.{◌≡◌, ℕ, ◌<◌, ◌≤◌, get_or, take, map}
 use Rattle.exchange_channels.specs.Ports.{PortState}
-use Rattle.exchange_channels.specs.Keeps.{next_sender_of, keeper_with_sender}
+use Rattle.exchange_channels.specs.inner.Keeps.{next_sender_of, keeper_with_sender}
 use Rattle.exchange_channels.proofs.wiring.make_ports.Given as goal
 
 abbrev pub invariant-loop-cell : goal.invariant-loop-cell

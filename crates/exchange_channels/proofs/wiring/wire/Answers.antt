@@ -1,7 +1,7 @@
 use Rattle.std.proofs.Common.{◌≡◌, ◌∙◌, List, [], length, All, ap, sym, subst}
 use Rattle.std.proofs.lemmas.List.{with_items_is}
 use Rattle.exchange_channels.specs.Ports.{PortState}
-use Rattle.exchange_channels.specs.Outlets.{places_of}
+use Rattle.exchange_channels.specs.inner.Outlets.{places_of}
 use Rattle.exchange_channels.proofs.WiringLemmas.{places_of-receivers, receivers_fresh}
 use Rattle.exchange_channels.proofs.wiring.wire.Goals as goal
 

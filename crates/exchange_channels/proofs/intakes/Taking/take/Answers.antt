@@ -4,9 +4,9 @@ use Rattle.std.proofs.lemmas.List.{with_items_is}
 use Rattle.rel_base.specs.declared.failure.Memory.{Memory}
 use Rattle.exchange_channels.specs.declared.messages.Batch.{Batch}
 use Rattle.exchange_channels.specs.Messages.{batch_of, end_of}
-use Rattle.exchange_channels.specs.CellRule.{with_taken}
+use Rattle.exchange_channels.specs.inner.CellRule.{with_taken}
 use Rattle.exchange_channels.specs.Ports.{PortState}
-use Rattle.exchange_channels.specs.Intakes.{IsTaking}
+use Rattle.exchange_channels.specs.inner.Intakes.{IsTaking}
 use Rattle.exchange_channels.proofs.TakingLemmas.{IsTaking-batch, IsTaking-end}
 use Rattle.exchange_channels.proofs.intakes.Taking.take.Goals as goal
 

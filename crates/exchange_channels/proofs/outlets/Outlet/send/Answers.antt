@@ -3,7 +3,7 @@ use Rattle.std.proofs.lemmas.List.{length-map}
 use Rattle.exchange_channels.specs.Messages.{batch_of}
 use Rattle.exchange_channels.specs.Ports.{PortState}
 use Rattle.exchange_channels.specs.Wirings.{OutletState, cells_of, with_sent_to}
-use Rattle.exchange_channels.specs.Outlets.{port_with_sent}
+use Rattle.exchange_channels.specs.inner.Outlets.{port_with_sent}
 use Rattle.exchange_channels.proofs.PortLemmas.{outlet_of-set}
 use Rattle.exchange_channels.proofs.outlets.Outlet.send.Goals as goal
 

@@ -3,7 +3,7 @@ use Rattle.std.specs.Prelude.{◌≡◌, ℕ, false, List, map}
 use Rattle.std.specs.List.{list_any}
 use Rattle.exchange_channels.specs.declared.messages.Message.{Message}
 use Rattle.exchange_channels.specs.Messages.{is_end}
-use Rattle.exchange_channels.specs.CellRule.{with_sent}
+use Rattle.exchange_channels.specs.inner.CellRule.{with_sent}
 use Rattle.exchange_channels.specs.Ports.{Place, PortState}
 use Rattle.exchange_channels.specs.Wirings.{OutletState, WiringState}
 
@@ -29,5 +29,5 @@ port_with_sent port message = record port { knows = with_sent port.knows message
 
 -- the port is of this sender, which may still send
 pub record IsRunning (sender : ℕ) (port : PortState) : Type 0 where
-  pub of_sender : port.knows.number ≡ sender
+  pub of_sender : port.knows.sender ≡ sender
   pub no_end : list_any is_end port.knows.sent ≡ false

@@ -14,7 +14,7 @@ use Rattle.exchange_channels.specs.Messages.{sender_of, is_end}
 
 -- a pass that was given away: it may do nothing
 abbrev pub idle_view : View
-idle_view = record { keeps = false; sends = false; takes = false; capacity = 0; number = 0; sent = []; got = []; returned = [] }
+idle_view = record { keeps = false; sends = false; takes = false; capacity = 0; sender = 0; senders = 0; sent = []; got = []; returned = [] }
 
 -- the first pass: it keeps and takes, and no sender was made
 abbrev pub first_view : View
@@ -30,15 +30,15 @@ with_more_capacity v = record v { capacity = v.capacity + 1 }
 
 -- one more sender was made
 abbrev pub with_next_sender : View → View
-with_next_sender v = record v { number = v.number + 1 }
+with_next_sender v = record v { senders = v.senders + 1 }
 
 -- the pass of a sender that has sent so much
 abbrev pub sender_view : ℕ → ℕ → List Message → View
-sender_view capacity number sent = record idle_view { sends = true; capacity = capacity; number = number; sent = sent }
+sender_view capacity sender sent = record idle_view { sends = true; capacity = capacity; sender = sender; sent = sent }
 
 -- the pass of the sender that the keeper makes next: it has sent nothing
 abbrev pub next_sender_view : View → View
-next_sender_view v = sender_view v.capacity v.number []
+next_sender_view v = sender_view v.capacity v.senders []
 
 -- the pass of the receiver, which has got so much
 abbrev pub receiver_view : List Message → View
@@ -57,12 +57,12 @@ abbrev pub with_receiver : View → List Message → View
 with_receiver v got = record v { takes = true; got = got }
 
 module _ (inbox : InboxState Message) (seat : ℕ → ℕ) where
-  -- a sender's pass has the seat of its sender, which is the pass's number and one, and knows what its sender sent
+  -- a sender's pass has the seat of its sender, which is the pass's place and one, and knows what its sender sent
   pub record FitsSender (pass : ℕ) (v : View) : Type 0 where
-    pub made : v.number < inbox.senders
-    pub seated : seat v.number ≡ pass + 1
+    pub made : v.sender < inbox.senders
+    pub seated : seat v.sender ≡ pass + 1
     pub same_capacity : v.capacity ≡ inbox.capacity
-    pub same_sent : v.sent ≡ sent_by inbox v.number
+    pub same_sent : v.sent ≡ sent_by inbox v.sender
 
   -- the receiver's pass is the one that takes, and knows what was got
   pub record FitsReceiver (reader pass : ℕ) (v : View) : Type 0 where
@@ -74,7 +74,7 @@ module _ (inbox : InboxState Message) (seat : ℕ → ℕ) where
   pub record FitsKeeper (keeper pass : ℕ) (v : View) : Type 0 where
     pub is_keeper : pass ≡ keeper
     pub same_capacity : v.capacity ≡ inbox.capacity
-    pub same_senders : v.number ≡ inbox.senders
+    pub same_senders : v.senders ≡ inbox.senders
     pub seats_to_come : (s : ℕ) → inbox.senders ≤ s → seat s ≡ 0
     pub seats_returned : (s : ℕ) → s < length v.returned → seat s ≡ 0
     pub same_returned : (s : ℕ) → s < length v.returned → slice_index_or v.returned s [] ≡ sent_by inbox s
@@ -115,7 +115,7 @@ Takes v message w = w ≡ with_taken v message
 
 -- the inbox that a keeper knows to which every pass came back
 abbrev pub whole_inbox : View → List Message → InboxState Message
-whole_inbox v items = record { senders = v.number; capacity = v.capacity; sent = v.returned; queue = items; got = v.got }
+whole_inbox v items = record { senders = v.senders; capacity = v.capacity; sent = v.returned; queue = items; got = v.got }
 
 -- what the keeper knows, with what waits, is an inbox
 abbrev pub IsWholeInbox : View → List Message → Type 0
