@@ -1,0 +1,5 @@
+-- The words of this crate, lowest first.
+pub mod Scopes
+pub mod Emits
+pub mod Resolutions
+pub mod inner
