@@ -8,7 +8,7 @@ use Rattle.myrial_lexer.specs.declared.faults.LexWhat.{LexWhat}
 use Rattle.myrial_lexer.specs.declared.kinds.Token.{Token}
 use Rattle.myrial_lexer.specs.declared.kinds.TokenKind.{TokenKind}
 use Rattle.myrial_lexer.specs.Tokens.{Break, with_first, cut, front_of, tokens_from}
-use Rattle.myrial_lexer.specs.Sizes.{IsWithin}
+use Rattle.myrial_lexer.specs.inner.Sizes.{IsWithin}
 
 -- tokens before those of the text behind them
 abbrev pub with_all : List Token → Result (List Token) Break → Result (List Token) Break

@@ -2,18 +2,20 @@
 use Rattle.std.proofs.Common.{◌≡◌, ℕ, ◌+◌, ◌<◌, ◌^◌, Bool, true, false, cond, List, [], ◌∷◌, take, refl, add-one, add_comm, arith}
 use Rattle.std.specs.Char.{is_ascii_digit}
 use Rattle.std.specs.List.{prefix_len}
-use Rattle.std.specs.Prelude.{◌&&◌, nat_le, Result, Ok, Err}
+use Rattle.std.specs.Prelude.{◌&&◌, pos, Result, Ok, Err}
 use Rattle.std.specs.Result.{is_ok, OkIff}
 use Rattle.std.specs.Str.{all_ascii_digits, IsAscii}
 use Rattle.std.proofs.lemmas.Bool.Decides.{nat_tests}
 use Rattle.std.proofs.lemmas.Str.Ascii.{IsAscii-nil, IsAscii-cons}
+use Rattle.rel_base.specs.Values.{in_64_bits}
 
 both : (a b : Bool) → (a && b) ≡ true → (a ≡ true) × (b ≡ true)
 both true true e = (refl, refl)
 both true false e = cc
 both false b e = cc
 
-digit_small : (d : ℕ) → is_ascii_digit d ≡ true → d < 128
+-- a digit is an ASCII byte
+pub digit_small : (d : ℕ) → is_ascii_digit d ≡ true → d < 128
 digit_small d e = grind (arith, nat_tests)
 
 -- digits are ASCII
@@ -33,10 +35,10 @@ digits-take (b ∷ text) = by (is_ascii_digit b) refl (digits-take text)
     by false e rest = refl
 
 -- an `Ok` exactly where a number fits says whether it does
-pub is_ok-fits : {T E : Type 0} (r : Result T E) (n len : ℕ) (x : T) → OkIff r ((0 < len) × (n < 2 ^ 63)) x → 0 < len → is_ok r ≡ nat_le n 9_223_372_036_854_775_807
+pub is_ok-fits : {T E : Type 0} (r : Result T E) (n len : ℕ) (x : T) → OkIff r ((0 < len) × (n < 2 ^ 63)) x → 0 < len → is_ok r ≡ in_64_bits (pos n)
 is_ok-fits (Ok y) n len x h some = let small = h.0.1 in grind (arith, nat_tests)
-is_ok-fits (Err e) n len x h some = by (nat_le n 9_223_372_036_854_775_807) refl
+is_ok-fits (Err e) n len x h some = by (in_64_bits (pos n)) refl
   where
-    by : (t : Bool) → nat_le n 9_223_372_036_854_775_807 ≡ t → false ≡ t
+    by : (t : Bool) → in_64_bits (pos n) ≡ t → false ≡ t
     by true e = let small : n < 2 ^ 63 = grind (arith, nat_tests) in absurd (h (some, small))
     by false e = refl

@@ -1,6 +1,6 @@
 -- What stands at the front of a text ends between two characters, and is such as its kind has.
 use Rattle.std.proofs.Common.{◌≡◌, ◌≢◌, ℕ, zero, suc, ◌+◌, ◌-◌, ◌<◌, ◌≤◌, Bool, true, false, cond, List, [], ◌∷◌, length, take, drop, get_or, refl, ap, subst, add-one, add_comm, arith}
-use Rattle.std.specs.Prelude.{◌&&◌, ◌||◌, not, ◌==◌, nat_lt, nat_le, nat_eq, slice_index, if◌then◌else◌, Some}
+use Rattle.std.specs.Prelude.{◌&&◌, ◌||◌, not, ◌==◌, nat_lt, nat_eq, pos, slice_index, if◌then◌else◌, Some}
 use Rattle.std.specs.Char.{is_ascii_digit}
 use Rattle.std.specs.List.{prefix_len, find, starts_with}
 use Rattle.std.specs.Str.{IsUtf8, IsAscii, IsCharBoundary}
@@ -10,15 +10,16 @@ use Rattle.std.proofs.lemmas.List.{get_or-take, length-take-le}
 use Rattle.std.proofs.lemmas.List.Sums.{prefix_len-le-length, prefix_len_stops}
 use Rattle.std.proofs.lemmas.Str.{IsUtf8-from_ascii, IsUtf8-between, IsUtf8-take, IsCharBoundary-from_take, IsCharBoundary-after_ascii, IsCharBoundary-before_ascii}
 use Rattle.std.proofs.lemmas.Str.Ascii.{IsAscii-nil, IsAscii-cons}
+use Rattle.rel_base.specs.Values.{in_64_bits}
 use Rattle.myrial_lexer.specs.declared.faults.LexWhat.TheVariants.{OpenString, NumberTooLarge}
 use Rattle.myrial_lexer.specs.declared.front.Front.{Front}
 use Rattle.myrial_lexer.specs.declared.front.Front.TheVariants.{Gap, Piece, Fault}
 use Rattle.myrial_lexer.specs.declared.front.Run.TheVariants as run
-use Rattle.myrial_lexer.specs.declared.kinds.TokenKind.{TokenKind}
+use Rattle.myrial_lexer.specs.declared.kinds.Sign.{Sign}
 use Rattle.myrial_lexer.specs.declared.kinds.TokenKind.TheVariants.{Word, Int, Str}
 use Rattle.myrial_lexer.specs.Tokens.{is_blank, is_letter, is_quote, goes_on, run_len, number, string, signs, piece_of, sign, front_of}
 use Rattle.myrial_lexer.specs.Slices.{IsString, IsOfKind}
-use Rattle.myrial_lexer.proofs.DigitLemmas.{digits-take}
+use Rattle.myrial_lexer.proofs.DigitLemmas.{digit_small, digits-take}
 
 -- so many bytes at the front of a text, one or more, end between two characters
 pub record Ends (text : List ℕ) (size : ℕ) : Type 0 where
@@ -64,15 +65,12 @@ ascii_run-Ends p small text u some e =
 small_letter : (b : ℕ) → is_letter b ≡ true → b < 128
 small_letter b e = grind (arith, nat_tests)
 
-small_digit : (b : ℕ) → is_ascii_digit b ≡ true → b < 128
-small_digit b e = grind (arith, nat_tests)
-
 small_word : (b : ℕ) → (is_letter b || is_ascii_digit b) ≡ true → b < 128
 small_word b e = by (is_letter b) refl e
   where
     by : (t : Bool) → is_letter b ≡ t → (t || is_ascii_digit b) ≡ true → b < 128
     by true l e = small_letter b l
-    by false l e = small_digit b e
+    by false l e = digit_small b e
 
 small_quote : (b : ℕ) → is_quote b ≡ true → (0 < b) × (b < 128)
 small_quote b e = by (b == 34) refl e
@@ -104,15 +102,15 @@ comment-Ends text some e =
 -- ---- a number
 
 number-IsFrontOf : (text : List ℕ) → IsUtf8 text → 0 < length text → is_ascii_digit (slice_index text 0) ≡ true → IsFrontOf text (number text)
-number-IsFrontOf text u some e = by (nat_le (digits_value 10 digits) 9_223_372_036_854_775_807) refl
+number-IsFrontOf text u some e = by (in_64_bits (pos (digits_value 10 digits))) refl
   where
     ends : Ends text (run_len run.Digits text)
-    ends = ascii_run-Ends (goes_on run.Digits) small_digit text u some e
+    ends = ascii_run-Ends (goes_on run.Digits) digit_small text u some e
 
     digits : List ℕ
     digits = take (run_len run.Digits text) text
 
-    by : (t : Bool) → nat_le (digits_value 10 (take (run_len run.Digits text) text)) 9_223_372_036_854_775_807 ≡ t
+    by : (t : Bool) → in_64_bits (pos (digits_value 10 (take (run_len run.Digits text) text))) ≡ t
         → IsFrontOf text (if t then Piece Int (run_len run.Digits text) else Fault NumberTooLarge)
     by true small =
         let len = length-take-le (run_len run.Digits text) text ends.within in
@@ -170,14 +168,13 @@ short_ascii (x ∷ []) = nat_lt 0 x && nat_lt x 128
 short_ascii (x ∷ y ∷ []) = nat_lt 0 x && nat_lt x 128 && nat_lt 0 y && nat_lt y 128
 short_ascii _ = false
 
--- each sign is short, and of its bytes nothing more is asked
-abbrev AllShort : List (List ℕ × TokenKind) → Type 0
+-- each sign is short
+abbrev AllShort : List (List ℕ × Sign) → Type 0
 AllShort [] = Unit {0}
-AllShort (s ∷ ss) = (short_ascii s.0 ≡ true) × ((bytes : List ℕ) → IsOfKind s.1 bytes) × AllShort ss
+AllShort (s ∷ ss) = (short_ascii s.0 ≡ true) × AllShort ss
 
 signs-AllShort : AllShort signs
-signs-AllShort =
-    (refl, λ bytes. tt, (refl, λ bytes. tt, (refl, λ bytes. tt, (refl, λ bytes. tt, (refl, λ bytes. tt, (refl, λ bytes. tt, (refl, λ bytes. tt, (refl, λ bytes. tt, (refl, λ bytes. tt, (refl, λ bytes. tt, (refl, λ bytes. tt, (refl, λ bytes. tt, (refl, λ bytes. tt, (refl, λ bytes. tt, (refl, λ bytes. tt, (refl, λ bytes. tt, (refl, λ bytes. tt, (refl, λ bytes. tt, (refl, λ bytes. tt, (refl, λ bytes. tt, tt))))))))))))))))))))
+signs-AllShort = (refl, (refl, (refl, (refl, (refl, (refl, (refl, (refl, (refl, (refl, (refl, (refl, (refl, (refl, (refl, (refl, (refl, (refl, (refl, (refl, tt))))))))))))))))))))
 
 sign-Ends : (bytes text : List ℕ) → IsUtf8 text → 0 < length text → short_ascii bytes ≡ true
     → starts_with nat_eq (slice_index text 0 ∷ slice_index text 1 ∷ []) bytes ≡ true → Ends text (length bytes)
@@ -194,15 +191,15 @@ sign-Ends (x ∷ y ∷ []) text u some short starts =
     record { some = omega arith; within = omega arith; boundary = IsCharBoundary-after_ascii text 1 u inside (omega arith) }
 sign-Ends (x ∷ y ∷ z ∷ bytes) text u some short starts = cc
 
-signs-IsFrontOf : (ss : List (List ℕ × TokenKind)) (text : List ℕ) → AllShort ss → IsUtf8 text → 0 < length text
+signs-IsFrontOf : (ss : List (List ℕ × Sign)) (text : List ℕ) → AllShort ss → IsUtf8 text → 0 < length text
     → IsFrontOf text (piece_of (find (λ s. starts_with nat_eq (slice_index text 0 ∷ slice_index text 1 ∷ []) s.0) ss))
 signs-IsFrontOf [] text short u some = tt
-signs-IsFrontOf (s ∷ ss) text short u some = by (starts_with nat_eq (slice_index text 0 ∷ slice_index text 1 ∷ []) s.0) refl (signs-IsFrontOf ss text short.2 u some)
+signs-IsFrontOf (s ∷ ss) text short u some = by (starts_with nat_eq (slice_index text 0 ∷ slice_index text 1 ∷ []) s.0) refl (signs-IsFrontOf ss text short.1 u some)
   where
     by : (t : Bool) → starts_with nat_eq (slice_index text 0 ∷ slice_index text 1 ∷ []) s.0 ≡ t
-        → IsFrontOf text (piece_of (find (λ (x : List ℕ × TokenKind). starts_with nat_eq (slice_index text 0 ∷ slice_index text 1 ∷ []) x.0) ss))
-        → IsFrontOf text (piece_of (cond t (Some s) (find (λ (x : List ℕ × TokenKind). starts_with nat_eq (slice_index text 0 ∷ slice_index text 1 ∷ []) x.0) ss)))
-    by true e others = (sign-Ends s.0 text u some short.0 e, short.1 (take (length s.0) text))
+        → IsFrontOf text (piece_of (find (λ (x : List ℕ × Sign). starts_with nat_eq (slice_index text 0 ∷ slice_index text 1 ∷ []) x.0) ss))
+        → IsFrontOf text (piece_of (cond t (Some s) (find (λ (x : List ℕ × Sign). starts_with nat_eq (slice_index text 0 ∷ slice_index text 1 ∷ []) x.0) ss)))
+    by true e others = (sign-Ends s.0 text u some short.0 e, tt)
     by false e others = others
 
 -- ---- whatever stands at the front

@@ -1,7 +1,8 @@
 -- Worked rows of the token rules.
 use Rattle.std.specs.Prelude.{◌≡◌, ◌++◌, [], ◌∷◌, Ok, Err, codes, refl}
 use Rattle.myrial_lexer.specs.declared.faults.LexWhat.TheVariants.{BadChar, OpenString, NumberTooLarge}
-use Rattle.myrial_lexer.specs.declared.kinds.TokenKind.TheVariants.{Word, Int, Str, Eq, Ne, Le}
+use Rattle.myrial_lexer.specs.declared.kinds.TokenKind.TheVariants.{Word, Int, Str, Sign}
+use Rattle.myrial_lexer.specs.declared.kinds.Sign.TheVariants.{Eq, Ne, Le}
 use Rattle.myrial_lexer.specs.Tokens.{tokens_of, line_at, slice_of}
 use Rattle.myrial_lexer.specs.Slices.{unquoted}
 
@@ -14,12 +15,12 @@ pub the_line_behind_a_comment : tokens_of (codes "--x" ++ 10 ∷ codes "y") ≡ 
 the_line_behind_a_comment = refl
 
 -- the longest sign is taken
-pub signs_by_length : tokens_of (codes "<><=") ≡ Ok (record { kind = Ne; start = 0; end = 2 } ∷ record { kind = Le; start = 2; end = 4 } ∷ [])
+pub signs_by_length : tokens_of (codes "<><=") ≡ Ok (record { kind = Sign Ne; start = 0; end = 2 } ∷ record { kind = Sign Le; start = 2; end = 4 } ∷ [])
 signs_by_length = refl
 
 -- two equal signs are one
 pub equal_signs : tokens_of (codes "a===1") ≡ Ok
-    (record { kind = Word; start = 0; end = 1 } ∷ record { kind = Eq; start = 1; end = 3 } ∷ record { kind = Eq; start = 3; end = 4 } ∷ record { kind = Int; start = 4; end = 5 } ∷ [])
+    (record { kind = Word; start = 0; end = 1 } ∷ record { kind = Sign Eq; start = 1; end = 3 } ∷ record { kind = Sign Eq; start = 3; end = 4 } ∷ record { kind = Int; start = 4; end = 5 } ∷ [])
 equal_signs = refl
 
 -- a backslash is an ordinary character, and so is the other quote

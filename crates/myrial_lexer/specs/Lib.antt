@@ -1,4 +1,4 @@
 -- The words of this crate.
 pub mod Tokens
-pub mod Sizes
+pub mod inner
 pub mod Slices

@@ -6,11 +6,12 @@
 --   slice_of text token        the bytes of a token
 --   AreTokensOf text tokens    the text is UTF-8, and the tokens are its
 --   HasFault text line what    the text is UTF-8, and its first fault is of that kind and on that line
-use Rattle.std.specs.Prelude.{◌≡◌, ℕ, zero, suc, ◌+◌, ◌-◌, Bool, not, ◌&&◌, ◌||◌, if◌then◌else◌, ◌==◌, nat_le, List, [], ◌∷◌, length, take, drop, count_by, slice_index, Option, Some, None, Result, Ok, Err, codes, nat_eq}
+use Rattle.std.specs.Prelude.{◌≡◌, ℕ, zero, suc, ◌+◌, ◌-◌, Bool, not, ◌&&◌, ◌||◌, if◌then◌else◌, ◌==◌, pos, List, [], ◌∷◌, length, take, drop, count_by, slice_index, Option, Some, None, Result, Ok, Err, codes, nat_eq}
 use Rattle.std.specs.Char.{is_ascii_digit, is_ascii_alphabetic}
 use Rattle.std.specs.List.{prefix_len, find, starts_with}
 use Rattle.std.specs.Str.{IsUtf8}
 use Rattle.std.specs.Str.Parse.{digits_value}
+use Rattle.rel_base.specs.Values.{in_64_bits}
 use Rattle.myrial_lexer.specs.declared.faults.LexWhat.{LexWhat}
 use Rattle.myrial_lexer.specs.declared.faults.LexWhat.TheVariants.{BadChar, OpenString, NumberTooLarge}
 use Rattle.myrial_lexer.specs.declared.front.Front.{Front}
@@ -19,7 +20,9 @@ use Rattle.myrial_lexer.specs.declared.front.Run.{Run}
 use Rattle.myrial_lexer.specs.declared.front.Run.TheVariants as run
 use Rattle.myrial_lexer.specs.declared.kinds.Token.{Token}
 use Rattle.myrial_lexer.specs.declared.kinds.TokenKind.{TokenKind}
-use Rattle.myrial_lexer.specs.declared.kinds.TokenKind.TheVariants.{Word, Int, Str, Eq, Ne, Le, Lt, Ge, Gt, Plus, Minus, Star, OpenParen, CloseParen, OpenBracket, CloseBracket, Comma, Dot, Colon, Semicolon, Dollar}
+use Rattle.myrial_lexer.specs.declared.kinds.TokenKind.TheVariants as kind
+use Rattle.myrial_lexer.specs.declared.kinds.Sign.{Sign}
+use Rattle.myrial_lexer.specs.declared.kinds.Sign.TheVariants.{Eq, Ne, Le, Lt, Ge, Gt, Plus, Minus, Star, OpenParen, CloseParen, OpenBracket, CloseBracket, Comma, Dot, Colon, Semicolon, Dollar}
 
 -- a space, a tab, a carriage return or a line feed
 abbrev pub is_blank : ℕ → Bool
@@ -44,21 +47,21 @@ goes_on (run.Inside quote) b = not (b == quote || b == 10)
 abbrev pub run_len : Run → List ℕ → ℕ
 run_len r text = prefix_len (goes_on r) text
 
--- as many digits as follow, where their value is at most the largest of 64 bits
+-- as many digits as follow, where their value lies in 64 bits with a sign
 abbrev pub number : List ℕ → Front
 number text =
     let len = run_len run.Digits text in
-    if nat_le (digits_value 10 (take len text)) 9_223_372_036_854_775_807 then Piece Int len else Fault NumberTooLarge
+    if in_64_bits (pos (digits_value 10 (take len text))) then Piece kind.Int len else Fault NumberTooLarge
 
 -- from a quote up to the same quote on the same line
 abbrev pub string : List ℕ → Front
 string text =
     let quote = slice_index text 0 in
     let len = run_len (run.Inside quote) (drop 1 text) in
-    if slice_index text (len + 1) == quote then Piece Str (len + 2) else Fault OpenString
+    if slice_index text (len + 1) == quote then Piece kind.Str (len + 2) else Fault OpenString
 
 -- the signs: a sign that begins with another one stands before it
-abbrev pub signs : List (List ℕ × TokenKind)
+abbrev pub signs : List (List ℕ × Sign)
 signs =
     (codes "==", Eq) ∷ (codes "=", Eq) ∷ (codes "!=", Ne) ∷ (codes "<>", Ne) ∷ (codes "<=", Le) ∷ (codes "<", Lt)
     ∷ (codes ">=", Ge) ∷ (codes ">", Gt) ∷ (codes "+", Plus) ∷ (codes "-", Minus) ∷ (codes "*", Star)
@@ -66,8 +69,8 @@ signs =
     ∷ (codes ",", Comma) ∷ (codes ".", Dot) ∷ (codes ":", Colon) ∷ (codes ";", Semicolon) ∷ (codes "$", Dollar) ∷ []
 
 -- the sign as a piece of a text
-abbrev pub piece_of : Option (List ℕ × TokenKind) → Front
-piece_of (Some sign) = Piece sign.1 (length sign.0)
+abbrev pub piece_of : Option (List ℕ × Sign) → Front
+piece_of (Some sign) = Piece (kind.Sign sign.1) (length sign.0)
 piece_of None = Fault BadChar
 
 -- the longest sign with which two bytes begin
@@ -80,7 +83,7 @@ front_of text =
     let b = slice_index text 0 in
     if is_blank b then Gap 1
     else (if b == 45 && slice_index text 1 == 45 then Gap (run_len run.Line text)
-    else (if is_letter b then Piece Word (run_len run.Word text)
+    else (if is_letter b then Piece kind.Word (run_len run.Word text)
     else (if is_ascii_digit b then number text
     else (if is_quote b then string text
     else sign b (slice_index text 1)))))
@@ -97,7 +100,7 @@ with_first token (Err fault) = Err fault
 -- what the front at a place gives, and then the text behind its bytes
 abbrev pub cut : ℕ → Front → (ℕ → Result (List Token) Break) → Result (List Token) Break
 cut place (Gap size) behind = behind size
-cut place (Piece kind size) behind = with_first (record { kind = kind; start = place; end = place + size }) (behind size)
+cut place (Piece k size) behind = with_first (record { kind = k; start = place; end = place + size }) (behind size)
 cut place (Fault what) behind = Err (place, what)
 
 -- the tokens of a text that begins at a place, and whose first bytes, so many, belong to what stands before

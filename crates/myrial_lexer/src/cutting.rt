@@ -1,6 +1,7 @@
 //! Cuts a text into tokens, from its front to its end.
 ghost use Rattle.std.specs.Prelude.{◌≡◌, ℕ, ◌≤◌, ◌↔◌, length, IfOk};
 ghost use Rattle.std.specs.Str.{IsUtf8};
+ghost use Rattle.rel_base.specs.Limits.{most_script_bytes};
 ghost use Rattle.myrial_lexer.specs.Tokens as spec;
 ghost use Rattle.myrial_lexer.specs.Tokens.{AreTokensOf, HasFault};
 ghost use Rattle.myrial_lexer.specs.declared.faults.LexWhat.{LexWhat as LexWhatSeen};
@@ -14,7 +15,7 @@ use std::str;
 /// The number of the line on which a place of the text lies, from 1.
 fn line_at(text: &[u8], place: usize) -> u32
     requires place { place ≤ length text.now }
-    requires short { length text.now ≤ 65536 }
+    requires short { length text.now ≤ most_script_bytes }
     ensures { result ≡ spec.line_at text.now place }
 {
     1 + text[..place].iter().filter(|b| **b == b'\n').count() as u32
@@ -22,7 +23,7 @@ fn line_at(text: &[u8], place: usize) -> u32
 
 /// The tokens of the UTF-8 text `bytes`, or the first place that breaks the token rules.
 pub fn lex(alloc: Global, bytes: &[u8]) -> Result<Tokens, LexFault>
-    requires { length bytes.now ≤ 65536 }
+    requires { length bytes.now ≤ most_script_bytes }
     // With `ok` and `at`, the other fault comes wherever the text is UTF-8 and has one.
     ensures ok { IfOk result (λ tokens. AreTokensOf bytes.now tokens) }
     ensures not_text { (result ≡ Err LexFault.NotText) ↔ (IsUtf8 bytes.now → ⊥) }

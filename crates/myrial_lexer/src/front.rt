@@ -1,12 +1,13 @@
 //! What stands at the front of a text: the longest piece that the token rules give there.
-ghost use Rattle.std.specs.Prelude.{◌≡◌, ◌≢◌, ◌≤◌, ◌<◌, length, slice_index, true, nat_le};
+ghost use Rattle.std.specs.Prelude.{◌≡◌, ◌≢◌, ◌≤◌, ◌<◌, length, slice_index, true, pos};
 ghost use Rattle.std.specs.Str.{all_ascii_digits};
 ghost use Rattle.std.specs.Str.Parse.{digits_value};
+ghost use Rattle.rel_base.specs.Values.{in_64_bits};
 ghost use Rattle.myrial_lexer.specs.Tokens as spec;
-ghost use Rattle.myrial_lexer.specs.Sizes.{IsWithin};
+ghost use Rattle.myrial_lexer.specs.inner.Sizes.{IsWithin};
 
 use crate::faults::LexWhat;
-use crate::kinds::TokenKind;
+use crate::kinds::{Sign, TokenKind};
 use std::str;
 
 /// What stands at the front of a text; a blank, a comment and a token with their number of bytes.
@@ -86,7 +87,7 @@ fn run_len(run: Run, text: &[u8]) -> usize
 fn fits_int(digits: &[u8]) -> bool
     requires some { 0 < length digits.now }
     requires digits { all_ascii_digits digits.now ≡ true }
-    ensures { result ≡ nat_le (digits_value 10 digits.now) 9_223_372_036_854_775_807 }
+    ensures { result ≡ in_64_bits (pos (digits_value 10 digits.now)) }
 {
     match str::from_utf8(digits) {
         Ok(text) => text.parse::<i64>().is_ok(),
@@ -127,29 +128,30 @@ fn sign(text: &[u8]) -> Front
     ensures value { result ≡ spec.sign (slice_index text.now 0) (slice_index text.now 1) }
     ensures within { IsWithin result text.now }
 {
-    match (text[0], byte_at(text, 1)) {
-        (b'=', b'=') => Front::Piece(TokenKind::Eq, 2),
-        (b'=', _) => Front::Piece(TokenKind::Eq, 1),
-        (b'!', b'=') => Front::Piece(TokenKind::Ne, 2),
-        (b'<', b'>') => Front::Piece(TokenKind::Ne, 2),
-        (b'<', b'=') => Front::Piece(TokenKind::Le, 2),
-        (b'<', _) => Front::Piece(TokenKind::Lt, 1),
-        (b'>', b'=') => Front::Piece(TokenKind::Ge, 2),
-        (b'>', _) => Front::Piece(TokenKind::Gt, 1),
-        (b'+', _) => Front::Piece(TokenKind::Plus, 1),
-        (b'-', _) => Front::Piece(TokenKind::Minus, 1),
-        (b'*', _) => Front::Piece(TokenKind::Star, 1),
-        (b'(', _) => Front::Piece(TokenKind::OpenParen, 1),
-        (b')', _) => Front::Piece(TokenKind::CloseParen, 1),
-        (b'[', _) => Front::Piece(TokenKind::OpenBracket, 1),
-        (b']', _) => Front::Piece(TokenKind::CloseBracket, 1),
-        (b',', _) => Front::Piece(TokenKind::Comma, 1),
-        (b'.', _) => Front::Piece(TokenKind::Dot, 1),
-        (b':', _) => Front::Piece(TokenKind::Colon, 1),
-        (b';', _) => Front::Piece(TokenKind::Semicolon, 1),
-        (b'$', _) => Front::Piece(TokenKind::Dollar, 1),
-        _ => Front::Fault(LexWhat::BadChar),
-    }
+    let (sign, size) = match (text[0], byte_at(text, 1)) {
+        (b'=', b'=') => (Sign::Eq, 2),
+        (b'=', _) => (Sign::Eq, 1),
+        (b'!', b'=') => (Sign::Ne, 2),
+        (b'<', b'>') => (Sign::Ne, 2),
+        (b'<', b'=') => (Sign::Le, 2),
+        (b'<', _) => (Sign::Lt, 1),
+        (b'>', b'=') => (Sign::Ge, 2),
+        (b'>', _) => (Sign::Gt, 1),
+        (b'+', _) => (Sign::Plus, 1),
+        (b'-', _) => (Sign::Minus, 1),
+        (b'*', _) => (Sign::Star, 1),
+        (b'(', _) => (Sign::OpenParen, 1),
+        (b')', _) => (Sign::CloseParen, 1),
+        (b'[', _) => (Sign::OpenBracket, 1),
+        (b']', _) => (Sign::CloseBracket, 1),
+        (b',', _) => (Sign::Comma, 1),
+        (b'.', _) => (Sign::Dot, 1),
+        (b':', _) => (Sign::Colon, 1),
+        (b';', _) => (Sign::Semicolon, 1),
+        (b'$', _) => (Sign::Dollar, 1),
+        _ => return Front::Fault(LexWhat::BadChar),
+    };
+    Front::Piece(TokenKind::Sign(sign), size)
 }
 
 /// What stands at the front of a text that isn't empty.

@@ -1,15 +1,9 @@
 //! Tokens and their kinds.
 use rel_base::Items;
 
-/// What a token is: a word, a number, a string, or one of the signs.
+/// A sign, of one or two characters.
 #[derive(Clone, Copy, Debug, PartialEq, Eq)]
-pub enum TokenKind {
-    /// A letter or `_`, then letters, digits and `_`.
-    Word,
-    /// Decimal digits.
-    Int,
-    /// Characters between two equal quotes.
-    Str,
+pub enum Sign {
     /// `=` or `==`.
     Eq,
     /// `!=` or `<>`.
@@ -46,6 +40,19 @@ pub enum TokenKind {
     Semicolon,
     /// `$`.
     Dollar,
+}
+
+/// What a token is.
+#[derive(Clone, Copy, Debug, PartialEq, Eq)]
+pub enum TokenKind {
+    /// A letter or `_`, then letters, digits and `_`.
+    Word,
+    /// Decimal digits.
+    Int,
+    /// Characters between two equal quotes.
+    Str,
+    /// A sign.
+    Sign(Sign),
 }
 
 /// A slice of the text: its bytes from `start` up to, and without, `end`.

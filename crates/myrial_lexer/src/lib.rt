@@ -18,7 +18,7 @@ mod laws;
 
 pub use cutting::lex;
 pub use faults::{LexFault, LexWhat};
-pub use kinds::{Token, TokenKind, Tokens};
+pub use kinds::{Sign, Token, TokenKind, Tokens};
 pub use laws::tokens_are_slices;
 
 #[cfg(test)]

@@ -42,20 +42,20 @@ fn each_text_has_its_tokens_or_its_first_fault(rt: HostRuntime) -> Result<(), Fa
         (b" \t\r\n-- all of it", ""),
         (
             b"A = scan(R);",
-            " Word:A Eq:= Word:scan OpenParen:( Word:R CloseParen:) Semicolon:;",
+            " Word:A Sign(Eq):= Word:scan Sign(OpenParen):( Word:R Sign(CloseParen):) Sign(Semicolon):;",
         ),
         (b"a--b", " Word:a"),
-        (b"a -b", " Word:a Minus:- Word:b"),
+        (b"a -b", " Word:a Sign(Minus):- Word:b"),
         (b"-- c\nx_1", " Word:x_1"),
         (
             b"== = != <> <= < >= >",
-            " Eq:== Eq:= Ne:!= Ne:<> Le:<= Lt:< Ge:>= Gt:>",
+            " Sign(Eq):== Sign(Eq):= Sign(Ne):!= Sign(Ne):<> Sign(Le):<= Sign(Lt):< Sign(Ge):>= Sign(Gt):>",
         ),
         (
             b"+*[],.:$",
-            " Plus:+ Star:* OpenBracket:[ CloseBracket:] Comma:, Dot:. Colon:: Dollar:$",
+            " Sign(Plus):+ Sign(Star):* Sign(OpenBracket):[ Sign(CloseBracket):] Sign(Comma):, Sign(Dot):. Sign(Colon):: Sign(Dollar):$",
         ),
-        (b"1.5", " Int:1 Dot:. Int:5"),
+        (b"1.5", " Int:1 Sign(Dot):. Int:5"),
         (
             b"007 9223372036854775807",
             " Int:007 Int:9223372036854775807",

@@ -5,9 +5,9 @@ use Rattle.std.proofs.Common.{Option, Some, None}
 use Rattle.myrial_ast.specs.Trees as tree
 use Rattle.myrial_ast.specs.Trees.{Tree}
 use Rattle.myrial_parser.specs.declared.terminals.Symbol.{Symbol}
-use Rattle.myrial_parser.specs.declared.terminals.Symbol.TheVariants as s
+use Rattle.myrial_parser.specs.Symbols as s
 use Rattle.myrial_parser.specs.Terminals.{Terminal, Name, Number, Quoted, Fixed}
-use Rattle.myrial_parser.specs.Descent.{Input, Outcome, Rule, ◌>>=◌, first, sees, is_symbol, count_ahead, prefixed, wrapped, signed, signed_behind, behind_minus, primary, comparison, negation, disjunction, expression}
+use Rattle.myrial_parser.specs.inner.Descent.{Input, Parsed, Parser, ◌>>=◌, first, sees, is_symbol, count_ahead, prefixed, wrapped, signed, signed_behind, behind_minus, primary, comparison, negation, disjunction, expression}
 
 -- one more is ahead
 pub count_ahead-seen : (symbol : Symbol) (i : Input) → sees symbol i ≡ true → count_ahead symbol i ≡ suc (count_ahead symbol (drop 1 i))
@@ -32,16 +32,16 @@ seen-some symbol (x ∷ i) e = omega arith
 
 -- ---- a count of symbols, and what is read behind them
 
-bind-same : {A : Type 0} (o : Outcome A) → (o >>= λ a rest. Some (a, rest)) ≡ o
+bind-same : {A : Type 0} (o : Parsed A) → (o >>= λ a rest. Some (a, rest)) ≡ o
 bind-same None = refl
 bind-same (Some p) = refl
 
-bind-map : {A B C : Type 0} (f : A → B) (g : B → C) (o : Outcome A) → ((o >>= λ a rest. Some (f a, rest)) >>= λ b rest. Some (g b, rest)) ≡ (o >>= λ a rest. Some (g (f a), rest))
+bind-map : {A B C : Type 0} (f : A → B) (g : B → C) (o : Parsed A) → ((o >>= λ a rest. Some (f a, rest)) >>= λ b rest. Some (g b, rest)) ≡ (o >>= λ a rest. Some (g (f a), rest))
 bind-map f g None = refl
 bind-map f g (Some p) = refl
 
 -- a prefixed operand is an operand behind the symbols that are ahead, below as many nodes
-pub prefixed-count : (symbol : Symbol) (node : Tree → Tree) (operand : Rule Tree) (i : Input)
+pub prefixed-count : (symbol : Symbol) (node : Tree → Tree) (operand : Parser Tree) (i : Input)
     → prefixed symbol node operand i ≡ (operand (drop (count_ahead symbol i) i) >>= λ a rest. Some (wrapped node (count_ahead symbol i) a, rest))
 prefixed-count symbol node operand [] = sym (bind-same (operand []))
 prefixed-count symbol node operand (x ∷ i) = by (is_symbol symbol (Some x)) (prefixed-count symbol node operand i)
@@ -49,11 +49,11 @@ prefixed-count symbol node operand (x ∷ i) = by (is_symbol symbol (Some x)) (p
     by : (t : Bool) → prefixed symbol node operand i ≡ (operand (drop (count_ahead symbol i) i) >>= λ a rest. Some (wrapped node (count_ahead symbol i) a, rest))
         → cond t (prefixed symbol node operand i >>= λ a rest. Some (node a, rest)) (operand (x ∷ i))
         ≡ (operand (drop (cond t (suc (count_ahead symbol i)) 0) (x ∷ i)) >>= λ a rest. Some (wrapped node (cond t (suc (count_ahead symbol i)) 0) a, rest))
-    by true e = ap (λ (o : Outcome Tree). o >>= λ a rest. Some (node a, rest)) e ∙ bind-map (wrapped node (count_ahead symbol i)) node (operand (drop (count_ahead symbol i) i))
+    by true e = ap (λ (o : Parsed Tree). o >>= λ a rest. Some (node a, rest)) e ∙ bind-map (wrapped node (count_ahead symbol i)) node (operand (drop (count_ahead symbol i) i))
     by false e = sym (bind-same (operand (x ∷ i)))
 
 -- one more minus sign, where more than the number behind it is read
-signed_behind-more : (inner : Rule Tree) (count : ℕ) (next : Option Terminal) (i : Input) → (signed_behind inner (suc count) next i >>= λ a rest. Some (tree.Neg a, rest)) ≡ signed_behind inner (suc (suc count)) next i
+signed_behind-more : (inner : Parser Tree) (count : ℕ) (next : Option Terminal) (i : Input) → (signed_behind inner (suc count) next i >>= λ a rest. Some (tree.Neg a, rest)) ≡ signed_behind inner (suc (suc count)) next i
 signed_behind-more inner count None i = bind-map (wrapped tree.Neg (suc count)) tree.Neg (primary inner i)
 signed_behind-more inner count (Some (Number n)) i = refl
 signed_behind-more inner count (Some (Name n)) i = bind-map (wrapped tree.Neg (suc count)) tree.Neg (primary inner i)
@@ -61,24 +61,24 @@ signed_behind-more inner count (Some (Quoted n)) i = bind-map (wrapped tree.Neg 
 signed_behind-more inner count (Some (Fixed n)) i = bind-map (wrapped tree.Neg (suc count)) tree.Neg (primary inner i)
 
 -- what is signed is read behind the minus signs that are ahead
-pub signed-count : (inner : Rule Tree) (i : Input) → signed inner i ≡ signed_behind inner (count_ahead s.Minus i) (first (drop (count_ahead s.Minus i) i)) (drop (count_ahead s.Minus i) i)
+pub signed-count : (inner : Parser Tree) (i : Input) → signed inner i ≡ signed_behind inner (count_ahead s.Minus i) (first (drop (count_ahead s.Minus i) i)) (drop (count_ahead s.Minus i) i)
 unfolding signed
 signed-count inner [] = refl
 signed-count inner (x ∷ i) = by (is_symbol s.Minus (Some x)) (signed-count inner i)
   where
-    more : (j : Input) (count : ℕ) (o : Outcome Tree) → o ≡ signed_behind inner count (first (drop count j)) (drop count j) → count ≡ count_ahead s.Minus j
+    more : (j : Input) (count : ℕ) (o : Parsed Tree) → o ≡ signed_behind inner count (first (drop count j)) (drop count j) → count ≡ count_ahead s.Minus j
         → behind_minus inner (first j) (drop 1 j) o ≡ signed_behind inner (suc count) (first (drop count j)) (drop count j)
-    more [] zero o e c = ap (λ (o : Outcome Tree). o >>= λ a rest. Some (tree.Neg a, rest)) e
+    more [] zero o e c = ap (λ (o : Parsed Tree). o >>= λ a rest. Some (tree.Neg a, rest)) e
     more (Number n ∷ j) zero o e c = refl
-    more (Name n ∷ j) zero o e c = ap (λ (o : Outcome Tree). o >>= λ a rest. Some (tree.Neg a, rest)) e
-    more (Quoted n ∷ j) zero o e c = ap (λ (o : Outcome Tree). o >>= λ a rest. Some (tree.Neg a, rest)) e
-    more (Fixed n ∷ j) zero o e c = ap (λ (o : Outcome Tree). o >>= λ a rest. Some (tree.Neg a, rest)) e
+    more (Name n ∷ j) zero o e c = ap (λ (o : Parsed Tree). o >>= λ a rest. Some (tree.Neg a, rest)) e
+    more (Quoted n ∷ j) zero o e c = ap (λ (o : Parsed Tree). o >>= λ a rest. Some (tree.Neg a, rest)) e
+    more (Fixed n ∷ j) zero o e c = ap (λ (o : Parsed Tree). o >>= λ a rest. Some (tree.Neg a, rest)) e
     more [] (suc count) o e c = absurd (cc)
     more (Number n ∷ j) (suc count) o e c = absurd (cc)
     more (Name n ∷ j) (suc count) o e c = absurd (cc)
     more (Quoted n ∷ j) (suc count) o e c = absurd (cc)
     more (Fixed n ∷ j) (suc count) o e c =
-        ap (λ (o : Outcome Tree). o >>= λ a rest. Some (tree.Neg a, rest)) e ∙ signed_behind-more inner count (first (drop (suc count) (Fixed n ∷ j))) (drop (suc count) (Fixed n ∷ j))
+        ap (λ (o : Parsed Tree). o >>= λ a rest. Some (tree.Neg a, rest)) e ∙ signed_behind-more inner count (first (drop (suc count) (Fixed n ∷ j))) (drop (suc count) (Fixed n ∷ j))
 
     by : (t : Bool) → signed inner i ≡ signed_behind inner (count_ahead s.Minus i) (first (drop (count_ahead s.Minus i) i)) (drop (count_ahead s.Minus i) i)
         → cond t (behind_minus inner (first i) (drop 1 i) (signed inner i)) (primary inner (x ∷ i))
@@ -89,7 +89,7 @@ signed-count inner (x ∷ i) = by (is_symbol s.Minus (Some x)) (signed-count inn
 -- ---- what is read behind a count that was taken
 
 -- a negation is a comparison behind so many `not`
-pub negation-counted : (inner : Rule Tree) (i j : Input) (count : ℕ) → count ≡ count_ahead s.Not i → j ≡ drop count i
+pub negation-counted : (inner : Parser Tree) (i j : Input) (count : ℕ) → count ≡ count_ahead s.Not i → j ≡ drop count i
     → negation inner i ≡ (comparison inner j >>= λ a rest. Some (wrapped tree.Not count a, rest))
 unfolding negation
 negation-counted inner i j count is at =
@@ -98,7 +98,7 @@ negation-counted inner i j count is at =
     ∙ ap (λ (k : Input). comparison inner k >>= λ a rest. Some (wrapped tree.Not count a, rest)) (sym at)
 
 -- what is signed is read behind so many minus signs
-pub signed-counted : (inner : Rule Tree) (i j : Input) (count n : ℕ) → count ≡ count_ahead s.Minus i → j ≡ drop count i → n ≡ count → signed inner i ≡ signed_behind inner n (first j) j
+pub signed-counted : (inner : Parser Tree) (i j : Input) (count n : ℕ) → count ≡ count_ahead s.Minus i → j ≡ drop count i → n ≡ count → signed inner i ≡ signed_behind inner n (first j) j
 signed-counted inner i j count n is at same =
     signed-count inner i
     ∙ ap (λ m. signed_behind inner m (first (drop m i)) (drop m i)) (sym is)

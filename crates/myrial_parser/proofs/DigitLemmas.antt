@@ -5,24 +5,9 @@ use Rattle.std.specs.Prelude.{◌&&◌, Result, Ok, Err}
 use Rattle.std.specs.Result.{OkIff}
 use Rattle.std.specs.Str.{all_ascii_digits, IsAscii, IsUtf8}
 use Rattle.std.specs.Str.Parse.{digits_value, ParsesUnsigned}
-use Rattle.std.proofs.lemmas.Bool.Decides.{nat_tests}
 use Rattle.std.proofs.lemmas.Str.{IsUtf8-from_ascii}
-use Rattle.std.proofs.lemmas.Str.Ascii.{IsAscii-nil, IsAscii-cons}
 use Rattle.std.proofs.lemmas.Str.Parse.{numerals_by_value, tells_all_ascii_digits, parse_digits}
-
-both : (a b : Bool) → (a && b) ≡ true → (a ≡ true) × (b ≡ true)
-both true true e = (refl, refl)
-both true false e = cc
-both false b e = cc
-
-digit_small : (d : ℕ) → is_ascii_digit d ≡ true → d < 128
-digit_small d e = grind (arith, nat_tests)
-
-digits-IsAscii : (digits : List ℕ) → all_ascii_digits digits ≡ true → IsAscii digits
-digits-IsAscii [] e = IsAscii-nil
-digits-IsAscii (d ∷ ds) e =
-    let parts = both (is_ascii_digit d) (all_ascii_digits ds) e in
-    IsAscii-cons d ds (digit_small d parts.0) (digits-IsAscii ds parts.1)
+use Rattle.myrial_lexer.proofs.DigitLemmas.{digits-IsAscii}
 
 -- digits are text
 pub digits-IsUtf8 : (digits : List ℕ) → all_ascii_digits digits ≡ true → IsUtf8 digits

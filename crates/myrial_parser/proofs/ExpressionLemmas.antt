@@ -6,14 +6,18 @@ use Rattle.myrial_ast.specs.declared.expressions.ColRef.{ColRef}
 use Rattle.myrial_ast.specs.declared.expressions.ColRef.TheVariants as column
 use Rattle.myrial_ast.specs.Trees as tree
 use Rattle.myrial_ast.specs.Trees.{Tree}
+use Rattle.myrial_lexer.specs.declared.kinds.Sign.TheVariants as sign
+use Rattle.myrial_parser.specs.declared.terminals.Keyword.{Keyword}
+use Rattle.myrial_parser.specs.declared.terminals.Keyword.TheVariants as keyword
 use Rattle.myrial_parser.specs.declared.terminals.Symbol.{Symbol}
-use Rattle.myrial_parser.specs.declared.terminals.Symbol.TheVariants as s
+use Rattle.myrial_parser.specs.declared.terminals.Symbol.TheVariants.{Keyword as Word, Sign}
+use Rattle.myrial_parser.specs.Symbols as s
 use Rattle.myrial_parser.specs.Terminals.{Terminal, Fixed, Name, Number, Quoted}
 use Rattle.myrial_parser.specs.Grammar as g
-use Rattle.myrial_parser.specs.Grammar.{IsColumn, plain_name, plain_place, alias_name, alias_place, Primary, Signed, aggregate_of, is_number}
-use Rattle.myrial_parser.specs.Descent as d
-use Rattle.myrial_parser.specs.Descent.{Input, first, Outcome, Rule, ◌>>=◌, is_symbol, sees, expect, name, number, column_of, column_behind, closed, fixed_by, same_symbol}
-use Rattle.myrial_parser.proofs.RuleLemmas.{Reading, Sound, Complete, stops, steps, same_value, same_rest, finish, sees-is, expect-is, name-is, number-is, is_symbol-same}
+use Rattle.myrial_parser.specs.Grammar.{IsColumn, plain_name, plain_place, alias_name, alias_place, IsAggregated, Primary, Signed, aggregate_of, is_number}
+use Rattle.myrial_parser.specs.inner.Descent as d
+use Rattle.myrial_parser.specs.inner.Descent.{Input, first, Parsed, Parser, ◌>>=◌, is_symbol, sees, expect, name, number, column_of, column_behind, in_parens, aggregated, fixed_by, same_symbol}
+use Rattle.myrial_parser.proofs.ParserLemmas.{Reading, Sound, Complete, stops, steps, same_value, same_rest, finish, sees-is, name-is, number-is, is_symbol-same, IsClosed, closed, closed-reads, closed-all, in_parens-sound, in_parens-all, word-reads}
 
 -- ---- columns
 
@@ -60,95 +64,46 @@ column_behind-all _ _ _ rest (alias_place n p) st = refl
 
 -- ---- primaries
 
--- an inner expression, and the closing parenthesis behind it
-record Enclosed (Inner : Input → Tree → Type 0) (node : Tree → Tree) (i : Input) (a : Tree) (rest : Input) : Type 0 where
-  inside : Input
-  argument : Tree
-  split : i ≡ inside ++ Fixed s.CloseParen ∷ rest
-  is : Inner inside argument
-  value : node argument ≡ a
-
-module _ (inner : Rule Tree) (Inner : Input → Tree → Type 0) (sound : Sound inner Inner) where
-  closed-reads : (node : Tree → Tree) (i : Input) (a : Tree) (rest : Input) → closed inner node i ≡ Some (a, rest) → Enclosed Inner node i a rest
-  closed-reads node i a rest e =
-      let two = steps (inner i) (λ b end. expect s.CloseParen end >>= λ _ end. Some (node b, end)) a rest e in
+module _ (inner : Parser Tree) (Inner : Input → Tree → Type 0) (sound : Sound inner Inner) where
+  of_argument-reads : (word : Keyword) (op : AggOp) → aggregate_of word ≡ Some op → (i : Input) (a : Tree) (rest : Input) → d.aggregate inner op i ≡ Some (a, rest) → Reading (IsAggregated Inner word) i a rest
+  of_argument-reads word op is i a rest e =
+      let two = steps (inner i) (λ a rest. Some (tree.Agg op a, rest)) a rest e in
       let r = sound.reads i two.value two.middle two.start in
-      let last = steps (expect s.CloseParen two.middle) (λ _ end. Some (node two.value, end)) a rest two.end in
-      let end = expect-is s.CloseParen two.middle last.value last.middle last.start in
-      record {
-        inside = r.front;
-        argument = two.value;
-        split = r.split ∙ ap (λ (ts : Input). r.front ++ ts) (end ∙ ap (λ (ts : Input). Fixed s.CloseParen ∷ ts) (same_rest (node two.value) a last.middle rest last.end));
-        is = r.is;
-        value = same_value (node two.value) a last.middle rest last.end;
-      }
+      finish (IsAggregated Inner word) i r.front two.middle _ a rest r.split (g.of_argument word op r.front two.value is r.is) two.end
 
-  ended-reads : (i : Input) (a : Tree) (rest : Input) → d.ended i ≡ Some (a, rest) → (i ≡ Fixed s.CloseParen ∷ rest) × (tree.AggAll agg.CountAll ≡ a)
-  ended-reads i a rest e =
-      let two = steps (expect s.CloseParen i) (λ _ rest. Some (tree.AggAll agg.CountAll, rest)) a rest e in
-      (expect-is s.CloseParen i two.value two.middle two.start ∙ ap (λ (ts : Input). Fixed s.CloseParen ∷ ts) (same_rest _ a two.middle rest two.end), same_value _ a two.middle rest two.end)
+  count-reads : (i : Input) (a : Tree) (rest : Input) (t : Bool) → sees s.Star i ≡ t → cond t (Some (tree.AggAll agg.CountAll, drop 1 i)) (d.aggregate inner agg.Count i) ≡ Some (a, rest)
+      → Reading (IsAggregated Inner keyword.Count) i a rest
+  count-reads i a rest true is e = finish (IsAggregated Inner keyword.Count) i (Fixed s.Star ∷ []) (drop 1 i) _ a rest (sees-is s.Star i is) g.of_star e
+  count-reads i a rest false is e = of_argument-reads keyword.Count agg.Count refl i a rest e
 
-  aggregate-reads : (symbol : Symbol) (op : AggOp) (i : Input) (a : Tree) (rest : Input) → aggregate_of symbol ≡ Some op → d.aggregate inner op i ≡ Some (a, rest) → Reading (Primary Inner) (Fixed symbol ∷ i) a rest
-  aggregate-reads symbol op i a rest is e =
-      let two = steps (expect s.OpenParen i) (λ _ rest. closed inner (tree.Agg op) rest) a rest e in
-      let open_ = expect-is s.OpenParen i two.value two.middle two.start in
-      let c = closed-reads (tree.Agg op) two.middle a rest two.end in
-      record {
-        front = Fixed symbol ∷ Fixed s.OpenParen ∷ c.inside ++ Fixed s.CloseParen ∷ [];
-        split = ap (λ (ts : Input). Fixed symbol ∷ ts) (open_ ∙ ap (λ (ts : Input). Fixed s.OpenParen ∷ ts) (c.split ∙ sym (append_assoc c.inside (Fixed s.CloseParen ∷ []) rest)));
-        is = subst (λ (t : Tree). Primary Inner (Fixed symbol ∷ Fixed s.OpenParen ∷ c.inside ++ Fixed s.CloseParen ∷ []) t) c.value (g.aggregate symbol op c.inside c.argument is c.is);
-      }
+  aggregated-reads : (word : Keyword) (i : Input) (a : Tree) (rest : Input) → aggregated inner word i ≡ Some (a, rest) → Reading (IsAggregated Inner word) i a rest
+  aggregated-reads keyword.CountAll i a rest e = finish (IsAggregated Inner keyword.CountAll) i [] i _ a rest refl g.of_nothing e
+  aggregated-reads keyword.Count i a rest e = count-reads i a rest (sees s.Star i) refl e
+  aggregated-reads keyword.Sum i a rest e = of_argument-reads keyword.Sum agg.Sum refl i a rest e
+  aggregated-reads keyword.Min i a rest e = of_argument-reads keyword.Min agg.Min refl i a rest e
+  aggregated-reads keyword.Max i a rest e = of_argument-reads keyword.Max agg.Max refl i a rest e
+  aggregated-reads _ i a rest e = absurd (cc)
 
-  count-reads : (i : Input) (a : Tree) (rest : Input) → d.count inner i ≡ Some (a, rest) → Reading (Primary Inner) (Fixed s.Count ∷ i) a rest
-  count-reads i a rest e =
-      let two = steps (expect s.OpenParen i) (λ _ rest. cond (sees s.Star rest) (d.ended (drop 1 rest)) (closed inner (tree.Agg agg.Count) rest)) a rest e in
-      let open_ = expect-is s.OpenParen i two.value two.middle two.start in
-      by two.middle open_ (sees s.Star two.middle) refl two.end
-    where
-      by : (middle : Input) → i ≡ Fixed s.OpenParen ∷ middle → (t : Bool) → sees s.Star middle ≡ t → cond t (d.ended (drop 1 middle)) (closed inner (tree.Agg agg.Count) middle) ≡ Some (a, rest) → Reading (Primary Inner) (Fixed s.Count ∷ i) a rest
-      by middle open_ true is e =
-          let end = ended-reads (drop 1 middle) a rest e in
-          record {
-            front = Fixed s.Count ∷ Fixed s.OpenParen ∷ Fixed s.Star ∷ Fixed s.CloseParen ∷ [];
-            split = ap (λ (ts : Input). Fixed s.Count ∷ ts) (open_ ∙ ap (λ (ts : Input). Fixed s.OpenParen ∷ ts) (sees-is s.Star middle is ∙ ap (λ (ts : Input). Fixed s.Star ∷ ts) end.0));
-            is = subst (λ (t : Tree). Primary Inner (Fixed s.Count ∷ Fixed s.OpenParen ∷ Fixed s.Star ∷ Fixed s.CloseParen ∷ []) t) end.1 g.count_star;
-          }
-      by middle open_ false is e =
-          let c = closed-reads (tree.Agg agg.Count) middle a rest e in
-          record {
-            front = Fixed s.Count ∷ Fixed s.OpenParen ∷ c.inside ++ Fixed s.CloseParen ∷ [];
-            split = ap (λ (ts : Input). Fixed s.Count ∷ ts) (open_ ∙ ap (λ (ts : Input). Fixed s.OpenParen ∷ ts) (c.split ∙ sym (append_assoc c.inside (Fixed s.CloseParen ∷ []) rest)));
-            is = subst (λ (t : Tree). Primary Inner (Fixed s.Count ∷ Fixed s.OpenParen ∷ c.inside ++ Fixed s.CloseParen ∷ []) t) c.value (g.aggregate s.Count agg.Count c.inside c.argument refl c.is);
-          }
+  call-reads : (word : Keyword) (i : Input) (a : Tree) (rest : Input) → in_parens (aggregated inner word) i ≡ Some (a, rest) → Reading (Primary Inner) (Fixed (Word word) ∷ i) a rest
+  call-reads word i a rest e =
+      word-reads (Word word) (IsAggregated Inner word) (λ a. a) (Primary Inner) (g.aggregate word) i a rest
+      ((in_parens-sound (aggregated inner word) (IsAggregated Inner word) (record { reads = aggregated-reads word })).reads i a rest e)
+
+  grouped-is : (ts : Input) (a : Tree) → IsClosed Inner ts a → Primary Inner (Fixed s.OpenParen ∷ ts) a
+  grouped-is _ _ (closed ts a h) = g.grouped ts a h
 
   fixed-reads : (symbol : Symbol) (i : Input) (a : Tree) (rest : Input) → fixed_by inner symbol i ≡ Some (a, rest) → Reading (Primary Inner) (Fixed symbol ∷ i) a rest
-  fixed-reads s.True i a rest e = finish (Primary Inner) (Fixed s.True ∷ i) (Fixed s.True ∷ []) i _ a rest refl g.truth e
-  fixed-reads s.False i a rest e = finish (Primary Inner) (Fixed s.False ∷ i) (Fixed s.False ∷ []) i _ a rest refl g.falsehood e
-  fixed-reads s.Dollar i a rest e =
+  fixed-reads (Word keyword.True) i a rest e = finish (Primary Inner) (Fixed s.True ∷ i) (Fixed s.True ∷ []) i _ a rest refl g.truth e
+  fixed-reads (Word keyword.False) i a rest e = finish (Primary Inner) (Fixed s.False ∷ i) (Fixed s.False ∷ []) i _ a rest refl g.falsehood e
+  fixed-reads (Word word) i a rest e = call-reads word i a rest e
+  fixed-reads (Sign sign.Dollar) i a rest e =
       let two = steps (number i) (λ place rest. Some (tree.Col (column.ByPlace place), rest)) a rest e in
       let split = ap (λ (ts : Input). Fixed s.Dollar ∷ ts) (number-is i two.value two.middle two.start) in
       finish (Primary Inner) (Fixed s.Dollar ∷ i) (Fixed s.Dollar ∷ Number two.value ∷ []) two.middle _ a rest split (g.reference _ _ (plain_place two.value)) two.end
-  fixed-reads s.OpenParen i a rest e =
-      let c = closed-reads (λ a. a) i a rest e in
-      record {
-        front = Fixed s.OpenParen ∷ c.inside ++ Fixed s.CloseParen ∷ [];
-        split = ap (λ (ts : Input). Fixed s.OpenParen ∷ ts) (c.split ∙ sym (append_assoc c.inside (Fixed s.CloseParen ∷ []) rest));
-        is = subst (λ (t : Tree). Primary Inner (Fixed s.OpenParen ∷ c.inside ++ Fixed s.CloseParen ∷ []) t) c.value (g.grouped c.inside c.argument c.is);
-      }
-  fixed-reads s.Count i a rest e = count-reads i a rest e
-  fixed-reads s.CountAll i a rest e =
-      let two = steps (expect s.OpenParen i) (λ _ rest. d.ended rest) a rest e in
-      let open_ = expect-is s.OpenParen i two.value two.middle two.start in
-      let end = ended-reads two.middle a rest two.end in
-      record {
-        front = Fixed s.CountAll ∷ Fixed s.OpenParen ∷ Fixed s.CloseParen ∷ [];
-        split = ap (λ (ts : Input). Fixed s.CountAll ∷ ts) (open_ ∙ ap (λ (ts : Input). Fixed s.OpenParen ∷ ts) end.0);
-        is = subst (λ (t : Tree). Primary Inner (Fixed s.CountAll ∷ Fixed s.OpenParen ∷ Fixed s.CloseParen ∷ []) t) end.1 g.count_all;
-      }
-  fixed-reads s.Sum i a rest e = aggregate-reads s.Sum agg.Sum i a rest refl e
-  fixed-reads s.Min i a rest e = aggregate-reads s.Min agg.Min i a rest refl e
-  fixed-reads s.Max i a rest e = aggregate-reads s.Max agg.Max i a rest refl e
-  fixed-reads _ i a rest e = absurd (cc)
+  fixed-reads (Sign sign.OpenParen) i a rest e =
+      let r = closed-reads inner Inner sound i a rest e in
+      record { front = Fixed s.OpenParen ∷ r.front; split = ap (λ (ts : Input). Fixed s.OpenParen ∷ ts) r.split; is = grouped-is r.front a r.is }
+  fixed-reads (Sign _) i a rest e = absurd (cc)
 
   primary-reads : (i : Input) (a : Tree) (rest : Input) → d.primary inner i ≡ Some (a, rest) → Reading (Primary Inner) i a rest
   unfolding d.primary
@@ -164,37 +119,43 @@ module _ (inner : Rule Tree) (Inner : Input → Tree → Type 0) (sound : Sound 
   pub primary-sound : Sound (d.primary inner) (Primary Inner)
   primary-sound = record { reads = primary-reads }
 
-module _ (inner : Rule Tree) (Inner : Input → Tree → Type 0) (goes_on : Terminal → Bool) (complete : Complete inner Inner goes_on)
+module _ (inner : Parser Tree) (Inner : Input → Tree → Type 0) (goes_on : Terminal → Bool) (complete : Complete inner Inner goes_on)
     (not_closing : goes_on (Fixed s.CloseParen) ≡ false) (no_star : (i : Input) → inner (Fixed s.Star ∷ i) ≡ None) where
-  -- an inner expression is read up to its closing parenthesis
-  inside-all : (ts : Input) (a : Tree) (rest : Input) → Inner ts a → inner ((ts ++ Fixed s.CloseParen ∷ []) ++ rest) ≡ Some (a, Fixed s.CloseParen ∷ rest)
-  inside-all ts a rest h = ap inner (append_assoc ts (Fixed s.CloseParen ∷ []) rest) ∙ complete.reads ts a (Fixed s.CloseParen ∷ rest) h (ap (λ b. cond b false true) not_closing)
-
-  closed-all : (node : Tree → Tree) (ts : Input) (a : Tree) (rest : Input) → Inner ts a → closed inner node ((ts ++ Fixed s.CloseParen ∷ []) ++ rest) ≡ Some (node a, rest)
-  unfolding same_symbol
-  closed-all node ts a rest h = ap (λ (o : Outcome Tree). o >>= λ b end. expect s.CloseParen end >>= λ _ end. Some (node b, end)) (inside-all ts a rest h)
-
-  no-star : (ts : Input) (a : Tree) (rest : Input) → Inner ts a → sees s.Star ((ts ++ Fixed s.CloseParen ∷ []) ++ rest) ≡ false
-  no-star ts a rest h = by (sees s.Star ((ts ++ Fixed s.CloseParen ∷ []) ++ rest)) refl
+  -- no star begins an argument
+  no-star : (ts : Input) (a : Tree) (rest : Input) → Inner ts a → stops goes_on rest ≡ true → sees s.Star (ts ++ rest) ≡ false
+  no-star ts a rest h st = by (sees s.Star (ts ++ rest)) refl
     where
-      by : (t : Bool) → sees s.Star ((ts ++ Fixed s.CloseParen ∷ []) ++ rest) ≡ t → t ≡ false
+      by : (t : Bool) → sees s.Star (ts ++ rest) ≡ t → t ≡ false
       by false is = refl
       by true is =
-          let none = ap inner (sees-is s.Star ((ts ++ Fixed s.CloseParen ∷ []) ++ rest) is) ∙ no_star _ in
-          let some = inside-all ts a rest h in
+          let none = ap inner (sees-is s.Star (ts ++ rest) is) ∙ no_star _ in
+          let some = complete.reads ts a rest h st in
           absurd (cc)
 
-  aggregate-all : (symbol : Symbol) (op : AggOp) (ts : Input) (a : Tree) (rest : Input) → aggregate_of symbol ≡ Some op → Inner ts a
-      → fixed_by inner symbol (Fixed s.OpenParen ∷ (ts ++ Fixed s.CloseParen ∷ []) ++ rest) ≡ Some (tree.Agg op a, rest)
+  of_argument-all : (op : AggOp) (ts : Input) (a : Tree) (rest : Input) → Inner ts a → stops goes_on rest ≡ true → d.aggregate inner op (ts ++ rest) ≡ Some (tree.Agg op a, rest)
+  of_argument-all op ts a rest h st = ap (λ (o : Parsed Tree). o >>= λ a rest. Some (tree.Agg op a, rest)) (complete.reads ts a rest h st)
+
+  aggregated-all : (word : Keyword) (ts : Input) (a : Tree) (rest : Input) → IsAggregated Inner word ts a → stops goes_on rest ≡ true → aggregated inner word (ts ++ rest) ≡ Some (a, rest)
   unfolding same_symbol
-  aggregate-all s.Count op ts a rest is h =
+  aggregated-all _ _ _ rest g.of_star st = refl
+  aggregated-all _ _ _ rest g.of_nothing st = refl
+  aggregated-all _ _ _ rest (g.of_argument keyword.Count op ts a is h) st =
       let same : agg.Count ≡ op = cc in
-      ap (λ t. cond t (d.ended (drop 1 ((ts ++ Fixed s.CloseParen ∷ []) ++ rest))) (closed inner (tree.Agg agg.Count) ((ts ++ Fixed s.CloseParen ∷ []) ++ rest))) (no-star ts a rest h)
-      ∙ closed-all (tree.Agg agg.Count) ts a rest h ∙ ap (λ (o : AggOp). Some (tree.Agg o a, rest)) same
-  aggregate-all s.Sum op ts a rest is h = let same : agg.Sum ≡ op = cc in closed-all (tree.Agg agg.Sum) ts a rest h ∙ ap (λ (o : AggOp). Some (tree.Agg o a, rest)) same
-  aggregate-all s.Min op ts a rest is h = let same : agg.Min ≡ op = cc in closed-all (tree.Agg agg.Min) ts a rest h ∙ ap (λ (o : AggOp). Some (tree.Agg o a, rest)) same
-  aggregate-all s.Max op ts a rest is h = let same : agg.Max ≡ op = cc in closed-all (tree.Agg agg.Max) ts a rest h ∙ ap (λ (o : AggOp). Some (tree.Agg o a, rest)) same
-  aggregate-all _ op ts a rest is h = absurd (cc)
+      ap (λ t. cond t (Some (tree.AggAll agg.CountAll, drop 1 (ts ++ rest))) (d.aggregate inner agg.Count (ts ++ rest))) (no-star ts a rest h st)
+      ∙ of_argument-all agg.Count ts a rest h st ∙ ap (λ (o : AggOp). Some (tree.Agg o a, rest)) same
+  aggregated-all _ _ _ rest (g.of_argument keyword.Sum op ts a is h) st = let same : agg.Sum ≡ op = cc in of_argument-all agg.Sum ts a rest h st ∙ ap (λ (o : AggOp). Some (tree.Agg o a, rest)) same
+  aggregated-all _ _ _ rest (g.of_argument keyword.Min op ts a is h) st = let same : agg.Min ≡ op = cc in of_argument-all agg.Min ts a rest h st ∙ ap (λ (o : AggOp). Some (tree.Agg o a, rest)) same
+  aggregated-all _ _ _ rest (g.of_argument keyword.Max op ts a is h) st = let same : agg.Max ≡ op = cc in of_argument-all agg.Max ts a rest h st ∙ ap (λ (o : AggOp). Some (tree.Agg o a, rest)) same
+  aggregated-all _ _ _ rest (g.of_argument _ op ts a is h) st = absurd (cc)
+
+  called-all : (word : Keyword) (ts : Input) (a : Tree) (rest : Input) → IsAggregated Inner word ts a → fixed_by inner (Word word) (Fixed s.OpenParen ∷ (ts ++ Fixed s.CloseParen ∷ []) ++ rest) ≡ Some (a, rest)
+  called-all word ts a rest h = by word ts a h (in_parens-all (aggregated inner word) (IsAggregated Inner word) goes_on (record { reads = aggregated-all word }) not_closing ts a rest h)
+    where
+      by : (word : Keyword) (ts : Input) (a : Tree) → IsAggregated Inner word ts a → in_parens (aggregated inner word) (Fixed s.OpenParen ∷ (ts ++ Fixed s.CloseParen ∷ []) ++ rest) ≡ Some (a, rest)
+          → fixed_by inner (Word word) (Fixed s.OpenParen ∷ (ts ++ Fixed s.CloseParen ∷ []) ++ rest) ≡ Some (a, rest)
+      by keyword.True _ _ (g.of_argument _ op _ _ is k) e = absurd (cc)
+      by keyword.False _ _ (g.of_argument _ op _ _ is k) e = absurd (cc)
+      by _ _ _ k e = e
 
   primary-all : (ts : Input) (a : Tree) (rest : Input) → Primary Inner ts a → stops is_dot rest ≡ true → d.primary inner (ts ++ rest) ≡ Some (a, rest)
   unfolding d.primary same_symbol
@@ -202,14 +163,12 @@ module _ (inner : Rule Tree) (Inner : Input → Tree → Type 0) (goes_on : Term
   primary-all _ _ rest (g.string n) st = refl
   primary-all _ _ rest g.truth st = refl
   primary-all _ _ rest g.falsehood st = refl
-  primary-all _ _ rest (g.reference _ _ (plain_name n)) st = ap (λ (o : Outcome ColRef). o >>= λ c rest. Some (tree.Col c, rest)) (column_behind-all [] n _ rest (plain_name n) st)
+  primary-all _ _ rest (g.reference _ _ (plain_name n)) st = ap (λ (o : Parsed ColRef). o >>= λ c rest. Some (tree.Col c, rest)) (column_behind-all [] n _ rest (plain_name n) st)
   primary-all _ _ rest (g.reference _ _ (plain_place p)) st = refl
   primary-all _ _ rest (g.reference _ _ (alias_name n m)) st = refl
   primary-all _ _ rest (g.reference _ _ (alias_place n p)) st = refl
-  primary-all _ _ rest (g.grouped ts a h) st = closed-all (λ a. a) ts a rest h
-  primary-all _ _ rest g.count_star st = refl
-  primary-all _ _ rest g.count_all st = refl
-  primary-all _ _ rest (g.aggregate symbol op ts e is h) st = aggregate-all symbol op ts e rest is h
+  primary-all _ _ rest (g.grouped ts a h) st = closed-all inner Inner goes_on complete not_closing ts a rest h
+  primary-all _ _ rest (g.aggregate word ts e h) st = called-all word ts e rest h
 
   pub primary-complete : Complete (d.primary inner) (Primary Inner) is_dot
   primary-complete = record { reads = primary-all }
@@ -229,7 +188,7 @@ number_ahead-front (Name n ∷ ts) rest e = refl
 number_ahead-front (Quoted n ∷ ts) rest e = refl
 number_ahead-front (Fixed n ∷ ts) rest e = refl
 
-module _ (inner : Rule Tree) (Inner : Input → Tree → Type 0) where
+module _ (inner : Parser Tree) (Inner : Input → Tree → Type 0) where
   minus-reads : (i : Input) (a : Tree) (rest : Input) → number_ahead i ≡ false → ((b : Tree) (end : Input) → d.signed inner i ≡ Some (b, end) → Reading (Signed Inner) i b end)
       → (d.signed inner i >>= λ a end. Some (tree.Neg a, end)) ≡ Some (a, rest) → Reading (Signed Inner) (Fixed s.Minus ∷ i) a rest
   minus-reads i a rest none further e =
@@ -263,11 +222,11 @@ module _ (inner : Rule Tree) (Inner : Input → Tree → Type 0) where
 
   -- what is read behind a minus sign where no number is ahead
   behind-all : (i : Input) (a : Tree) (rest : Input) → number_ahead i ≡ false → d.signed inner i ≡ Some (a, rest) → d.behind_minus inner (first i) (drop 1 i) (d.signed inner i) ≡ Some (tree.Neg a, rest)
-  behind-all [] a rest none e = ap (λ (o : Outcome Tree). o >>= λ a end. Some (tree.Neg a, end)) e
+  behind-all [] a rest none e = ap (λ (o : Parsed Tree). o >>= λ a end. Some (tree.Neg a, end)) e
   behind-all (Number n ∷ i) a rest none e = absurd (cc)
-  behind-all (Name n ∷ i) a rest none e = ap (λ (o : Outcome Tree). o >>= λ a end. Some (tree.Neg a, end)) e
-  behind-all (Quoted n ∷ i) a rest none e = ap (λ (o : Outcome Tree). o >>= λ a end. Some (tree.Neg a, end)) e
-  behind-all (Fixed n ∷ i) a rest none e = ap (λ (o : Outcome Tree). o >>= λ a end. Some (tree.Neg a, end)) e
+  behind-all (Name n ∷ i) a rest none e = ap (λ (o : Parsed Tree). o >>= λ a end. Some (tree.Neg a, end)) e
+  behind-all (Quoted n ∷ i) a rest none e = ap (λ (o : Parsed Tree). o >>= λ a end. Some (tree.Neg a, end)) e
+  behind-all (Fixed n ∷ i) a rest none e = ap (λ (o : Parsed Tree). o >>= λ a end. Some (tree.Neg a, end)) e
 
   -- no more than a number is read where one is ahead
   number-alone : (n : ℕ) (x : Terminal) (ts : Input) (a : Tree) (rest : Input) → d.signed inner (Number n ∷ x ∷ ts ++ rest) ≡ Some (a, rest) → ⊥

@@ -6,15 +6,19 @@ use Rattle.myrial_ast.specs.Trees as tree
 use Rattle.myrial_ast.specs.Trees.{Tree}
 use Rattle.myrial_parser.specs.declared.expressions.Level.{Level}
 use Rattle.myrial_parser.specs.declared.expressions.Level.TheVariants as level
+use Rattle.myrial_lexer.specs.declared.kinds.Sign.TheVariants as sign
+use Rattle.myrial_parser.specs.declared.terminals.Keyword.{Keyword}
+use Rattle.myrial_parser.specs.declared.terminals.Keyword.TheVariants as keyword
 use Rattle.myrial_parser.specs.declared.terminals.Symbol.{Symbol}
-use Rattle.myrial_parser.specs.declared.terminals.Symbol.TheVariants as s
+use Rattle.myrial_parser.specs.declared.terminals.Symbol.TheVariants.{Keyword as Word, Sign}
+use Rattle.myrial_parser.specs.Symbols as s
 use Rattle.myrial_parser.specs.Terminals.{Terminal, Fixed}
 use Rattle.myrial_parser.specs.Phrases.{Chain, alone, joined, Pair, single, compared, Prefixed, plain, behind}
 use Rattle.myrial_parser.specs.Grammar as g
-use Rattle.myrial_parser.specs.Grammar.{Primary, Signed, or_sign, and_sign, sum_sign, product_sign, comparison_sign, Expression, IsExpression}
-use Rattle.myrial_parser.specs.Descent as d
-use Rattle.myrial_parser.specs.Descent.{Input, Outcome, Rule, same_symbol, expression}
-use Rattle.myrial_parser.proofs.RuleLemmas.{Sound, Complete, stops, either, chain-sound, chain-complete, pair-sound, pair-complete, prefixed-sound, prefixed-complete, same_value}
+use Rattle.myrial_parser.specs.Grammar.{IsAggregated, Primary, Signed, or_sign, and_sign, sum_sign, product_sign, comparison_sign, Expression, IsExpression}
+use Rattle.myrial_parser.specs.inner.Descent as d
+use Rattle.myrial_parser.specs.inner.Descent.{Input, Parsed, Parser, same_symbol, expression}
+use Rattle.myrial_parser.proofs.ParserLemmas.{Sound, Complete, stops, either, chain-sound, chain-complete, pair-sound, pair-complete, prefixed-sound, prefixed-complete, same_value, chain-none, pair-none, in_parens-none}
 use Rattle.myrial_parser.proofs.ExpressionLemmas.{is_dot, primary-sound, primary-complete, signed-sound, signed-complete}
 
 -- ---- what goes on with an expression at each level
@@ -39,38 +43,38 @@ past_expression = either past_conjunction (is_sign_of or_sign)
 
 product-apart : (x : Terminal) (op : BinOp) → product_sign x ≡ Some op → is_dot x ≡ false
 unfolding same_symbol
-product-apart (Fixed s.Star) op e = refl
+product-apart (Fixed (Sign sign.Star)) op e = refl
 product-apart _ op e = absurd (cc)
 
 sum-apart : (x : Terminal) (op : BinOp) → sum_sign x ≡ Some op → past_product x ≡ false
 unfolding same_symbol
-sum-apart (Fixed s.Plus) op e = refl
-sum-apart (Fixed s.Minus) op e = refl
+sum-apart (Fixed (Sign sign.Plus)) op e = refl
+sum-apart (Fixed (Sign sign.Minus)) op e = refl
 sum-apart _ op e = absurd (cc)
 
 comparison-apart : (x : Terminal) (op : BinOp) → comparison_sign x ≡ Some op → past_sum x ≡ false
 unfolding same_symbol
-comparison-apart (Fixed s.Eq) op e = refl
-comparison-apart (Fixed s.Ne) op e = refl
-comparison-apart (Fixed s.Lt) op e = refl
-comparison-apart (Fixed s.Le) op e = refl
-comparison-apart (Fixed s.Gt) op e = refl
-comparison-apart (Fixed s.Ge) op e = refl
+comparison-apart (Fixed (Sign sign.Eq)) op e = refl
+comparison-apart (Fixed (Sign sign.Ne)) op e = refl
+comparison-apart (Fixed (Sign sign.Lt)) op e = refl
+comparison-apart (Fixed (Sign sign.Le)) op e = refl
+comparison-apart (Fixed (Sign sign.Gt)) op e = refl
+comparison-apart (Fixed (Sign sign.Ge)) op e = refl
 comparison-apart _ op e = absurd (cc)
 
 and-apart : (x : Terminal) (op : BinOp) → and_sign x ≡ Some op → past_comparison x ≡ false
 unfolding same_symbol
-and-apart (Fixed s.And) op e = refl
+and-apart (Fixed (Word keyword.And)) op e = refl
 and-apart _ op e = absurd (cc)
 
 or-apart : (x : Terminal) (op : BinOp) → or_sign x ≡ Some op → past_conjunction x ≡ false
 unfolding same_symbol
-or-apart (Fixed s.Or) op e = refl
+or-apart (Fixed (Word keyword.Or)) op e = refl
 or-apart _ op e = absurd (cc)
 
 -- ---- the levels over an inner expression
 
-module _ (inner : Rule Tree) (Inner : Input → Tree → Type 0) (sound : Sound inner Inner) where
+module _ (inner : Parser Tree) (Inner : Input → Tree → Type 0) (sound : Sound inner Inner) where
   product-sound : Sound (d.product inner) (g.Product Inner)
   unfolding d.product
   product-sound = chain-sound product_sign (d.signed inner) (Signed Inner) (signed-sound inner Inner (primary-sound inner Inner sound))
@@ -96,15 +100,20 @@ module _ (inner : Rule Tree) (Inner : Input → Tree → Type 0) (sound : Sound 
   disjunction-sound = chain-sound or_sign (d.conjunction inner) (g.Conjunction Inner) conjunction-sound
 
 -- no expression begins with such a symbol
-not_refused : (inner : Rule Tree) (i : Input) → d.comparison inner (Fixed s.Not ∷ i) ≡ None
+not_refused : (inner : Parser Tree) (i : Input) → d.comparison inner (Fixed s.Not ∷ i) ≡ None
 unfolding d.comparison d.sum d.product d.signed d.primary same_symbol
-not_refused inner i = refl
+not_refused inner i =
+    let all = Fixed s.Not ∷ i in
+    let primary : d.primary inner all ≡ None = in_parens-none (d.aggregated inner keyword.Not) i (λ j. refl) in
+    let product = chain-none product_sign (d.signed inner) all primary in
+    let sum = chain-none sum_sign (d.product inner) all product in
+    pair-none comparison_sign (d.sum inner) all sum
 
-star_refused : (inner : Rule Tree) (i : Input) → d.disjunction inner (Fixed s.Star ∷ i) ≡ None
+star_refused : (inner : Parser Tree) (i : Input) → d.disjunction inner (Fixed s.Star ∷ i) ≡ None
 unfolding d.disjunction d.conjunction d.negation d.comparison d.sum d.product d.signed d.primary same_symbol
 star_refused inner i = refl
 
-module _ (inner : Rule Tree) (Inner : Input → Tree → Type 0) (complete : Complete inner Inner past_expression) (no_star : (i : Input) → inner (Fixed s.Star ∷ i) ≡ None) where
+module _ (inner : Parser Tree) (Inner : Input → Tree → Type 0) (complete : Complete inner Inner past_expression) (no_star : (i : Input) → inner (Fixed s.Star ∷ i) ≡ None) where
   closing_apart : past_expression (Fixed s.CloseParen) ≡ false
   unfolding same_symbol
   closing_apart = refl
@@ -174,6 +183,11 @@ module _ (R S : Input → Tree → Type 0) (most : ℕ) (same : (ts : Input) (a 
 
 -- the same of inner expressions, which are shorter by two parentheses
 module _ (R S : Input → Tree → Type 0) (most : ℕ) (same : (ts : Input) (a : Tree) → length ts < most → R ts a → S ts a) where
+  aggregated-short : (word : Keyword) (ts : Input) (a : Tree) → length ts < most → IsAggregated R word ts a → IsAggregated S word ts a
+  aggregated-short _ _ _ less g.of_star = g.of_star
+  aggregated-short _ _ _ less g.of_nothing = g.of_nothing
+  aggregated-short _ _ _ less (g.of_argument word op ts a e h) = g.of_argument word op ts a e (same ts a less h)
+
   primary-short : (ts : Input) (a : Tree) → length ts ≤ most → Primary R ts a → Primary S ts a
   primary-short _ _ short (g.number n) = g.number n
   primary-short _ _ short (g.string n) = g.string n
@@ -181,9 +195,7 @@ module _ (R S : Input → Tree → Type 0) (most : ℕ) (same : (ts : Input) (a 
   primary-short _ _ short g.falsehood = g.falsehood
   primary-short _ _ short (g.reference ts c h) = g.reference ts c h
   primary-short _ _ short (g.grouped ts a h) = let lens = length-append ts (Fixed s.CloseParen ∷ []) in g.grouped ts a (same ts a (omega arith) h)
-  primary-short _ _ short g.count_star = g.count_star
-  primary-short _ _ short g.count_all = g.count_all
-  primary-short _ _ short (g.aggregate symbol op ts a e h) = let lens = length-append ts (Fixed s.CloseParen ∷ []) in g.aggregate symbol op ts a e (same ts a (omega arith) h)
+  primary-short _ _ short (g.aggregate word ts a h) = let lens = length-append ts (Fixed s.CloseParen ∷ []) in g.aggregate word ts a (aggregated-short word ts a (omega arith) h)
 
   signed-short : (ts : Input) (a : Tree) → length ts ≤ most → Signed R ts a → Signed S ts a
   signed-short ts a short (g.unsigned _ _ h) = g.unsigned ts a (primary-short ts a short h)
@@ -218,7 +230,7 @@ expression-unique ts a b h k =
     same_value a b [] [] (sym left ∙ right)
 
 -- the operands of a level, with its operators between them
-pub chain_at-is : (inner : Rule Tree) (level : Level) (i : Input) → d.chain_at inner level i ≡ d.chain (d.sign_at level) (d.operand_at inner level) i
+pub chain_at-is : (inner : Parser Tree) (level : Level) (i : Input) → d.chain_at inner level i ≡ d.chain (d.sign_at level) (d.operand_at inner level) i
 unfolding d.product d.sum d.conjunction d.disjunction
 chain_at-is inner level.Disjunction i = refl
 chain_at-is inner level.Conjunction i = refl

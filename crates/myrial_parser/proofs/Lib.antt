@@ -1,4 +1,4 @@
-pub mod RuleLemmas
+pub mod ParserLemmas
 pub mod ExpressionLemmas
 pub mod LevelLemmas
 pub mod DigitLemmas

@@ -9,15 +9,19 @@ use Rattle.myrial_ast.specs.declared.relations.Operand.TheVariants as source
 use Rattle.myrial_ast.specs.declared.relations.FromItem.{FromItem}
 use Rattle.myrial_ast.specs.Trees as tree
 use Rattle.myrial_ast.specs.Trees.{Tree, EmitTree, RelTree}
+use Rattle.myrial_lexer.specs.declared.kinds.Sign.TheVariants as sign
+use Rattle.myrial_parser.specs.declared.terminals.Keyword.{Keyword}
+use Rattle.myrial_parser.specs.declared.terminals.Keyword.TheVariants as keyword
 use Rattle.myrial_parser.specs.declared.terminals.Symbol.{Symbol}
-use Rattle.myrial_parser.specs.declared.terminals.Symbol.TheVariants as s
+use Rattle.myrial_parser.specs.declared.terminals.Symbol.TheVariants.{Keyword as Word, Sign}
+use Rattle.myrial_parser.specs.Symbols as s
 use Rattle.myrial_parser.specs.Terminals.{Terminal, Fixed, Name, Number, Quoted}
 use Rattle.myrial_parser.specs.Phrases.{Separated}
 use Rattle.myrial_parser.specs.Grammar as g
-use Rattle.myrial_parser.specs.Grammar.{IsKey, own_key, program_key, user_key, IsSource, named_source, scanned_source, IsColumnDefinition, typed, IsItem, unaliased, aliased, IsCondition, absent, present, IsEmit, all_columns, columns_of, unnamed, named, IsExpression, IsRelation, type_of, own_name}
-use Rattle.myrial_parser.specs.Descent as d
-use Rattle.myrial_parser.specs.Descent.{Input, Outcome, Rule, ◌>>=◌, is_symbol, sees, expect, name, in_parens, key_behind, key_behind_two, kind_of, name_behind_as, same_symbol}
-use Rattle.myrial_parser.proofs.RuleLemmas.{Complete, stops, either, stops-left, stops-right, same_rest, sees-is}
+use Rattle.myrial_parser.specs.Grammar.{IsKey, own_key, program_key, user_key, IsSource, named_source, scanned_source, IsColumnDefinition, typed, IsItem, unaliased, aliased, IsCondition, absent, present, IsEmit, all_columns, columns_of, unnamed, named, IsExpression, IsArgument, IsRelation, type_of, own_name}
+use Rattle.myrial_parser.specs.inner.Descent as d
+use Rattle.myrial_parser.specs.inner.Descent.{Input, Parsed, Parser, ◌>>=◌, is_symbol, sees, expect, name, in_parens, key_behind, key_behind_two, kind_of, name_behind_as, separated, same_symbol}
+use Rattle.myrial_parser.proofs.ParserLemmas.{Complete, stops, either, stops-left, stops-right, same_rest, sees-is, in_parens-all, chain-none, pair-none}
 use Rattle.myrial_parser.proofs.SeparatedLemmas.{is_comma, separated-complete}
 use Rattle.myrial_parser.proofs.ExpressionLemmas.{is_dot}
 use Rattle.myrial_parser.proofs.LevelLemmas.{past_product, past_sum, past_comparison, past_conjunction, past_expression, expression-read, expression-refuses_star}
@@ -46,19 +50,9 @@ unseen symbol (x ∷ i) e = by (is_it symbol x) e
     by false e = refl
 
 -- a phrase that is read has a terminal, where none is read of nothing
-pub some-from_complete : {A : Type 0} (rule : Rule A) (Is : Input → A → Type 0) (goes_on : Terminal → Bool) → Complete rule Is goes_on → rule [] ≡ None → (ts : Input) (a : A) → Is ts a → 0 < length ts
+pub some-from_complete : {A : Type 0} (rule : Parser A) (Is : Input → A → Type 0) (goes_on : Terminal → Bool) → Complete rule Is goes_on → rule [] ≡ None → (ts : Input) (a : A) → Is ts a → 0 < length ts
 some-from_complete rule Is goes_on complete none [] a h = let some = complete.reads [] a [] h refl in absurd (cc)
 some-from_complete rule Is goes_on complete none (x ∷ ts) a h = omega arith
-
--- ---- parentheses
-
--- what stands in parentheses is read
-pub in_parens-all : {A B : Type 0} (node : A → B) (rule : Rule A) (Is : Input → A → Type 0) (goes_on : Terminal → Bool) → Complete rule Is goes_on → goes_on (Fixed s.CloseParen) ≡ false
-    → (ts : Input) (a : A) (rest : Input) → Is ts a → in_parens node rule (Fixed s.OpenParen ∷ (ts ++ Fixed s.CloseParen ∷ []) ++ rest) ≡ Some (node a, rest)
-unfolding same_symbol
-in_parens-all {A = A} node rule Is goes_on complete closing ts a rest h =
-    ap (λ (o : Outcome A). o >>= λ b end. expect s.CloseParen end >>= λ _ behind. Some (node b, behind))
-    (ap rule (append_assoc ts (Fixed s.CloseParen ∷ []) rest) ∙ complete.reads ts a (Fixed s.CloseParen ∷ rest) h (ap (λ b. cond b false true) closing))
 
 -- ---- keys and operands
 
@@ -80,7 +74,7 @@ colon-apart = refl
 source-all : (ts : Input) (o : Operand) (rest : Input) → IsSource ts o → stops nothing rest ≡ true → d.source (ts ++ rest) ≡ Some (o, rest)
 unfolding d.source same_symbol
 source-all _ _ rest (named_source n) st = refl
-source-all _ _ rest (scanned_source ts k h) st = in_parens-all source.Scan d.key IsKey (is_it s.Colon) key-complete colon-apart ts k rest h
+source-all _ _ rest (scanned_source ts k h) st = ap (λ (r : Parsed Key). r >>= λ k rest. Some (source.Scan k, rest)) (in_parens-all d.key IsKey (is_it s.Colon) key-complete colon-apart ts k rest h)
 
 pub source-complete : Complete d.source IsSource nothing
 source-complete = record { reads = source-all }
@@ -89,8 +83,8 @@ two_sources-all : (ts : Input) (p : Operand × Operand) (rest : Input) → IsTwo
 unfolding d.two_sources same_symbol
 two_sources-all _ _ rest (both_sources ts us o p h k) st =
     ap d.two_sources (append_assoc ts (Fixed s.Comma ∷ us) rest)
-    ∙ ap (λ (r : Outcome Operand). r >>= λ left rest. expect s.Comma rest >>= λ _ behind. d.source behind >>= λ right end. Some ((left, right), end)) (source-all ts o (Fixed s.Comma ∷ us ++ rest) h refl)
-    ∙ ap (λ (r : Outcome Operand). r >>= λ right end. Some ((o, right), end)) (source-all us p rest k st)
+    ∙ ap (λ (r : Parsed Operand). r >>= λ left rest. expect s.Comma rest >>= λ _ behind. d.source behind >>= λ right end. Some ((left, right), end)) (source-all ts o (Fixed s.Comma ∷ us ++ rest) h refl)
+    ∙ ap (λ (r : Parsed Operand). r >>= λ right end. Some ((o, right), end)) (source-all us p rest k st)
 
 pub two_sources-complete : Complete d.two_sources IsTwo nothing
 two_sources-complete = record { reads = two_sources-all }
@@ -108,9 +102,8 @@ no_column : d.column_definition [] ≡ None
 unfolding d.column_definition
 no_column = refl
 
-pub column_definitions-complete : Complete d.column_definitions (Separated IsColumnDefinition) (either nothing is_comma)
-unfolding d.column_definitions
-column_definitions-complete =
+columns-complete : Complete (separated d.column_definition) (Separated IsColumnDefinition) (either nothing is_comma)
+columns-complete =
     separated-complete d.column_definition IsColumnDefinition nothing column_definition-complete refl (some-from_complete d.column_definition IsColumnDefinition nothing column_definition-complete no_column)
 
 -- ---- items
@@ -121,11 +114,11 @@ name_behind_as-none rest st = ap (λ t. cond t (name (drop 1 rest) >>= λ n end.
 item-all : (ts : Input) (b : FromItem) (rest : Input) → IsItem ts b → stops (is_it s.As) rest ≡ true → d.item (ts ++ rest) ≡ Some (b, rest)
 unfolding d.item same_symbol
 item-all ts _ rest (unaliased _ o h) st =
-    ap (λ (r : Outcome Operand). r >>= λ o rest. name_behind_as rest >>= λ alias end. Some (record { source = o; alias = unwrap_or alias (own_name o) }, end)) (source-all ts o rest h (stops-nothing rest))
-    ∙ ap (λ (r : Outcome (Option (List ℕ))). r >>= λ alias end. Some (record { source = o; alias = unwrap_or alias (own_name o) }, end)) (name_behind_as-none rest st)
+    ap (λ (r : Parsed Operand). r >>= λ o rest. name_behind_as rest >>= λ alias end. Some (record { source = o; alias = unwrap_or alias (own_name o) }, end)) (source-all ts o rest h (stops-nothing rest))
+    ∙ ap (λ (r : Parsed (Option (List ℕ))). r >>= λ alias end. Some (record { source = o; alias = unwrap_or alias (own_name o) }, end)) (name_behind_as-none rest st)
 item-all _ _ rest (aliased ts o n h) st =
     ap d.item (append_assoc ts (Fixed s.As ∷ Name n ∷ []) rest)
-    ∙ ap (λ (r : Outcome Operand). r >>= λ o rest. name_behind_as rest >>= λ alias end. Some (record { source = o; alias = unwrap_or alias (own_name o) }, end)) (source-all ts o (Fixed s.As ∷ Name n ∷ rest) h refl)
+    ∙ ap (λ (r : Parsed Operand). r >>= λ o rest. name_behind_as rest >>= λ alias end. Some (record { source = o; alias = unwrap_or alias (own_name o) }, end)) (source-all ts o (Fixed s.As ∷ Name n ∷ rest) h refl)
 
 pub item-complete : Complete d.item IsItem (is_it s.As)
 item-complete = record { reads = item-all }
@@ -138,8 +131,7 @@ as-apart : is_it s.As (Fixed s.Comma) ≡ false
 unfolding same_symbol
 as-apart = refl
 
-pub items-complete : Complete d.items (Separated IsItem) (either (is_it s.As) is_comma)
-unfolding d.items
+items-complete : Complete (separated d.item) (Separated IsItem) (either (is_it s.As) is_comma)
 items-complete = separated-complete d.item IsItem (is_it s.As) item-complete as-apart (some-from_complete d.item IsItem (is_it s.As) item-complete no_item)
 
 -- ---- conditions and emit items
@@ -157,10 +149,10 @@ whole_expression-complete = record { reads = whole_expression-all }
 pub condition-all : (us : Input) (c : Option Tree) (rest : Input) → IsCondition us c → d.condition (us ++ Fixed s.Emit ∷ rest) ≡ Some (c, Fixed s.Emit ∷ rest)
 unfolding d.condition same_symbol
 condition-all _ _ rest absent = refl
-condition-all _ _ rest (present ts e h) = ap (λ (o : Outcome Tree). o >>= λ a rest. Some (Some a, rest)) (whole_expression-all ts e (Fixed s.Emit ∷ rest) h refl)
+condition-all _ _ rest (present ts e h) = ap (λ (o : Parsed Tree). o >>= λ a rest. Some (Some a, rest)) (whole_expression-all ts e (Fixed s.Emit ∷ rest) h refl)
 
 -- no expression begins with a dot
-dot_refused : (inner : Rule Tree) (i : Input) → d.disjunction inner (Fixed s.Dot ∷ i) ≡ None
+dot_refused : (inner : Parser Tree) (i : Input) → d.disjunction inner (Fixed s.Dot ∷ i) ≡ None
 unfolding d.disjunction d.conjunction d.negation d.comparison d.sum d.product d.signed d.primary same_symbol
 dot_refused inner i = refl
 
@@ -170,17 +162,11 @@ expression-refuses_dot zero i = refl
 expression-refuses_dot (suc n) i = dot_refused (d.expression n) i
 
 -- an opening parenthesis begins no expression where none can follow it
-chain-none : (sign : Terminal → Option BinOp) (operand : Rule Tree) (i : Input) → operand i ≡ None → d.chain sign operand i ≡ None
-chain-none sign operand i h = ap (λ (o : Outcome Tree). o >>= λ left rest. d.chain_from sign operand (length rest) left rest) h
-
-pair-none : (sign : Terminal → Option BinOp) (operand : Rule Tree) (i : Input) → operand i ≡ None → d.pair sign operand i ≡ None
-pair-none sign operand i h = ap (λ (o : Outcome Tree). o >>= λ left rest. d.pair_by sign operand left (d.operator_ahead sign rest) rest) h
-
-open_refused : (inner : Rule Tree) (i : Input) → inner i ≡ None → d.disjunction inner (Fixed s.OpenParen ∷ i) ≡ None
+open_refused : (inner : Parser Tree) (i : Input) → inner i ≡ None → d.disjunction inner (Fixed s.OpenParen ∷ i) ≡ None
 unfolding d.disjunction d.conjunction d.negation d.comparison d.sum d.product d.signed d.primary same_symbol
 open_refused inner i h =
     let all = Fixed s.OpenParen ∷ i in
-    let primary : d.primary inner all ≡ None = ap (λ (o : Outcome Tree). o >>= λ a rest. expect s.CloseParen rest >>= λ _ end. Some (a, end)) h in
+    let primary : d.primary inner all ≡ None = ap (λ (o : Parsed Tree). o >>= λ a rest. expect s.CloseParen rest >>= λ _ end. Some (a, end)) h in
     let product = chain-none g.product_sign (d.signed inner) all primary in
     let sum = chain-none g.sum_sign (d.product inner) all product in
     let comparison = pair-none g.comparison_sign (d.sum inner) all sum in
@@ -188,15 +174,15 @@ open_refused inner i h =
     chain-none g.or_sign (d.conjunction inner) all conjunction
 
 -- no expression begins with a terminal, a dot and a star, or ends in front of the dot
-dotted : (inner : Rule Tree) → ((i : Input) → inner (Fixed s.Dot ∷ i) ≡ None) → (x : Terminal) (i : Input) (a : Tree) (rest : Input)
+dotted : (inner : Parser Tree) → ((i : Input) → inner (Fixed s.Dot ∷ i) ≡ None) → (x : Terminal) (i : Input) (a : Tree) (rest : Input)
     → d.disjunction inner (x ∷ Fixed s.Dot ∷ Fixed s.Star ∷ i) ≡ Some (a, rest) → stops is_dot rest ≡ true → ⊥
 unfolding d.disjunction d.conjunction d.negation d.comparison d.sum d.product d.signed d.primary same_symbol
 dotted inner refuses (Name n) i a rest e st = cc
 dotted inner refuses (Number n) i a rest e st = let same = ap (stops is_dot) (same_rest _ a (Fixed s.Dot ∷ Fixed s.Star ∷ i) rest e) in cc
 dotted inner refuses (Quoted n) i a rest e st = let same = ap (stops is_dot) (same_rest _ a (Fixed s.Dot ∷ Fixed s.Star ∷ i) rest e) in cc
-dotted inner refuses (Fixed s.True) i a rest e st = let same = ap (stops is_dot) (same_rest _ a (Fixed s.Dot ∷ Fixed s.Star ∷ i) rest e) in cc
-dotted inner refuses (Fixed s.False) i a rest e st = let same = ap (stops is_dot) (same_rest _ a (Fixed s.Dot ∷ Fixed s.Star ∷ i) rest e) in cc
-dotted inner refuses (Fixed s.OpenParen) i a rest e st = let none = open_refused inner (Fixed s.Dot ∷ Fixed s.Star ∷ i) (refuses (Fixed s.Star ∷ i)) in let other : Some (a, rest) ≡ None = sym e ∙ none in cc
+dotted inner refuses (Fixed (Word keyword.True)) i a rest e st = let same = ap (stops is_dot) (same_rest _ a (Fixed s.Dot ∷ Fixed s.Star ∷ i) rest e) in cc
+dotted inner refuses (Fixed (Word keyword.False)) i a rest e st = let same = ap (stops is_dot) (same_rest _ a (Fixed s.Dot ∷ Fixed s.Star ∷ i) rest e) in cc
+dotted inner refuses (Fixed (Sign sign.OpenParen)) i a rest e st = let none = open_refused inner (Fixed s.Dot ∷ Fixed s.Star ∷ i) (refuses (Fixed s.Star ∷ i)) in let other : Some (a, rest) ≡ None = sym e ∙ none in cc
 dotted inner refuses (Fixed _) i a rest e st = cc
 
 -- no expression is read where all columns of an alias are emitted
@@ -234,13 +220,13 @@ emit-all ts _ rest (unnamed _ e h) st =
     let here = stops-left past_expression (is_it s.As) rest st in
     let whole = whole_expression-all ts e rest h here in
     emit-on (ts ++ rest) e rest whole (stops-dot rest here)
-    ∙ ap (λ (o : Outcome Tree). o >>= λ a rest. name_behind_as rest >>= λ n end. Some (tree.One a n, end)) whole
-    ∙ ap (λ (o : Outcome (Option (List ℕ))). o >>= λ n end. Some (tree.One e n, end)) (name_behind_as-none rest (stops-right past_expression (is_it s.As) rest st))
+    ∙ ap (λ (o : Parsed Tree). o >>= λ a rest. name_behind_as rest >>= λ n end. Some (tree.One a n, end)) whole
+    ∙ ap (λ (o : Parsed (Option (List ℕ))). o >>= λ n end. Some (tree.One e n, end)) (name_behind_as-none rest (stops-right past_expression (is_it s.As) rest st))
 emit-all _ _ rest (named ts e n h) st =
     let whole = whole_expression-all ts e (Fixed s.As ∷ Name n ∷ rest) h refl in
     ap d.emit (append_assoc ts (Fixed s.As ∷ Name n ∷ []) rest)
     ∙ emit-on (ts ++ Fixed s.As ∷ Name n ∷ rest) e (Fixed s.As ∷ Name n ∷ rest) whole refl
-    ∙ ap (λ (o : Outcome Tree). o >>= λ a rest. name_behind_as rest >>= λ n end. Some (tree.One a n, end)) whole
+    ∙ ap (λ (o : Parsed Tree). o >>= λ a rest. name_behind_as rest >>= λ n end. Some (tree.One a n, end)) whole
 
 pub emit-complete : Complete d.emit IsEmit (either past_expression (is_it s.As))
 emit-complete = record { reads = emit-all }
@@ -253,8 +239,7 @@ comma-apart : either past_expression (is_it s.As) (Fixed s.Comma) ≡ false
 unfolding same_symbol
 comma-apart = refl
 
-pub emits-complete : Complete d.emits (Separated IsEmit) (either (either past_expression (is_it s.As)) is_comma)
-unfolding d.emits
+emits-complete : Complete (separated d.emit) (Separated IsEmit) (either (either past_expression (is_it s.As)) is_comma)
 emits-complete =
     separated-complete d.emit IsEmit (either past_expression (is_it s.As)) emit-complete comma-apart (some-from_complete d.emit IsEmit (either past_expression (is_it s.As)) emit-complete no_emit)
 
@@ -271,33 +256,46 @@ comprehension-all : (ts us vs : Input) (items : List FromItem) (condition : Opti
 unfolding d.comprehension same_symbol
 comprehension-all ts us vs items condition emits rest h k l =
     ap (λ (i : Input). d.comprehension (Fixed s.From ∷ i)) joined
-    ∙ ap (λ (o : Outcome (List FromItem)). o >>= λ from rest. d.condition rest >>= λ where_ rest. expect s.Emit rest >>= λ _ rest. d.emits rest >>= λ all rest. expect s.CloseBracket rest >>= λ _ end. Some (tree.From from where_ all, end))
+    ∙ ap (λ (o : Parsed (List FromItem)). o >>= λ from rest. d.condition rest >>= λ where_ rest. expect s.Emit rest >>= λ _ rest. separated d.emit rest >>= λ all rest. expect s.CloseBracket rest >>= λ _ end. Some (tree.From from where_ all, end))
     (items-complete.reads ts items (us ++ (Fixed s.Emit ∷ (vs ++ (Fixed s.CloseBracket ∷ rest)))) h (condition-stops us condition (vs ++ Fixed s.CloseBracket ∷ rest) k))
-    ∙ ap (λ (o : Outcome (Option Tree)). o >>= λ where_ rest. expect s.Emit rest >>= λ _ rest. d.emits rest >>= λ all rest. expect s.CloseBracket rest >>= λ _ end. Some (tree.From items where_ all, end))
+    ∙ ap (λ (o : Parsed (Option Tree)). o >>= λ where_ rest. expect s.Emit rest >>= λ _ rest. separated d.emit rest >>= λ all rest. expect s.CloseBracket rest >>= λ _ end. Some (tree.From items where_ all, end))
     (condition-all us condition (vs ++ Fixed s.CloseBracket ∷ rest) k)
-    ∙ ap (λ (o : Outcome (List EmitTree)). o >>= λ all rest. expect s.CloseBracket rest >>= λ _ end. Some (tree.From items condition all, end)) (emits-complete.reads vs emits (Fixed s.CloseBracket ∷ rest) l refl)
+    ∙ ap (λ (o : Parsed (List EmitTree)). o >>= λ all rest. expect s.CloseBracket rest >>= λ _ end. Some (tree.From items condition all, end)) (emits-complete.reads vs emits (Fixed s.CloseBracket ∷ rest) l refl)
   where
     joined : (((ts ++ us) ++ (Fixed s.Emit ∷ vs)) ++ (Fixed s.CloseBracket ∷ [])) ++ rest ≡ ts ++ (us ++ (Fixed s.Emit ∷ (vs ++ (Fixed s.CloseBracket ∷ rest))))
     joined = simp append_assoc
-
-two-all : (node : Operand → Operand → RelTree) (ts us : Input) (o p : Operand) (rest : Input) → IsSource ts o → IsSource us p
-    → in_parens (λ (q : Operand × Operand). node q.0 q.1) d.two_sources (Fixed s.OpenParen ∷ (ts ++ Fixed s.Comma ∷ us ++ Fixed s.CloseParen ∷ []) ++ rest) ≡ Some (node o p, rest)
-two-all node ts us o p rest h k =
-    in_parens-all (λ (q : Operand × Operand). node q.0 q.1) d.two_sources IsTwo nothing two_sources-complete refl (ts ++ Fixed s.Comma ∷ us) (o, p) rest (both_sources ts us o p h k)
 
 columns-apart : either nothing is_comma (Fixed s.CloseParen) ≡ false
 unfolding same_symbol
 columns-apart = refl
 
+-- an argument is read in front of the closing parenthesis
+argument-all : (word : Keyword) (ts : Input) (b : RelTree) (rest : Input) → IsArgument word ts b → stops (either nothing is_comma) rest ≡ true → d.argument word (ts ++ rest) ≡ Some (b, rest)
+unfolding d.argument
+argument-all _ _ _ rest (g.of_columns ts columns h) st = ap (λ (o : Parsed (List Column)). o >>= λ columns rest. Some (tree.Empty columns, rest)) (columns-complete.reads ts columns rest h st)
+argument-all _ _ _ rest (g.of_one ts o h) st = ap (λ (r : Parsed Operand). r >>= λ o rest. Some (tree.Distinct o, rest)) (source-all ts o rest h (stops-nothing rest))
+argument-all _ _ _ rest (g.of_both ts us o p h k) st =
+    ap (λ (r : Parsed (Operand × Operand)). r >>= λ p rest. Some (tree.UnionAll p.0 p.1, rest)) (two_sources-all (ts ++ Fixed s.Comma ∷ us) (o, p) rest (both_sources ts us o p h k) (stops-nothing rest))
+argument-all _ _ _ rest (g.of_difference ts us o p h k) st =
+    ap (λ (r : Parsed (Operand × Operand)). r >>= λ p rest. Some (tree.Diff p.0 p.1, rest)) (two_sources-all (ts ++ Fixed s.Comma ∷ us) (o, p) rest (both_sources ts us o p h k) (stops-nothing rest))
+
+called-all : (word : Keyword) (ts : Input) (b : RelTree) (rest : Input) → IsArgument word ts b → d.relation (Fixed (Word word) ∷ Fixed s.OpenParen ∷ (ts ++ Fixed s.CloseParen ∷ []) ++ rest) ≡ Some (b, rest)
+unfolding d.relation
+called-all word ts b rest h = by word ts b h (in_parens-all (d.argument word) (IsArgument word) (either nothing is_comma) (record { reads = argument-all word }) columns-apart ts b rest h)
+  where
+    by : (word : Keyword) (ts : Input) (b : RelTree) → IsArgument word ts b → in_parens (d.argument word) (Fixed s.OpenParen ∷ (ts ++ Fixed s.CloseParen ∷ []) ++ rest) ≡ Some (b, rest)
+        → d.relation_by (Some (Word word)) (Fixed (Word word) ∷ Fixed s.OpenParen ∷ (ts ++ Fixed s.CloseParen ∷ []) ++ rest) ≡ Some (b, rest)
+    by _ _ _ (g.of_columns _ _ _) e = e
+    by _ _ _ (g.of_one _ _ _) e = e
+    by _ _ _ (g.of_both _ _ _ _ _ _) e = e
+    by _ _ _ (g.of_difference _ _ _ _ _ _) e = e
+
 relation-all : (ts : Input) (b : RelTree) (rest : Input) → IsRelation ts b → stops nothing rest ≡ true → d.relation (ts ++ rest) ≡ Some (b, rest)
 unfolding d.relation d.source same_symbol
 relation-all _ _ rest (g.copied _ _ (named_source n)) st = refl
-relation-all _ _ rest (g.copied _ _ (scanned_source ts k h)) st = ap (λ (r : Outcome Operand). r >>= λ o rest. Some (tree.Copy o, rest)) (in_parens-all source.Scan d.key IsKey (is_it s.Colon) key-complete colon-apart ts k rest h)
-relation-all _ _ rest (g.emptied ts columns h) st =
-    in_parens-all tree.Empty d.column_definitions (Separated IsColumnDefinition) (either nothing is_comma) column_definitions-complete columns-apart ts columns rest h
-relation-all _ _ rest (g.distinct ts o h) st = in_parens-all tree.Distinct d.source IsSource nothing source-complete refl ts o rest h
-relation-all _ _ rest (g.union_all ts us o p h k) st = two-all tree.UnionAll ts us o p rest h k
-relation-all _ _ rest (g.difference ts us o p h k) st = two-all tree.Diff ts us o p rest h k
+relation-all _ _ rest (g.copied _ _ (scanned_source ts k h)) st =
+    ap (λ (r : Parsed Key). (r >>= λ k rest. Some (source.Scan k, rest)) >>= λ o rest. Some (tree.Copy o, rest)) (in_parens-all d.key IsKey (is_it s.Colon) key-complete colon-apart ts k rest h)
+relation-all _ _ rest (g.called word ts b h) st = called-all word ts b rest h
 relation-all _ _ rest (g.comprehension ts us vs items condition emits h k l) st = comprehension-all ts us vs items condition emits rest h k l
 
 pub relation-complete : Complete d.relation IsRelation nothing

@@ -6,78 +6,21 @@ use Rattle.myrial_ast.specs.declared.relations.Operand.{Operand}
 use Rattle.myrial_ast.specs.declared.relations.Operand.TheVariants as source
 use Rattle.myrial_ast.specs.Trees as tree
 use Rattle.myrial_ast.specs.Trees.{Tree, EmitTree, RelTree}
+use Rattle.myrial_lexer.specs.declared.kinds.Sign.TheVariants as sign
+use Rattle.myrial_parser.specs.declared.terminals.Keyword.{Keyword}
+use Rattle.myrial_parser.specs.declared.terminals.Keyword.TheVariants as keyword
 use Rattle.myrial_parser.specs.declared.terminals.Symbol.{Symbol}
-use Rattle.myrial_parser.specs.declared.terminals.Symbol.TheVariants as s
+use Rattle.myrial_parser.specs.declared.terminals.Symbol.TheVariants.{Keyword as Word, Sign}
+use Rattle.myrial_parser.specs.Symbols as s
 use Rattle.myrial_parser.specs.Terminals.{Fixed, Name, Number, Quoted}
 use Rattle.myrial_parser.specs.Phrases.{Separated}
 use Rattle.myrial_parser.specs.Grammar as g
-use Rattle.myrial_parser.specs.Grammar.{IsKey, own_key, program_key, user_key, IsSource, named_source, scanned_source, IsColumnDefinition, typed, IsItem, unaliased, aliased, IsCondition, absent, present, IsEmit, all_columns, columns_of, unnamed, named, IsExpression, Expression, IsRelation, type_of, own_name}
-use Rattle.myrial_parser.specs.Descent as d
-use Rattle.myrial_parser.specs.Descent.{Input, first, Outcome, Rule, ◌>>=◌, sees, expect, name, in_parens, key_behind_two, key_behind, kind_of, name_behind_as}
-use Rattle.myrial_parser.proofs.RuleLemmas.{Reading, Sound, steps, same_value, same_rest, finish, sees-is, expect-is, name-is}
+use Rattle.myrial_parser.specs.Grammar.{IsKey, own_key, program_key, user_key, IsSource, named_source, scanned_source, IsColumnDefinition, typed, IsItem, unaliased, aliased, IsCondition, absent, present, IsEmit, all_columns, columns_of, unnamed, named, IsExpression, Expression, IsArgument, IsRelation, type_of, own_name}
+use Rattle.myrial_parser.specs.inner.Descent as d
+use Rattle.myrial_parser.specs.inner.Descent.{Input, first, Parsed, Parser, ◌>>=◌, sees, expect, name, in_parens, key_behind_two, key_behind, kind_of, name_behind_as, separated, symbol_ahead}
+use Rattle.myrial_parser.proofs.ParserLemmas.{Reading, Sound, steps, same_value, same_rest, finish, sees-is, symbol_ahead-is, expect-then, name-then, in_parens-sound, word-reads}
 use Rattle.myrial_parser.proofs.SeparatedLemmas.{separated-sound}
 use Rattle.myrial_parser.proofs.LevelLemmas.{expression-sound}
-
--- ---- a symbol or a name, and what is read behind it
-
--- the symbol that had to come next, and the terminals behind it
-pub record Expected {B : Type 0} (symbol : Symbol) (f : Rule B) (i : Input) (b : B) (rest : Input) : Type 0 where
-  pub behind : Input
-  pub split : i ≡ Fixed symbol ∷ behind
-  pub on : f behind ≡ Some (b, rest)
-
-pub expect-then : {B : Type 0} (symbol : Symbol) (f : Rule B) (i : Input) (b : B) (rest : Input) → (expect symbol i >>= λ _ behind. f behind) ≡ Some (b, rest) → Expected symbol f i b rest
-expect-then symbol f i b rest e =
-    let two = steps (expect symbol i) (λ _ behind. f behind) b rest e in
-    record { behind = two.middle; split = expect-is symbol i two.value two.middle two.start; on = two.end }
-
--- the name that had to come next, and the terminals behind it
-pub record Named {B : Type 0} (f : List ℕ → Rule B) (i : Input) (b : B) (rest : Input) : Type 0 where
-  pub text : List ℕ
-  pub behind : Input
-  pub split : i ≡ Name text ∷ behind
-  pub on : f text behind ≡ Some (b, rest)
-
-pub name-then : {B : Type 0} (f : List ℕ → Rule B) (i : Input) (b : B) (rest : Input) → (name i >>= f) ≡ Some (b, rest) → Named f i b rest
-name-then f i b rest e =
-    let two = steps (name i) f b rest e in
-    record { text = two.value; behind = two.middle; split = name-is i two.value two.middle two.start; on = two.end }
-
--- ---- parentheses
-
--- what stands in parentheses, and the terminals behind them
-pub record Enclosed {A B : Type 0} (Is : Input → A → Type 0) (node : A → B) (i : Input) (b : B) (rest : Input) : Type 0 where
-  pub inside : Input
-  pub value : A
-  pub split : i ≡ Fixed s.OpenParen ∷ inside ++ Fixed s.CloseParen ∷ rest
-  pub is : Is inside value
-  pub same : node value ≡ b
-
-pub in_parens-reads : {A B : Type 0} (node : A → B) (rule : Rule A) (Is : Input → A → Type 0) → Sound rule Is → (i : Input) (b : B) (rest : Input) → in_parens node rule i ≡ Some (b, rest) → Enclosed Is node i b rest
-in_parens-reads node rule Is sound i b rest e =
-    let start = expect-then s.OpenParen (λ behind. rule behind >>= λ a end. expect s.CloseParen end >>= λ _ behind. Some (node a, behind)) i b rest e in
-    let two = steps (rule start.behind) (λ a end. expect s.CloseParen end >>= λ _ behind. Some (node a, behind)) b rest start.on in
-    let r = sound.reads start.behind two.value two.middle two.start in
-    let end = expect-then s.CloseParen (λ behind. Some (node two.value, behind)) two.middle b rest two.end in
-    let last = end.split ∙ ap (λ (ts : Input). Fixed s.CloseParen ∷ ts) (same_rest (node two.value) b end.behind rest end.on) in
-    record {
-      inside = r.front;
-      value = two.value;
-      split = start.split ∙ ap (λ (ts : Input). Fixed s.OpenParen ∷ ts) (r.split ∙ ap (λ (ts : Input). r.front ++ ts) last);
-      is = r.is;
-      same = same_value (node two.value) b end.behind rest end.on;
-    }
-
--- a phrase of a word and what stands in parentheses behind it
-pub word-reads : {A B : Type 0} (symbol : Symbol) (Is : Input → A → Type 0) (node : A → B) (Phrase : Input → B → Type 0)
-    → ((ts : Input) (a : A) → Is ts a → Phrase (Fixed symbol ∷ Fixed s.OpenParen ∷ ts ++ Fixed s.CloseParen ∷ []) (node a))
-    → (i : Input) (b : B) (rest : Input) → sees symbol i ≡ true → Enclosed Is node (drop 1 i) b rest → Reading Phrase i b rest
-word-reads symbol Is node Phrase make i b rest is c =
-    record {
-      front = Fixed symbol ∷ Fixed s.OpenParen ∷ c.inside ++ Fixed s.CloseParen ∷ [];
-      split = sees-is symbol i is ∙ ap (λ (ts : Input). Fixed symbol ∷ ts) (c.split ∙ ap (λ (ts : Input). Fixed s.OpenParen ∷ ts) (sym (append_assoc c.inside (Fixed s.CloseParen ∷ []) rest)));
-      is = subst (λ t. Phrase (Fixed symbol ∷ Fixed s.OpenParen ∷ c.inside ++ Fixed s.CloseParen ∷ []) t) c.same (make c.inside c.value c.is);
-    }
 
 -- ---- keys and operands
 
@@ -85,7 +28,7 @@ key_behind_two-reads : (u p : List ℕ) (i : Input) (k : Key) (rest : Input) →
 key_behind_two-reads u p i k rest e = by (sees s.Colon i) refl e
   where
     by : (t : Bool) → sees s.Colon i ≡ t
-        → ◌≡◌ {A = Outcome Key} (cond t (name (drop 1 i) >>= λ n rest. Some (record { user = u; program = p; name = n }, rest)) (Some (record { user = codes "public"; program = u; name = p }, i))) (Some (k, rest))
+        → ◌≡◌ {A = Parsed Key} (cond t (name (drop 1 i) >>= λ n rest. Some (record { user = u; program = p; name = n }, rest)) (Some (record { user = codes "public"; program = u; name = p }, i))) (Some (k, rest))
         → Reading (λ ts k. IsKey (Name u ∷ Fixed s.Colon ∷ Name p ∷ ts) k) i k rest
     by false is e = finish (λ ts k. IsKey (Name u ∷ Fixed s.Colon ∷ Name p ∷ ts) k) i [] i _ k rest refl (program_key u p) e
     by true is e =
@@ -97,7 +40,7 @@ key_behind-reads : (u : List ℕ) (i : Input) (k : Key) (rest : Input) → key_b
 key_behind-reads u i k rest e = by (sees s.Colon i) refl e
   where
     by : (t : Bool) → sees s.Colon i ≡ t
-        → ◌≡◌ {A = Outcome Key} (cond t (name (drop 1 i) >>= λ n rest. key_behind_two u n rest) (Some (record { user = codes "public"; program = codes "adhoc"; name = u }, i))) (Some (k, rest))
+        → ◌≡◌ {A = Parsed Key} (cond t (name (drop 1 i) >>= λ n rest. key_behind_two u n rest) (Some (record { user = codes "public"; program = codes "adhoc"; name = u }, i))) (Some (k, rest))
         → Reading (λ ts k. IsKey (Name u ∷ ts) k) i k rest
     by false is e = finish (λ ts k. IsKey (Name u ∷ ts) k) i [] i _ k rest refl (own_key u) e
     by true is e =
@@ -122,11 +65,16 @@ source-reads : (i : Input) (o : Operand) (rest : Input) → d.source i ≡ Some 
 unfolding d.source
 source-reads i o rest e = by (sees s.Scan i) refl e
   where
-    by : (t : Bool) → sees s.Scan i ≡ t → ◌≡◌ {A = Outcome Operand} (cond t (in_parens source.Scan d.key (drop 1 i)) (name i >>= λ n rest. Some (source.Named n, rest))) (Some (o, rest)) → Reading IsSource i o rest
+    by : (t : Bool) → sees s.Scan i ≡ t
+        → ◌≡◌ {A = Parsed Operand} (cond t (in_parens d.key (drop 1 i) >>= λ k rest. Some (source.Scan k, rest)) (name i >>= λ n rest. Some (source.Named n, rest))) (Some (o, rest)) → Reading IsSource i o rest
     by false is e =
         let n = name-then (λ n rest. Some (source.Named n, rest)) i o rest e in
         finish IsSource i (Name n.text ∷ []) n.behind _ o rest n.split (named_source n.text) n.on
-    by true is e = word-reads s.Scan IsKey source.Scan IsSource scanned_source i o rest is (in_parens-reads source.Scan d.key IsKey key-sound (drop 1 i) o rest e)
+    by true is e =
+        let two = steps (in_parens d.key (drop 1 i)) (λ k rest. Some (source.Scan k, rest)) o rest e in
+        let k = (in_parens-sound d.key IsKey key-sound).reads (drop 1 i) two.value two.middle two.start in
+        let r = word-reads s.Scan IsKey source.Scan IsSource scanned_source (drop 1 i) two.value two.middle k in
+        finish IsSource i r.front two.middle _ o rest (sees-is s.Scan i is ∙ r.split) r.is two.end
 
 pub source-sound : Sound d.source IsSource
 source-sound = record { reads = source-reads }
@@ -179,10 +127,6 @@ column_definition-sound = record {
       finish IsColumnDefinition i (Name n.text ∷ Fixed s.Colon ∷ Name w.word ∷ []) k.middle _ c rest split (typed n.text w.word k.value w.is) k.end;
 }
 
-pub column_definitions-sound : Sound d.column_definitions (Separated IsColumnDefinition)
-unfolding d.column_definitions
-column_definitions-sound = separated-sound d.column_definition IsColumnDefinition column_definition-sound
-
 -- ---- items
 
 -- a name behind `as`, or nothing
@@ -194,7 +138,7 @@ pub name_behind_as-sound : Sound name_behind_as IsAlias
 name_behind_as-sound = record { reads = λ i o rest e. by i o rest (sees s.As i) refl e }
   where
     by : (i : Input) (o : Option (List ℕ)) (rest : Input) (t : Bool) → sees s.As i ≡ t
-        → ◌≡◌ {A = Outcome (Option (List ℕ))} (cond t (name (drop 1 i) >>= λ n rest. Some (Some n, rest)) (Some (None, i))) (Some (o, rest)) → Reading IsAlias i o rest
+        → ◌≡◌ {A = Parsed (Option (List ℕ))} (cond t (name (drop 1 i) >>= λ n rest. Some (Some n, rest)) (Some (None, i))) (Some (o, rest)) → Reading IsAlias i o rest
     by i o rest false is e = finish IsAlias i [] i None o rest refl no_alias e
     by i o rest true is e =
         let n = name-then (λ n rest. Some (Some n, rest)) (drop 1 i) o rest e in
@@ -216,10 +160,6 @@ item-sound = record {
       finish IsItem i (left.front ++ right.front) more.middle _ b rest split (item-is left.front right.front two.value more.value left.is right.is) more.end;
 }
 
-pub items-sound : Sound d.items (Separated IsItem)
-unfolding d.items
-items-sound = separated-sound d.item IsItem item-sound
-
 -- ---- conditions and emit items
 
 pub whole_expression-sound : Sound d.whole_expression IsExpression
@@ -235,7 +175,7 @@ unfolding d.condition
 condition-sound = record { reads = λ i o rest e. by i o rest (sees s.Where i) refl e }
   where
     by : (i : Input) (o : Option Tree) (rest : Input) (t : Bool) → sees s.Where i ≡ t
-        → ◌≡◌ {A = Outcome (Option Tree)} (cond t (d.whole_expression (drop 1 i) >>= λ a rest. Some (Some a, rest)) (Some (None, i))) (Some (o, rest)) → Reading IsCondition i o rest
+        → ◌≡◌ {A = Parsed (Option Tree)} (cond t (d.whole_expression (drop 1 i) >>= λ a rest. Some (Some a, rest)) (Some (None, i))) (Some (o, rest)) → Reading IsCondition i o rest
     by i o rest false is e = finish IsCondition i [] i None o rest refl absent e
     by i o rest true is e =
         let two = steps (d.whole_expression (drop 1 i)) (λ a rest. Some (Some a, rest)) o rest e in
@@ -281,28 +221,27 @@ emit-sound = record { reads = λ i b rest e. by i b rest (sees s.Star i) refl e 
     on i b rest false is e = emitted-reads i b rest e
 
     by : (i : Input) (b : EmitTree) (rest : Input) (t : Bool) → sees s.Star i ≡ t
-        → ◌≡◌ {A = Outcome EmitTree} (cond t (Some (tree.All, drop 1 i)) (cond (sees s.Dot (drop 1 i) && sees s.Star (drop 2 i)) (d.emitted_alias i) (d.emitted i))) (Some (b, rest)) → Reading IsEmit i b rest
+        → ◌≡◌ {A = Parsed EmitTree} (cond t (Some (tree.All, drop 1 i)) (cond (sees s.Dot (drop 1 i) && sees s.Star (drop 2 i)) (d.emitted_alias i) (d.emitted i))) (Some (b, rest)) → Reading IsEmit i b rest
     by i b rest true is e = finish IsEmit i (Fixed s.Star ∷ []) (drop 1 i) tree.All b rest (sees-is s.Star i is) all_columns e
     by i b rest false is e = on i b rest (sees s.Dot (drop 1 i) && sees s.Star (drop 2 i)) refl e
 
-pub emits-sound : Sound d.emits (Separated IsEmit)
-unfolding d.emits
-emits-sound = separated-sound d.emit IsEmit emit-sound
-
 -- ---- relation expressions
+
+columns-sound : Sound (separated d.column_definition) (Separated IsColumnDefinition)
+columns-sound = separated-sound d.column_definition IsColumnDefinition column_definition-sound
 
 comprehension-reads : (i : Input) (b : RelTree) (rest : Input) → d.comprehension i ≡ Some (b, rest) → Reading (λ ts r. IsRelation (Fixed s.OpenBracket ∷ ts) r) i b rest
 unfolding d.comprehension
 comprehension-reads i b rest e =
-    let from = expect-then s.From (λ rest. d.items rest >>= λ from rest. d.condition rest >>= λ where_ rest. expect s.Emit rest >>= λ _ rest. d.emits rest >>= λ all rest. expect s.CloseBracket rest >>= λ _ end. Some (tree.From from where_ all, end)) i b rest e in
-    let items = steps (d.items from.behind) (λ from rest. d.condition rest >>= λ where_ rest. expect s.Emit rest >>= λ _ rest. d.emits rest >>= λ all rest. expect s.CloseBracket rest >>= λ _ end. Some (tree.From from where_ all, end)) b rest from.on in
-    let condition = steps (d.condition items.middle) (λ where_ rest. expect s.Emit rest >>= λ _ rest. d.emits rest >>= λ all rest. expect s.CloseBracket rest >>= λ _ end. Some (tree.From items.value where_ all, end)) b rest items.end in
-    let emit = expect-then s.Emit (λ rest. d.emits rest >>= λ all rest. expect s.CloseBracket rest >>= λ _ end. Some (tree.From items.value condition.value all, end)) condition.middle b rest condition.end in
-    let emits = steps (d.emits emit.behind) (λ all rest. expect s.CloseBracket rest >>= λ _ end. Some (tree.From items.value condition.value all, end)) b rest emit.on in
+    let from = expect-then s.From (λ rest. separated d.item rest >>= λ from rest. d.condition rest >>= λ where_ rest. expect s.Emit rest >>= λ _ rest. separated d.emit rest >>= λ all rest. expect s.CloseBracket rest >>= λ _ end. Some (tree.From from where_ all, end)) i b rest e in
+    let items = steps (separated d.item from.behind) (λ from rest. d.condition rest >>= λ where_ rest. expect s.Emit rest >>= λ _ rest. separated d.emit rest >>= λ all rest. expect s.CloseBracket rest >>= λ _ end. Some (tree.From from where_ all, end)) b rest from.on in
+    let condition = steps (d.condition items.middle) (λ where_ rest. expect s.Emit rest >>= λ _ rest. separated d.emit rest >>= λ all rest. expect s.CloseBracket rest >>= λ _ end. Some (tree.From items.value where_ all, end)) b rest items.end in
+    let emit = expect-then s.Emit (λ rest. separated d.emit rest >>= λ all rest. expect s.CloseBracket rest >>= λ _ end. Some (tree.From items.value condition.value all, end)) condition.middle b rest condition.end in
+    let emits = steps (separated d.emit emit.behind) (λ all rest. expect s.CloseBracket rest >>= λ _ end. Some (tree.From items.value condition.value all, end)) b rest emit.on in
     let close = expect-then s.CloseBracket (λ end. Some (tree.From items.value condition.value emits.value, end)) emits.middle b rest emits.end in
-    let p = items-sound.reads from.behind items.value items.middle items.start in
+    let p = (separated-sound d.item IsItem item-sound).reads from.behind items.value items.middle items.start in
     let q = condition-sound.reads items.middle condition.value condition.middle condition.start in
-    let r = emits-sound.reads emit.behind emits.value emits.middle emits.start in
+    let r = (separated-sound d.emit IsEmit emit-sound).reads emit.behind emits.value emits.middle emits.start in
     finish (λ ts r. IsRelation (Fixed s.OpenBracket ∷ ts) r) i (Fixed s.From ∷ p.front ++ q.front ++ Fixed s.Emit ∷ r.front ++ Fixed s.CloseBracket ∷ []) close.behind _ b rest
     (from.split ∙ ap (λ (ts : Input). Fixed s.From ∷ ts)
     (p.split ∙ ap (λ (ts : Input). p.front ++ ts) (q.split ∙ ap (λ (ts : Input). q.front ++ ts) (emit.split ∙ ap (λ (ts : Input). Fixed s.Emit ∷ ts) (r.split ∙ ap (λ (ts : Input). r.front ++ ts) close.split)))
@@ -318,51 +257,52 @@ copied-reads i b rest e =
     let r = source-reads i o.value o.middle o.start in
     finish IsRelation i r.front o.middle _ b rest r.split (g.copied r.front o.value r.is) o.end
 
--- the operands of a word of two operands
-abbrev of_two : (Operand → Operand → RelTree) → Operand × Operand → RelTree
-of_two node p = node p.0 p.1
+both-is : (ts : Input) (p : Operand × Operand) → IsTwo ts p → IsArgument keyword.UnionAll ts (tree.UnionAll p.0 p.1)
+both-is _ _ (both_sources ts us o p h k) = g.of_both ts us o p h k
 
-two-is : (symbol : Symbol) (node : Operand → Operand → RelTree)
-    → ((ts us : Input) (o p : Operand) → IsSource ts o → IsSource us p → IsRelation (Fixed symbol ∷ Fixed s.OpenParen ∷ ts ++ Fixed s.Comma ∷ us ++ Fixed s.CloseParen ∷ []) (node o p))
-    → (ts : Input) (p : Operand × Operand) → IsTwo ts p → IsRelation (Fixed symbol ∷ Fixed s.OpenParen ∷ ts ++ Fixed s.CloseParen ∷ []) (of_two node p)
-two-is symbol node make _ _ (both_sources ts us o p h k) = make ts us o p h k
+difference-is : (ts : Input) (p : Operand × Operand) → IsTwo ts p → IsArgument keyword.Diff ts (tree.Diff p.0 p.1)
+difference-is _ _ (both_sources ts us o p h k) = g.of_difference ts us o p h k
+
+argument-reads : (word : Keyword) (i : Input) (b : RelTree) (rest : Input) → d.argument word i ≡ Some (b, rest) → Reading (IsArgument word) i b rest
+unfolding d.argument
+argument-reads keyword.Empty i b rest e =
+    let two = steps (separated d.column_definition i) (λ columns rest. Some (tree.Empty columns, rest)) b rest e in
+    let r = columns-sound.reads i two.value two.middle two.start in
+    finish (IsArgument keyword.Empty) i r.front two.middle _ b rest r.split (g.of_columns r.front two.value r.is) two.end
+argument-reads keyword.Distinct i b rest e =
+    let two = steps (d.source i) (λ o rest. Some (tree.Distinct o, rest)) b rest e in
+    let r = source-reads i two.value two.middle two.start in
+    finish (IsArgument keyword.Distinct) i r.front two.middle _ b rest r.split (g.of_one r.front two.value r.is) two.end
+argument-reads keyword.UnionAll i b rest e =
+    let two = steps (d.two_sources i) (λ p rest. Some (tree.UnionAll p.0 p.1, rest)) b rest e in
+    let r = two_sources-sound.reads i two.value two.middle two.start in
+    finish (IsArgument keyword.UnionAll) i r.front two.middle _ b rest r.split (both-is r.front two.value r.is) two.end
+argument-reads keyword.Diff i b rest e =
+    let two = steps (d.two_sources i) (λ p rest. Some (tree.Diff p.0 p.1, rest)) b rest e in
+    let r = two_sources-sound.reads i two.value two.middle two.start in
+    finish (IsArgument keyword.Diff) i r.front two.middle _ b rest r.split (difference-is r.front two.value r.is) two.end
+argument-reads _ i b rest e = absurd (cc)
+
+call-reads : (word : Keyword) (i : Input) (b : RelTree) (rest : Input) → in_parens (d.argument word) i ≡ Some (b, rest) → Reading IsRelation (Fixed (Word word) ∷ i) b rest
+call-reads word i b rest e =
+    word-reads (Word word) (IsArgument word) (λ r. r) IsRelation (g.called word) i b rest ((in_parens-sound (d.argument word) (IsArgument word) (record { reads = argument-reads word })).reads i b rest e)
+
+-- a phrase of the terminals is one of equal terminals
+along : (i j : Input) (b : RelTree) (rest : Input) → i ≡ j → Reading IsRelation j b rest → Reading IsRelation i b rest
+along i j b rest same r = record { front = r.front; split = same ∙ r.split; is = r.is }
 
 pub relation-sound : Sound d.relation IsRelation
 unfolding d.relation
-relation-sound = record { reads = λ i b rest e. by-empty i b rest (sees s.Empty i) refl e }
+relation-sound = record { reads = λ i b rest e. by i b rest (symbol_ahead i) refl e }
   where
-    by-bracket : (i : Input) (b : RelTree) (rest : Input) (t : Bool) → sees s.OpenBracket i ≡ t → cond t (d.comprehension (drop 1 i)) (d.copied i) ≡ Some (b, rest) → Reading IsRelation i b rest
-    by-bracket i b rest true is e =
+    by-word : (i : Input) (b : RelTree) (rest : Input) (word : Keyword) → symbol_ahead i ≡ Some (Word word) → d.relation_by (Some (Word word)) i ≡ Some (b, rest) → Reading IsRelation i b rest
+    by-word i b rest keyword.Scan is e = copied-reads i b rest e
+    by-word i b rest word is e = along i (Fixed (Word word) ∷ drop 1 i) b rest (symbol_ahead-is (Word word) i is) (call-reads word (drop 1 i) b rest e)
+
+    by : (i : Input) (b : RelTree) (rest : Input) (o : Option Symbol) → symbol_ahead i ≡ o → d.relation_by o i ≡ Some (b, rest) → Reading IsRelation i b rest
+    by i b rest None is e = copied-reads i b rest e
+    by i b rest (Some (Word word)) is e = by-word i b rest word is e
+    by i b rest (Some (Sign sign.OpenBracket)) is e =
         let r = comprehension-reads (drop 1 i) b rest e in
-        record { front = Fixed s.OpenBracket ∷ r.front; split = sees-is s.OpenBracket i is ∙ ap (λ (ts : Input). Fixed s.OpenBracket ∷ ts) r.split; is = r.is }
-    by-bracket i b rest false is e = copied-reads i b rest e
-
-    by-diff : (i : Input) (b : RelTree) (rest : Input) (t : Bool) → sees s.Diff i ≡ t
-        → cond t (in_parens (of_two tree.Diff) d.two_sources (drop 1 i)) (cond (sees s.OpenBracket i) (d.comprehension (drop 1 i)) (d.copied i)) ≡ Some (b, rest) → Reading IsRelation i b rest
-    by-diff i b rest true is e =
-        word-reads s.Diff IsTwo (of_two tree.Diff) IsRelation (two-is s.Diff tree.Diff g.difference) i b rest is (in_parens-reads (of_two tree.Diff) d.two_sources IsTwo two_sources-sound (drop 1 i) b rest e)
-    by-diff i b rest false is e = by-bracket i b rest (sees s.OpenBracket i) refl e
-
-    by-union : (i : Input) (b : RelTree) (rest : Input) (t : Bool) → sees s.UnionAll i ≡ t
-        → cond t (in_parens (of_two tree.UnionAll) d.two_sources (drop 1 i)) (cond (sees s.Diff i) (in_parens (of_two tree.Diff) d.two_sources (drop 1 i)) (cond (sees s.OpenBracket i) (d.comprehension (drop 1 i)) (d.copied i))) ≡ Some (b, rest)
-        → Reading IsRelation i b rest
-    by-union i b rest true is e =
-        word-reads s.UnionAll IsTwo (of_two tree.UnionAll) IsRelation (two-is s.UnionAll tree.UnionAll g.union_all) i b rest is (in_parens-reads (of_two tree.UnionAll) d.two_sources IsTwo two_sources-sound (drop 1 i) b rest e)
-    by-union i b rest false is e = by-diff i b rest (sees s.Diff i) refl e
-
-    by-distinct : (i : Input) (b : RelTree) (rest : Input) (t : Bool) → sees s.Distinct i ≡ t
-        → cond t (in_parens tree.Distinct d.source (drop 1 i))
-        (cond (sees s.UnionAll i) (in_parens (of_two tree.UnionAll) d.two_sources (drop 1 i)) (cond (sees s.Diff i) (in_parens (of_two tree.Diff) d.two_sources (drop 1 i)) (cond (sees s.OpenBracket i) (d.comprehension (drop 1 i)) (d.copied i)))) ≡ Some (b, rest)
-        → Reading IsRelation i b rest
-    by-distinct i b rest true is e =
-        word-reads s.Distinct IsSource tree.Distinct IsRelation g.distinct i b rest is (in_parens-reads tree.Distinct d.source IsSource source-sound (drop 1 i) b rest e)
-    by-distinct i b rest false is e = by-union i b rest (sees s.UnionAll i) refl e
-
-    by-empty : (i : Input) (b : RelTree) (rest : Input) (t : Bool) → sees s.Empty i ≡ t
-        → cond t (in_parens tree.Empty d.column_definitions (drop 1 i))
-        (cond (sees s.Distinct i) (in_parens tree.Distinct d.source (drop 1 i))
-        (cond (sees s.UnionAll i) (in_parens (of_two tree.UnionAll) d.two_sources (drop 1 i)) (cond (sees s.Diff i) (in_parens (of_two tree.Diff) d.two_sources (drop 1 i)) (cond (sees s.OpenBracket i) (d.comprehension (drop 1 i)) (d.copied i))))) ≡ Some (b, rest)
-        → Reading IsRelation i b rest
-    by-empty i b rest true is e =
-        word-reads s.Empty (Separated IsColumnDefinition) tree.Empty IsRelation g.emptied i b rest is (in_parens-reads tree.Empty d.column_definitions (Separated IsColumnDefinition) column_definitions-sound (drop 1 i) b rest e)
-    by-empty i b rest false is e = by-distinct i b rest (sees s.Distinct i) refl e
+        record { front = Fixed s.OpenBracket ∷ r.front; split = symbol_ahead-is s.OpenBracket i is ∙ ap (λ (ts : Input). Fixed s.OpenBracket ∷ ts) r.split; is = r.is }
+    by i b rest (Some (Sign _)) is e = copied-reads i b rest e

@@ -1,15 +1,15 @@
 -- Lists with commas: what the descent reads is such a list, and each list is read.
 use Rattle.std.proofs.Common.{◌≡◌, ℕ, zero, suc, ◌<◌, ◌≤◌, Bool, true, false, cond, List, [], ◌∷◌, ◌++◌, drop, length, Some, refl, sym, ap, ◌∙◌, append_assoc, length-append, arith}
-use Rattle.myrial_parser.specs.declared.terminals.Symbol.TheVariants as s
+use Rattle.myrial_parser.specs.Symbols as s
 use Rattle.myrial_parser.specs.Terminals.{Terminal, Fixed}
 use Rattle.myrial_parser.specs.Phrases.{Separated, last, more}
-use Rattle.myrial_parser.specs.Descent.{Input, Outcome, Rule, ◌>>=◌, is_symbol, sees, separated, separated_from}
-use Rattle.myrial_parser.proofs.RuleLemmas.{Reading, Sound, Complete, stops, either, stops-left, stops-right, steps, finish, sees-is, sees-it}
+use Rattle.myrial_parser.specs.inner.Descent.{Input, Parsed, Parser, ◌>>=◌, is_symbol, sees, separated, separated_from}
+use Rattle.myrial_parser.proofs.ParserLemmas.{Reading, Sound, Complete, stops, either, stops-left, stops-right, steps, finish, sees-is, sees-it}
 
 abbrev pub is_comma : Terminal → Bool
 is_comma x = is_symbol s.Comma (Some x)
 
-module _ {A : Type 0} (item : Rule A) (Item : Input → A → Type 0) where
+module _ {A : Type 0} (item : Parser A) (Item : Input → A → Type 0) where
   separated_from-reads : Sound item Item → (n : ℕ) (i : Input) (all : List A) (rest : Input) → separated_from item n i ≡ Some (all, rest) → Reading (Separated Item) i all rest
   separated_from-reads sound zero i all rest e = absurd (cc)
   separated_from-reads sound (suc n) i all rest e =
@@ -42,7 +42,7 @@ module _ {A : Type 0} (item : Rule A) (Item : Input → A → Type 0) where
     separated_from-all : (n : ℕ) (ts : Input) (all : List A) (rest : Input) → length ts ≤ n → Separated Item ts all → stops (either goes_on is_comma) rest ≡ true → separated_from item n (ts ++ rest) ≡ Some (all, rest)
     separated_from-all zero ts all rest short (last _ a h) st = let k = some ts a h in absurd (omega arith)
     separated_from-all (suc n) ts all rest short (last _ a h) st =
-        ap (λ (o : Outcome A). o >>= λ a rest. cond (sees s.Comma rest) (separated_from item n (drop 1 rest) >>= λ others end. Some (a ∷ others, end)) (Some (a ∷ [], rest)))
+        ap (λ (o : Parsed A). o >>= λ a rest. cond (sees s.Comma rest) (separated_from item n (drop 1 rest) >>= λ others end. Some (a ∷ others, end)) (Some (a ∷ [], rest)))
         (complete.reads ts a rest h (stops-left goes_on is_comma rest st))
         ∙ ap (λ t. cond t (separated_from item n (drop 1 rest) >>= λ others end. Some (a ∷ others, end)) (Some (a ∷ [], rest))) (unseen rest (stops-right goes_on is_comma rest st))
     separated_from-all zero _ _ rest short (more ts us a others h k) st = let l = length-append ts (Fixed s.Comma ∷ us) in absurd (omega arith)
@@ -50,10 +50,10 @@ module _ {A : Type 0} (item : Rule A) (Item : Input → A → Type 0) where
         let l = length-append ts (Fixed s.Comma ∷ us) in
         let m = some ts a h in
         ap (separated_from item (suc n)) (append_assoc ts (Fixed s.Comma ∷ us) rest)
-        ∙ ap (λ (o : Outcome A). o >>= λ a rest. cond (sees s.Comma rest) (separated_from item n (drop 1 rest) >>= λ others end. Some (a ∷ others, end)) (Some (a ∷ [], rest)))
+        ∙ ap (λ (o : Parsed A). o >>= λ a rest. cond (sees s.Comma rest) (separated_from item n (drop 1 rest) >>= λ others end. Some (a ∷ others, end)) (Some (a ∷ [], rest)))
         (complete.reads ts a (Fixed s.Comma ∷ us ++ rest) h (ap (λ b. cond b false true) apart))
         ∙ ap (λ t. cond t (separated_from item n (us ++ rest) >>= λ others end. Some (a ∷ others, end)) (Some (a ∷ [], Fixed s.Comma ∷ us ++ rest))) (sees-it s.Comma (us ++ rest))
-        ∙ ap (λ (o : Outcome (List A)). o >>= λ others end. Some (a ∷ others, end)) (separated_from-all n us others rest (omega arith) k st)
+        ∙ ap (λ (o : Parsed (List A)). o >>= λ others end. Some (a ∷ others, end)) (separated_from-all n us others rest (omega arith) k st)
 
     pub separated-complete : Complete (separated item) (Separated Item) (either goes_on is_comma)
     separated-complete = record {

@@ -1,17 +1,17 @@
 -- Statements: what the descent reads is a statement, and each statement is read.
-use Rattle.std.proofs.Common.{◌≡◌, ℕ, Bool, true, false, cond, List, [], ◌∷◌, ◌++◌, drop, Option, Some, None, Result, Ok, Err, IfOk, refl, sym, ap, subst, ◌∙◌, append-nil}
+use Rattle.std.proofs.Common.{◌≡◌, ℕ, Bool, true, false, cond, List, [], ◌∷◌, ◌++◌, drop, Option, Some, None, Err, refl, sym, ap, subst, ◌∙◌, append-nil}
 use Rattle.rel_base.specs.declared.names.Key.{Key}
 use Rattle.myrial_ast.specs.Trees as tree
 use Rattle.myrial_ast.specs.Trees.{RelTree, StatementTree}
 use Rattle.myrial_parser.specs.declared.faults.Refusal.{Refusal}
 use Rattle.myrial_parser.specs.declared.faults.Refusal.TheVariants as refusal
-use Rattle.myrial_parser.specs.declared.terminals.Symbol.TheVariants as s
+use Rattle.myrial_parser.specs.Symbols as s
 use Rattle.myrial_parser.specs.Terminals.{Fixed, Name}
 use Rattle.myrial_parser.specs.Grammar.{Reads, nothing, assigned, stored}
-use Rattle.myrial_parser.specs.Descent as d
-use Rattle.myrial_parser.specs.Descent.{Input, Outcome, Rule, Gives, ◌>>=◌, sees, expect, name}
-use Rattle.myrial_parser.proofs.RuleLemmas.{Reading, steps, same_value, finish, sees-is}
-use Rattle.myrial_parser.proofs.RelationSound.{expect-then, name-then, key-sound, relation-sound}
+use Rattle.myrial_parser.specs.inner.Descent as d
+use Rattle.myrial_parser.specs.inner.Descent.{Input, Parsed, Parser, Parses, ◌>>=◌, sees, expect, name}
+use Rattle.myrial_parser.proofs.ParserLemmas.{Reading, steps, same_value, finish, sees-is, expect-then, name-then}
+use Rattle.myrial_parser.proofs.RelationSound.{key-sound, relation-sound}
 use Rattle.myrial_parser.proofs.RelationComplete.{key-complete, relation-complete}
 
 -- ---- what is read is a statement
@@ -71,26 +71,20 @@ statement-sound (x ∷ i) b rest e =
 
 -- each statement is read to the end
 pub statement-complete : (ts : Input) (b : StatementTree) → Reads ts b → d.statement ts ≡ Some (b, [])
-unfolding d.statement d.assignment d.store Rattle.myrial_parser.specs.Descent.same_symbol
+unfolding d.statement d.assignment d.store Rattle.myrial_parser.specs.inner.Descent.same_symbol
 statement-complete _ _ nothing = refl
 statement-complete _ _ (assigned n ts r h) =
-    ap (λ (o : Outcome RelTree). (o >>= λ r end. Some (tree.Assign n r, end)) >>= λ a rest. d.end rest >>= λ _ behind. Some (a, behind))
+    ap (λ (o : Parsed RelTree). (o >>= λ r end. Some (tree.Assign n r, end)) >>= λ a rest. d.end rest >>= λ _ behind. Some (a, behind))
     (ap d.relation (sym (append-nil ts)) ∙ relation-complete.reads ts r [] h refl)
 statement-complete _ _ (stored n ts k h) =
-    ap (λ (o : Outcome Key). (o >>= λ k rest. expect s.CloseParen rest >>= λ _ end. Some (tree.Store n k, end)) >>= λ a rest. d.end rest >>= λ _ behind. Some (a, behind))
+    ap (λ (o : Parsed Key). (o >>= λ k rest. expect s.CloseParen rest >>= λ _ end. Some (tree.Store n k, end)) >>= λ a rest. d.end rest >>= λ _ behind. Some (a, behind))
     (key-complete.reads ts k (Fixed s.CloseParen ∷ []) h refl)
 
 -- terminals read as at most one statement
 pub statement-unique : (ts : Input) (a b : StatementTree) → Reads ts a → Reads ts b → a ≡ b
 statement-unique ts a b h k = same_value a b [] [] (sym (statement-complete ts a h) ∙ statement-complete ts b k)
 
--- ---- what a function that reads a statement gives
-
-pub given-ok : {X : Type 0} (view : X → StatementTree) (i : Input) (r : Result X Refusal) (rest : Input) → Gives view (d.statement i) r rest → IfOk r (λ made. Reads i (view made))
-given-ok view i (Ok x) rest e = statement-sound i (view x) rest e
-given-ok view i (Err f) rest e = tt
-
-pub given-err : {X : Type 0} (view : X → StatementTree) (i : Input) (r : Result X Refusal) (rest : Input) → Gives view (d.statement i) r rest → r ≡ Err refusal.Syntax → (b : StatementTree) → Reads i b → ⊥
-given-err view i (Ok x) rest e is b h = cc
-given-err view i (Err refusal.Syntax) rest e is b h = let some = statement-complete i b h in cc
-given-err view i (Err refusal.Memory) rest e is b h = cc
+-- terminals at which the descent refuses for their syntax are no statement
+pub refused-unread : {X : Type 0} (view : X → StatementTree) (i : Input) (e : Refusal) (rest : Input) → Parses view (d.statement i) (Err e) rest → e ≡ refusal.Syntax → (b : StatementTree) → Reads i b → ⊥
+refused-unread view i refusal.Syntax rest none is b h = let some = statement-complete i b h in cc
+refused-unread view i refusal.Memory rest none is b h = cc

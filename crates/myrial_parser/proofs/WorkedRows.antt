@@ -1,19 +1,22 @@
 -- Worked cases of the grammar, each proved by computing.
 use Rattle.std.proofs.Common.{◌≡◌, ℕ, pos, neg_ℤ, true, false, List, [], ◌∷◌, Some, None, refl, sym, subst, ◌∙◌, append-nil, codes}
 use Rattle.rel_base.specs.declared.values.Value.TheVariants as value
+use Rattle.rel_base.specs.declared.values.ColType.TheVariants as type
 use Rattle.myrial_ast.specs.declared.operators.AggOp.TheVariants as agg
 use Rattle.myrial_ast.specs.declared.operators.BinOp.TheVariants as op
 use Rattle.myrial_ast.specs.declared.expressions.ColRef.TheVariants as column
 use Rattle.myrial_ast.specs.declared.relations.Operand.TheVariants as source
-use Rattle.myrial_ast.specs.Trees.{Tree, Lit, Col, Not, Neg, Bin, AggAll, AllOf, One, Copy, From, StatementTree, Assign, Store}
+use Rattle.myrial_ast.specs.Trees.{Tree, Lit, Col, Not, Neg, Bin, Agg, AggAll, AllOf, One, Copy, Empty, Distinct, UnionAll, Diff, From, StatementTree, Assign, Store}
 use Rattle.myrial_lexer.specs.declared.kinds.Token.{Token}
 use Rattle.myrial_lexer.specs.declared.kinds.TokenKind.TheVariants as kind
-use Rattle.myrial_parser.specs.declared.terminals.Symbol.TheVariants as s
-use Rattle.myrial_parser.specs.Terminals.{Terminal, Fixed, Name, Number}
-use Rattle.myrial_parser.specs.Grammar.{IsExpression, Reads}
+use Rattle.myrial_lexer.specs.declared.kinds.Sign.TheVariants as sign
+use Rattle.myrial_parser.specs.declared.terminals.Keyword.TheVariants as keyword
+use Rattle.myrial_parser.specs.Symbols as s
+use Rattle.myrial_parser.specs.Terminals.{Terminal, Fixed, Name, Number, reserved}
+use Rattle.myrial_parser.specs.Grammar.{IsExpression, Reads, type_of}
 use Rattle.myrial_parser.specs.Pieces.{pieces_of}
-use Rattle.myrial_parser.specs.Descent as d
-use Rattle.myrial_parser.proofs.RuleLemmas.{same_rest}
+use Rattle.myrial_parser.specs.inner.Descent as d
+use Rattle.myrial_parser.proofs.ParserLemmas.{same_rest}
 use Rattle.myrial_parser.proofs.RelationSound.{whole_expression-sound}
 use Rattle.myrial_parser.proofs.RelationComplete.{whole_expression-complete}
 use Rattle.myrial_parser.proofs.StatementLemmas.{statement-sound, statement-complete}
@@ -74,6 +77,56 @@ pub count_of_a_star : IsExpression (Fixed s.Count ∷ Fixed s.OpenParen ∷ Fixe
 unfolding d.whole_expression d.expression d.disjunction d.conjunction d.negation d.comparison d.sum d.product d.signed d.primary d.same_symbol
 count_of_a_star = is_read _ _ refl
 
+-- `countall()` is the same tree
+pub count_of_nothing : IsExpression (Fixed s.CountAll ∷ Fixed s.OpenParen ∷ Fixed s.CloseParen ∷ []) (AggAll agg.CountAll)
+unfolding d.whole_expression d.expression d.disjunction d.conjunction d.negation d.comparison d.sum d.product d.signed d.primary d.same_symbol
+count_of_nothing = is_read _ _ refl
+
+-- `count(a)` counts an argument
+pub count_of_an_argument : IsExpression (Fixed s.Count ∷ Fixed s.OpenParen ∷ a ∷ Fixed s.CloseParen ∷ []) (Agg agg.Count (col (codes "a")))
+unfolding d.whole_expression d.expression d.disjunction d.conjunction d.negation d.comparison d.sum d.product d.signed d.primary d.same_symbol
+count_of_an_argument = is_read _ _ refl
+
+-- `min(max(a))` is read, though it has no meaning
+pub aggregates_nest : IsExpression (Fixed s.Min ∷ Fixed s.OpenParen ∷ Fixed s.Max ∷ Fixed s.OpenParen ∷ a ∷ Fixed s.CloseParen ∷ Fixed s.CloseParen ∷ []) (Agg agg.Min (Agg agg.Max (col (codes "a"))))
+unfolding d.whole_expression d.expression d.disjunction d.conjunction d.negation d.comparison d.sum d.product d.signed d.primary d.same_symbol
+aggregates_nest = is_read _ _ refl
+
+-- `(a or b) and c` is grouped by its parentheses
+pub parentheses_leave_no_node : IsExpression (Fixed s.OpenParen ∷ a ∷ Fixed s.Or ∷ b ∷ Fixed s.CloseParen ∷ Fixed s.And ∷ c ∷ []) (Bin op.And (Bin op.Or (col (codes "a")) (col (codes "b"))) (col (codes "c")))
+unfolding d.whole_expression d.expression d.disjunction d.conjunction d.negation d.comparison d.sum d.product d.signed d.primary d.same_symbol
+parentheses_leave_no_node = is_read _ _ refl
+
+-- `2 + a * b` is `2 + (a * b)`
+pub product_binds_tighter_than_sum : IsExpression (Number 2 ∷ Fixed s.Plus ∷ a ∷ Fixed s.Star ∷ b ∷ []) (Bin op.Add (int 2) (Bin op.Mul (col (codes "a")) (col (codes "b"))))
+unfolding d.whole_expression d.expression d.disjunction d.conjunction d.negation d.comparison d.sum d.product d.signed d.primary d.same_symbol
+product_binds_tighter_than_sum = is_read _ _ refl
+
+-- `a.$2 <> $0` is of column 2 of the item a and of column 0
+pub columns_by_place : IsExpression (a ∷ Fixed s.Dot ∷ Fixed s.Dollar ∷ Number 2 ∷ Fixed s.Ne ∷ Fixed s.Dollar ∷ Number 0 ∷ []) (Bin op.Ne (Col (column.OfPlace (codes "a") 2)) (Col (column.ByPlace 0)))
+unfolding d.whole_expression d.expression d.disjunction d.conjunction d.negation d.comparison d.sum d.product d.signed d.primary d.same_symbol
+columns_by_place = is_read _ _ refl
+
+-- `a < b`
+pub sign_of_less : IsExpression (a ∷ Fixed s.Lt ∷ b ∷ []) (Bin op.Lt (col (codes "a")) (col (codes "b")))
+unfolding d.whole_expression d.expression d.disjunction d.conjunction d.negation d.comparison d.sum d.product d.signed d.primary d.same_symbol
+sign_of_less = is_read _ _ refl
+
+-- `a <= b`
+pub sign_of_less_or_equal : IsExpression (a ∷ Fixed s.Le ∷ b ∷ []) (Bin op.Le (col (codes "a")) (col (codes "b")))
+unfolding d.whole_expression d.expression d.disjunction d.conjunction d.negation d.comparison d.sum d.product d.signed d.primary d.same_symbol
+sign_of_less_or_equal = is_read _ _ refl
+
+-- `a > b`
+pub sign_of_greater : IsExpression (a ∷ Fixed s.Gt ∷ b ∷ []) (Bin op.Gt (col (codes "a")) (col (codes "b")))
+unfolding d.whole_expression d.expression d.disjunction d.conjunction d.negation d.comparison d.sum d.product d.signed d.primary d.same_symbol
+sign_of_greater = is_read _ _ refl
+
+-- `a >= b`
+pub sign_of_greater_or_equal : IsExpression (a ∷ Fixed s.Ge ∷ b ∷ []) (Bin op.Ge (col (codes "a")) (col (codes "b")))
+unfolding d.whole_expression d.expression d.disjunction d.conjunction d.negation d.comparison d.sum d.product d.signed d.primary d.same_symbol
+sign_of_greater_or_equal = is_read _ _ refl
+
 -- `a = b = c` is no expression: it is read up to the second sign
 pub two_comparisons : (e : Tree) → IsExpression (a ∷ Fixed s.Eq ∷ b ∷ Fixed s.Eq ∷ c ∷ []) e → ⊥
 unfolding d.whole_expression d.expression d.disjunction d.conjunction d.negation d.comparison d.sum d.product d.signed d.primary d.same_symbol
@@ -105,13 +158,65 @@ store_of_a_name = is_statement _ _ refl
 pub comprehension_of_two_items : Reads (c ∷ Fixed s.Eq ∷ Fixed s.OpenBracket ∷ Fixed s.From ∷ a ∷ Fixed s.Comma ∷ b ∷ Fixed s.As ∷ c ∷ Fixed s.Emit ∷ a ∷ Fixed s.Dot ∷ Fixed s.Star ∷ Fixed s.Comma ∷ b ∷ Fixed s.CloseBracket ∷ [])
     (Assign (codes "c") (From (record { source = source.Named (codes "a"); alias = codes "a" } ∷ record { source = source.Named (codes "b"); alias = codes "c" } ∷ []) None
     (AllOf (codes "a") ∷ One (col (codes "b")) None ∷ [])))
-unfolding d.statement d.assignment d.relation d.comprehension d.items d.item d.source d.condition d.emits d.emit d.emitted d.emitted_alias d.whole_expression d.expression d.disjunction d.conjunction d.negation d.comparison d.sum d.product d.signed d.primary d.same_symbol
+unfolding d.statement d.assignment d.relation d.comprehension d.item d.source d.condition d.emit d.emitted d.emitted_alias d.whole_expression d.expression d.disjunction d.conjunction d.negation d.comparison d.sum d.product d.signed d.primary d.same_symbol
 comprehension_of_two_items = is_statement _ _ refl
+
+-- `c = empty(a:long, b:STRING)`: type words stand in any case
+pub empty_of_two_columns : Reads (c ∷ Fixed s.Eq ∷ Fixed s.Empty ∷ Fixed s.OpenParen ∷ a ∷ Fixed s.Colon ∷ Name (codes "long") ∷ Fixed s.Comma ∷ b ∷ Fixed s.Colon ∷ Name (codes "STRING") ∷ Fixed s.CloseParen ∷ [])
+    (Assign (codes "c") (Empty (record { name = codes "a"; kind = type.Int } ∷ record { name = codes "b"; kind = type.Str } ∷ [])))
+unfolding d.statement d.assignment d.relation d.argument d.source d.two_sources d.column_definition d.key d.same_symbol
+empty_of_two_columns = is_statement _ _ refl
+
+-- `c = distinct(a)`
+pub distinct_of_a_name : Reads (c ∷ Fixed s.Eq ∷ Fixed s.Distinct ∷ Fixed s.OpenParen ∷ a ∷ Fixed s.CloseParen ∷ [])
+    (Assign (codes "c") (Distinct (source.Named (codes "a"))))
+unfolding d.statement d.assignment d.relation d.argument d.source d.two_sources d.column_definition d.key d.same_symbol
+distinct_of_a_name = is_statement _ _ refl
+
+-- `c = unionall(a, b)` has the first operand first
+pub union_of_both : Reads (c ∷ Fixed s.Eq ∷ Fixed s.UnionAll ∷ Fixed s.OpenParen ∷ a ∷ Fixed s.Comma ∷ b ∷ Fixed s.CloseParen ∷ [])
+    (Assign (codes "c") (UnionAll (source.Named (codes "a")) (source.Named (codes "b"))))
+unfolding d.statement d.assignment d.relation d.argument d.source d.two_sources d.column_definition d.key d.same_symbol
+union_of_both = is_statement _ _ refl
+
+-- `c = diff(a, b)` takes the second operand from the first
+pub difference_of_two : Reads (c ∷ Fixed s.Eq ∷ Fixed s.Diff ∷ Fixed s.OpenParen ∷ a ∷ Fixed s.Comma ∷ b ∷ Fixed s.CloseParen ∷ [])
+    (Assign (codes "c") (Diff (source.Named (codes "a")) (source.Named (codes "b"))))
+unfolding d.statement d.assignment d.relation d.argument d.source d.two_sources d.column_definition d.key d.same_symbol
+difference_of_two = is_statement _ _ refl
+
+-- `c = empty()` is no statement
+pub empty_of_no_column : (t : StatementTree) → Reads (c ∷ Fixed s.Eq ∷ Fixed s.Empty ∷ Fixed s.OpenParen ∷ Fixed s.CloseParen ∷ []) t → ⊥
+unfolding d.statement d.assignment d.relation d.argument d.source d.two_sources d.column_definition d.key d.same_symbol
+empty_of_no_column t h = let some = statement-complete _ t h in cc
 
 -- `c = a b` is no statement
 pub text_behind_a_statement : (t : StatementTree) → Reads (c ∷ Fixed s.Eq ∷ a ∷ b ∷ []) t → ⊥
 unfolding d.statement d.assignment d.relation d.source d.same_symbol
 text_behind_a_statement t h = let some = statement-complete _ t h in cc
+
+-- ---- words
+
+-- a reserved word stands in any case
+pub count_all_in_any_case : reserved (codes "CountALL") ≡ Some keyword.CountAll
+unfolding reserved
+count_all_in_any_case = refl
+
+-- a type's word isn't reserved, and no part of a word is
+pub int_is_a_name : reserved (codes "int") ≡ None
+unfolding reserved
+int_is_a_name = refl
+
+pub counter_is_a_name : reserved (codes "counter") ≡ None
+unfolding reserved
+counter_is_a_name = refl
+
+-- `long` is the type of ints, and `real` is none
+pub long_is_int : type_of (codes "Long") ≡ Some type.Int
+long_is_int = refl
+
+pub real_is_no_type : type_of (codes "real") ≡ None
+real_is_no_type = refl
 
 -- ---- pieces
 
@@ -119,7 +224,7 @@ abbrev word : Token
 word = record { kind = kind.Word; start = 0; end = 1 }
 
 abbrev semicolon : Token
-semicolon = record { kind = kind.Semicolon; start = 1; end = 2 }
+semicolon = record { kind = kind.Sign sign.Semicolon; start = 1; end = 2 }
 
 -- an empty piece between semicolons counts, and so does what no semicolon ends
 pub three_pieces : pieces_of (semicolon ∷ semicolon ∷ word ∷ [])

@@ -23,8 +23,11 @@ use Rattle.myrial_ast.specs.declared.relations.Operand.TheVariants as source
 use Rattle.myrial_ast.specs.declared.relations.FromItem.{FromItem}
 use Rattle.myrial_ast.specs.Trees as tree
 use Rattle.myrial_ast.specs.Trees.{Tree, EmitTree, RelTree, StatementTree, Name}
-use Rattle.myrial_parser.specs.declared.terminals.Symbol.{Symbol}
-use Rattle.myrial_parser.specs.declared.terminals.Symbol.TheVariants as s
+use Rattle.myrial_lexer.specs.declared.kinds.Sign.TheVariants as sign
+use Rattle.myrial_parser.specs.declared.terminals.Keyword.{Keyword}
+use Rattle.myrial_parser.specs.declared.terminals.Keyword.TheVariants as keyword
+use Rattle.myrial_parser.specs.declared.terminals.Symbol.TheVariants.{Keyword as Word, Sign}
+use Rattle.myrial_parser.specs.Symbols as s
 use Rattle.myrial_parser.specs.Terminals as t
 use Rattle.myrial_parser.specs.Terminals.{Terminal, Fixed}
 use Rattle.myrial_parser.specs.Phrases.{Chain, Pair, Prefixed, Separated}
@@ -32,37 +35,37 @@ use Rattle.myrial_parser.specs.Phrases.{Chain, Pair, Prefixed, Separated}
 -- ---- operators
 
 abbrev pub or_sign : Terminal → Option BinOp
-or_sign (Fixed s.Or) = Some op.Or
+or_sign (Fixed (Word keyword.Or)) = Some op.Or
 or_sign _ = None
 
 abbrev pub and_sign : Terminal → Option BinOp
-and_sign (Fixed s.And) = Some op.And
+and_sign (Fixed (Word keyword.And)) = Some op.And
 and_sign _ = None
 
 abbrev pub sum_sign : Terminal → Option BinOp
-sum_sign (Fixed s.Plus) = Some op.Add
-sum_sign (Fixed s.Minus) = Some op.Sub
+sum_sign (Fixed (Sign sign.Plus)) = Some op.Add
+sum_sign (Fixed (Sign sign.Minus)) = Some op.Sub
 sum_sign _ = None
 
 abbrev pub product_sign : Terminal → Option BinOp
-product_sign (Fixed s.Star) = Some op.Mul
+product_sign (Fixed (Sign sign.Star)) = Some op.Mul
 product_sign _ = None
 
 abbrev pub comparison_sign : Terminal → Option BinOp
-comparison_sign (Fixed s.Eq) = Some op.Eq
-comparison_sign (Fixed s.Ne) = Some op.Ne
-comparison_sign (Fixed s.Lt) = Some op.Lt
-comparison_sign (Fixed s.Le) = Some op.Le
-comparison_sign (Fixed s.Gt) = Some op.Gt
-comparison_sign (Fixed s.Ge) = Some op.Ge
+comparison_sign (Fixed (Sign sign.Eq)) = Some op.Eq
+comparison_sign (Fixed (Sign sign.Ne)) = Some op.Ne
+comparison_sign (Fixed (Sign sign.Lt)) = Some op.Lt
+comparison_sign (Fixed (Sign sign.Le)) = Some op.Le
+comparison_sign (Fixed (Sign sign.Gt)) = Some op.Gt
+comparison_sign (Fixed (Sign sign.Ge)) = Some op.Ge
 comparison_sign _ = None
 
 -- the aggregate of an argument
-abbrev pub aggregate_of : Symbol → Option AggOp
-aggregate_of s.Count = Some agg.Count
-aggregate_of s.Sum = Some agg.Sum
-aggregate_of s.Min = Some agg.Min
-aggregate_of s.Max = Some agg.Max
+abbrev pub aggregate_of : Keyword → Option AggOp
+aggregate_of keyword.Count = Some agg.Count
+aggregate_of keyword.Sum = Some agg.Sum
+aggregate_of keyword.Min = Some agg.Min
+aggregate_of keyword.Max = Some agg.Max
 aggregate_of _ = None
 
 -- ---- expressions
@@ -81,6 +84,13 @@ is_number _ = false
 
 -- in parentheses stands an inner expression
 module _ (Inner : List Terminal → Tree → Type 0) where
+  -- what stands in the parentheses of an aggregate; `count(*)` and `countall()` leave one tree
+  pub data IsAggregated : Keyword → List Terminal → Tree → Type 0 where
+    of_star : IsAggregated keyword.Count (Fixed s.Star ∷ []) (tree.AggAll agg.CountAll)
+    of_nothing : IsAggregated keyword.CountAll [] (tree.AggAll agg.CountAll)
+    of_argument : (word : Keyword) (op : AggOp) (ts : List Terminal) (e : Tree) → aggregate_of word ≡ Some op → Inner ts e
+        → IsAggregated word ts (tree.Agg op e)
+
   -- a literal, a column, an aggregate, or an inner expression in parentheses, which leave no node
   pub data Primary : List Terminal → Tree → Type 0 where
     number : (n : ℕ) → Primary (t.Number n ∷ []) (tree.Lit (value.Int (pos n)))
@@ -89,10 +99,8 @@ module _ (Inner : List Terminal → Tree → Type 0) where
     falsehood : Primary (Fixed s.False ∷ []) (tree.Lit (value.Bool false))
     reference : (ts : List Terminal) (c : ColRef) → IsColumn ts c → Primary ts (tree.Col c)
     grouped : (ts : List Terminal) (a : Tree) → Inner ts a → Primary (Fixed s.OpenParen ∷ ts ++ Fixed s.CloseParen ∷ []) a
-    count_star : Primary (Fixed s.Count ∷ Fixed s.OpenParen ∷ Fixed s.Star ∷ Fixed s.CloseParen ∷ []) (tree.AggAll agg.CountAll)
-    count_all : Primary (Fixed s.CountAll ∷ Fixed s.OpenParen ∷ Fixed s.CloseParen ∷ []) (tree.AggAll agg.CountAll)
-    aggregate : (symbol : Symbol) (a : AggOp) (ts : List Terminal) (e : Tree) → aggregate_of symbol ≡ Some a → Inner ts e
-        → Primary (Fixed symbol ∷ Fixed s.OpenParen ∷ ts ++ Fixed s.CloseParen ∷ []) (tree.Agg a e)
+    aggregate : (word : Keyword) (ts : List Terminal) (e : Tree) → IsAggregated word ts e
+        → Primary (Fixed (Word word) ∷ Fixed s.OpenParen ∷ ts ++ Fixed s.CloseParen ∷ []) e
 
   -- a primary behind none or more minus signs; a minus sign and a number alone behind it are one literal
   pub data Signed : List Terminal → Tree → Type 0 where
@@ -173,17 +181,17 @@ pub data IsCondition : List Terminal → Option Tree → Type 0 where
   absent : IsCondition [] None
   present : (ts : List Terminal) (e : Tree) → IsExpression ts e → IsCondition (Fixed s.Where ∷ ts) (Some e)
 
--- a relation expression
+-- what stands in the parentheses of `empty`, `distinct`, `unionall` and `diff`
+pub data IsArgument : Keyword → List Terminal → RelTree → Type 0 where
+  of_columns : (ts : List Terminal) (columns : List Column) → Separated IsColumnDefinition ts columns → IsArgument keyword.Empty ts (tree.Empty columns)
+  of_one : (ts : List Terminal) (o : Operand) → IsSource ts o → IsArgument keyword.Distinct ts (tree.Distinct o)
+  of_both : (ts us : List Terminal) (o p : Operand) → IsSource ts o → IsSource us p → IsArgument keyword.UnionAll (ts ++ Fixed s.Comma ∷ us) (tree.UnionAll o p)
+  of_difference : (ts us : List Terminal) (o p : Operand) → IsSource ts o → IsSource us p → IsArgument keyword.Diff (ts ++ Fixed s.Comma ∷ us) (tree.Diff o p)
+
+-- a relation expression: an operand, a word with its argument in parentheses, or a comprehension
 pub data IsRelation : List Terminal → RelTree → Type 0 where
   copied : (ts : List Terminal) (o : Operand) → IsSource ts o → IsRelation ts (tree.Copy o)
-  emptied : (ts : List Terminal) (columns : List Column) → Separated IsColumnDefinition ts columns
-      → IsRelation (Fixed s.Empty ∷ Fixed s.OpenParen ∷ ts ++ Fixed s.CloseParen ∷ []) (tree.Empty columns)
-  distinct : (ts : List Terminal) (o : Operand) → IsSource ts o
-      → IsRelation (Fixed s.Distinct ∷ Fixed s.OpenParen ∷ ts ++ Fixed s.CloseParen ∷ []) (tree.Distinct o)
-  union_all : (ts us : List Terminal) (o p : Operand) → IsSource ts o → IsSource us p
-      → IsRelation (Fixed s.UnionAll ∷ Fixed s.OpenParen ∷ ts ++ Fixed s.Comma ∷ us ++ Fixed s.CloseParen ∷ []) (tree.UnionAll o p)
-  difference : (ts us : List Terminal) (o p : Operand) → IsSource ts o → IsSource us p
-      → IsRelation (Fixed s.Diff ∷ Fixed s.OpenParen ∷ ts ++ Fixed s.Comma ∷ us ++ Fixed s.CloseParen ∷ []) (tree.Diff o p)
+  called : (word : Keyword) (ts : List Terminal) (r : RelTree) → IsArgument word ts r → IsRelation (Fixed (Word word) ∷ Fixed s.OpenParen ∷ ts ++ Fixed s.CloseParen ∷ []) r
   comprehension : (ts us vs : List Terminal) (items : List FromItem) (condition : Option Tree) (emits : List EmitTree)
       → Separated IsItem ts items → IsCondition us condition → Separated IsEmit vs emits
       → IsRelation (Fixed s.OpenBracket ∷ Fixed s.From ∷ ts ++ us ++ Fixed s.Emit ∷ vs ++ Fixed s.CloseBracket ∷ []) (tree.From items condition emits)

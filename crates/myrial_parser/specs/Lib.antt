@@ -1,6 +1,7 @@
 -- The words of this crate, lowest first.
+pub mod Symbols
 pub mod Terminals
 pub mod Phrases
 pub mod Grammar
-pub mod Descent
 pub mod Pieces
+pub mod inner

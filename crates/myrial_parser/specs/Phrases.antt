@@ -8,7 +8,7 @@ use Rattle.std.specs.Prelude.{◌≡◌, List, [], ◌∷◌, ◌++◌, Option, 
 use Rattle.myrial_ast.specs.declared.operators.BinOp.{BinOp}
 use Rattle.myrial_ast.specs.Trees.{Tree, Bin}
 use Rattle.myrial_parser.specs.declared.terminals.Symbol.{Symbol}
-use Rattle.myrial_parser.specs.declared.terminals.Symbol.TheVariants.{Comma}
+use Rattle.myrial_parser.specs.Symbols.{Comma}
 use Rattle.myrial_parser.specs.Terminals.{Terminal, Fixed}
 
 -- a relation between terminals and what they read as

@@ -11,11 +11,13 @@
 --   IsFirstFault text tokens number fault the piece with this number has this fault, and the pieces before it are read
 use Rattle.std.specs.Prelude.{◌≡◌, ℕ, ◌+◌, ◌<◌, Bool, true, false, List, [], ◌∷◌, ◌++◌, length, take, count_by}
 use Rattle.std.specs.List.{slice_split}
+use Rattle.rel_base.specs.Limits.{most_columns, most_items, most_nesting, most_pieces, most_tokens}
 use Rattle.myrial_ast.specs.Trees as tree
 use Rattle.myrial_ast.specs.Trees.{StatementTree}
 use Rattle.myrial_lexer.specs.declared.kinds.Token.{Token}
 use Rattle.myrial_lexer.specs.declared.kinds.TokenKind.{TokenKind}
 use Rattle.myrial_lexer.specs.declared.kinds.TokenKind.TheVariants as kind
+use Rattle.myrial_lexer.specs.declared.kinds.Sign.TheVariants as sign
 use Rattle.myrial_parser.specs.declared.faults.ParseFault.{ParseFault}
 use Rattle.myrial_parser.specs.declared.faults.ParseFault.TheVariants as answer
 use Rattle.myrial_parser.specs.declared.faults.What.{What}
@@ -26,15 +28,15 @@ use Rattle.myrial_parser.specs.Grammar.{Reads}
 -- ---- pieces
 
 abbrev pub is_semicolon : TokenKind → Bool
-is_semicolon kind.Semicolon = true
+is_semicolon (kind.Sign sign.Semicolon) = true
 is_semicolon _ = false
 
 abbrev pub is_open : TokenKind → Bool
-is_open kind.OpenParen = true
+is_open (kind.Sign sign.OpenParen) = true
 is_open _ = false
 
 abbrev pub is_close : TokenKind → Bool
-is_close kind.CloseParen = true
+is_close (kind.Sign sign.CloseParen) = true
 is_close _ = false
 
 -- the lists of tokens between semicolons, in front of the first one and behind the last one
@@ -63,9 +65,9 @@ pieces_of tokens = pieces_of_parts (parts_of tokens)
 
 -- ---- what is wrong with a piece
 
--- at some place more than 64 parentheses are open
+-- at some place too many parentheses are open
 abbrev pub NestsTooDeep : List Token → Type 0
-NestsTooDeep tokens = (n : ℕ) × (count_by (λ t. is_close t.kind) (take n tokens) + 64 < count_by (λ t. is_open t.kind) (take n tokens))
+NestsTooDeep tokens = (n : ℕ) × (count_by (λ t. is_close t.kind) (take n tokens) + most_nesting < count_by (λ t. is_open t.kind) (take n tokens))
 
 -- how many items a statement's comprehension has
 abbrev pub items_of : StatementTree → ℕ
@@ -91,12 +93,12 @@ pub data PieceFault : Type 0 where
 -- what is wrong with a piece that has this number, each fault by itself
 module _ (text : List ℕ) (number : ℕ) (piece : Piece) where
   pub data HasFault : PieceFault → Type 0 where
-    too_many_statements : 256 < number → HasFault (TooMany Statements)
-    too_many_tokens : 1024 < length piece.tokens → HasFault (TooMany Tokens)
+    too_many_statements : most_pieces < number → HasFault (TooMany Statements)
+    too_many_tokens : most_tokens < length piece.tokens → HasFault (TooMany Tokens)
     nests_too_deep : NestsTooDeep piece.tokens → HasFault (TooMany Nesting)
     no_statement : ((s : StatementTree) → IsStatement text piece s → ⊥) → HasFault Syntax
-    too_many_items : (s : StatementTree) → IsStatement text piece s → 8 < items_of s → HasFault (TooMany FromItems)
-    too_many_columns : (s : StatementTree) → IsStatement text piece s → 16 < columns_of s → HasFault (TooMany Columns)
+    too_many_items : (s : StatementTree) → IsStatement text piece s → most_items < items_of s → HasFault (TooMany FromItems)
+    too_many_columns : (s : StatementTree) → IsStatement text piece s → most_columns < columns_of s → HasFault (TooMany Columns)
 
 -- the place of a fault among those of a piece
 abbrev pub rank : PieceFault → ℕ

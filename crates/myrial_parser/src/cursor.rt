@@ -1,7 +1,7 @@
 //! A cursor over the terminals of a piece. It looks one terminal ahead, and two more where `T.*` may be emitted.
 ghost use Rattle.std.specs.Prelude.{◌≡◌, ◌-◌, ◌<◌, ◌^◌, All, IfSome, length, drop, option_map};
-ghost use Rattle.myrial_parser.specs.Descent as spec;
-ghost use Rattle.myrial_parser.specs.Descent.{Gives};
+ghost use Rattle.myrial_parser.specs.inner.Descent as spec;
+ghost use Rattle.myrial_parser.specs.inner.Descent.{Parses};
 ghost use Rattle.myrial_lexer.specs.Slices.{IsCut};
 ghost use Rattle.myrial_parser.specs.Terminals.{IsSmall, seen, terminals_of};
 
@@ -21,7 +21,7 @@ pub struct Cursor<'a> {
 
 impl<'a> Model for Cursor<'a> {
     ghost use Rattle.std.specs.Prelude.{◌-◌, ◌<◌, ◌^◌, All, length};
-    ghost use Rattle.myrial_parser.specs.Descent.{Input};
+    ghost use Rattle.myrial_parser.specs.inner.Descent.{Input};
     ghost use Rattle.myrial_lexer.specs.Slices.{IsCut};
     ghost use Rattle.myrial_parser.specs.Terminals.{terminals_of};
 
@@ -70,17 +70,24 @@ impl<'a> Cursor<'a> {
         }
     }
 
+    /// The symbol that comes next, if one does.
+    pub fn symbol(&self) -> Option<Symbol>
+        ensures { result ≡ spec.symbol_ahead self.now }
+    {
+        let Some(Terminal::Fixed(symbol)) = self.peek() else {
+            return None;
+        };
+        Some(symbol)
+    }
+
     /// Whether this symbol comes next.
     pub fn sees(&self, symbol: Symbol) -> bool
         ensures { result ≡ spec.sees symbol self.now }
     {
-        match self.peek() {
-            Some(Terminal::Fixed(found)) => same_symbol(found, symbol),
-            Some(Terminal::Name(_)) => false,
-            Some(Terminal::Number(_)) => false,
-            Some(Terminal::Quoted(_)) => false,
-            None => false,
-        }
+        let Some(Terminal::Fixed(found)) = self.peek() else {
+            return false;
+        };
+        same_symbol(found, symbol)
     }
 
     /// Whether this symbol comes behind so many terminals.
@@ -108,7 +115,7 @@ impl<'a> Cursor<'a> {
 
     /// Passes this symbol, which has to come next.
     pub fn expect(&mut self, symbol: Symbol) -> Result<(), Refusal>
-        ensures { Gives (λ x. x) (spec.expect symbol self.old) result self.new }
+        ensures { Parses (λ x. x) (spec.expect symbol self.old) result self.new }
     {
         if self.sees(symbol) {
             self.skip();
@@ -120,39 +127,29 @@ impl<'a> Cursor<'a> {
 
     /// Passes a name, which has to come next.
     pub fn name(&mut self, alloc: Global) -> Result<Text, Refusal>
-        ensures { Gives (λ x. x) (spec.name self.old) result self.new }
+        ensures { Parses (λ x. x) (spec.name self.old) result self.new }
     {
-        match self.peek() {
-            Some(Terminal::Name(name)) => {
-                self.skip();
-                Ok(Text::of(alloc, name)?)
-            }
-            Some(Terminal::Number(_)) => Err(Refusal::Syntax),
-            Some(Terminal::Quoted(_)) => Err(Refusal::Syntax),
-            Some(Terminal::Fixed(_)) => Err(Refusal::Syntax),
-            None => Err(Refusal::Syntax),
-        }
+        let Some(Terminal::Name(name)) = self.peek() else {
+            return Err(Refusal::Syntax);
+        };
+        self.skip();
+        Ok(Text::of(alloc, name)?)
     }
 
     /// Passes a number, which has to come next.
     pub fn number(&mut self) -> Result<u64, Refusal>
-        ensures { Gives (λ x. x) (spec.number self.old) result self.new }
+        ensures { Parses (λ x. x) (spec.number self.old) result self.new }
     {
-        match self.peek() {
-            Some(Terminal::Number(number)) => {
-                self.skip();
-                Ok(number)
-            }
-            Some(Terminal::Name(_)) => Err(Refusal::Syntax),
-            Some(Terminal::Quoted(_)) => Err(Refusal::Syntax),
-            Some(Terminal::Fixed(_)) => Err(Refusal::Syntax),
-            None => Err(Refusal::Syntax),
-        }
+        let Some(Terminal::Number(number)) = self.peek() else {
+            return Err(Refusal::Syntax);
+        };
+        self.skip();
+        Ok(number)
     }
 
     /// Passes the end, which has to be reached.
     pub fn end(&self) -> Result<(), Refusal>
-        ensures { Gives (λ x. x) (spec.end self.now) result self.now }
+        ensures { Parses (λ x. x) (spec.end self.now) result self.now }
     {
         if self.tokens.is_empty() {
             Ok(())
@@ -163,8 +160,13 @@ impl<'a> Cursor<'a> {
 }
 
 /// Whether two symbols are one.
+#[tactic(auto, unfolding(crate::specs::inner::Descent::same_symbol))]
 fn same_symbol(found: Symbol, symbol: Symbol) -> bool
     ensures { result ≡ spec.same_symbol found symbol }
 {
-    found == symbol
+    match (found, symbol) {
+        (Symbol::Keyword(found), Symbol::Keyword(symbol)) => found == symbol,
+        (Symbol::Sign(found), Symbol::Sign(symbol)) => found == symbol,
+        _ => false,
+    }
 }

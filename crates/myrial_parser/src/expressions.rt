@@ -4,18 +4,19 @@ ghost use Rattle.myrial_ast.specs.Trees.{tree_of};
 ghost use Rattle.myrial_ast.specs.Trees as tree;
 ghost use Rattle.myrial_parser.specs.Grammar as grammar;
 ghost use Rattle.myrial_parser.specs.Terminals.{Fixed};
-ghost use Rattle.myrial_parser.specs.Descent as spec;
-ghost use Rattle.myrial_parser.specs.Descent.{Gives};
+ghost use Rattle.myrial_parser.specs.inner.Descent as spec;
+ghost use Rattle.myrial_parser.specs.inner.Descent.{Parses};
 
 use crate::cursor::Cursor;
 use crate::faults::Refusal;
-use crate::terminals::{Symbol, Terminal};
+use crate::terminals::{Keyword, Symbol, Terminal};
 use myrial_ast::{AggOp, BinOp, ColRef, Expr};
+use myrial_lexer::Sign;
 use rel_base::{Memory, Text, Value};
 use std::alloc::Global;
 
 /// The operators that group from the left, the loosest first.
-#[derive(Clone, Copy, Debug)]
+#[derive(Clone, Copy)]
 pub enum Level {
     /// `or`.
     Disjunction,
@@ -33,20 +34,20 @@ fn operator_of(level: Level, symbol: Symbol) -> Option<BinOp>
 {
     match level {
         Level::Disjunction => match symbol {
-            Symbol::Or => Some(BinOp::Or),
+            Symbol::Keyword(Keyword::Or) => Some(BinOp::Or),
             _ => None,
         },
         Level::Conjunction => match symbol {
-            Symbol::And => Some(BinOp::And),
+            Symbol::Keyword(Keyword::And) => Some(BinOp::And),
             _ => None,
         },
         Level::Sum => match symbol {
-            Symbol::Plus => Some(BinOp::Add),
-            Symbol::Minus => Some(BinOp::Sub),
+            Symbol::Sign(Sign::Plus) => Some(BinOp::Add),
+            Symbol::Sign(Sign::Minus) => Some(BinOp::Sub),
             _ => None,
         },
         Level::Product => match symbol {
-            Symbol::Star => Some(BinOp::Mul),
+            Symbol::Sign(Sign::Star) => Some(BinOp::Mul),
             _ => None,
         },
     }
@@ -57,12 +58,12 @@ fn comparison_of(symbol: Symbol) -> Option<BinOp>
     ensures { result ≡ grammar.comparison_sign (Fixed symbol) }
 {
     match symbol {
-        Symbol::Eq => Some(BinOp::Eq),
-        Symbol::Ne => Some(BinOp::Ne),
-        Symbol::Lt => Some(BinOp::Lt),
-        Symbol::Le => Some(BinOp::Le),
-        Symbol::Gt => Some(BinOp::Gt),
-        Symbol::Ge => Some(BinOp::Ge),
+        Symbol::Sign(Sign::Eq) => Some(BinOp::Eq),
+        Symbol::Sign(Sign::Ne) => Some(BinOp::Ne),
+        Symbol::Sign(Sign::Lt) => Some(BinOp::Lt),
+        Symbol::Sign(Sign::Le) => Some(BinOp::Le),
+        Symbol::Sign(Sign::Gt) => Some(BinOp::Gt),
+        Symbol::Sign(Sign::Ge) => Some(BinOp::Ge),
         _ => None,
     }
 }
@@ -98,19 +99,6 @@ fn with_negations(alloc: Global, count: usize, operand: Expr) -> Result<Expr, Me
 }
 
 impl Cursor<'_> {
-    /// The symbol that comes next, if one does.
-    fn symbol(&self) -> Option<Symbol>
-        ensures { result ≡ spec.symbol_ahead self.now }
-    {
-        match self.peek() {
-            Some(Terminal::Fixed(symbol)) => Some(symbol),
-            Some(Terminal::Name(_)) => None,
-            Some(Terminal::Number(_)) => None,
-            Some(Terminal::Quoted(_)) => None,
-            None => None,
-        }
-    }
-
     /// Passes an operator of a level, if one comes next.
     fn operator(&mut self, level: Level) -> Option<BinOp>
         ensures found { result ≡ spec.operator_ahead (spec.sign_at level) self.old }
@@ -158,9 +146,9 @@ impl Cursor<'_> {
 
     /// An expression in which fewer than `depth` parentheses are open at one place.
     #[cycle(expression)]
-    #[tactic(auto, unfolding(crate::specs::Descent::expression))]
+    #[tactic(auto, unfolding(crate::specs::inner::Descent::expression))]
     pub fn expression(&mut self, alloc: Global, depth: usize) -> Result<Expr, Refusal>
-        ensures { Gives tree_of (spec.expression depth self.old) result self.new }
+        ensures { Parses tree_of (spec.expression depth self.old) result self.new }
     {
         if depth == 0 {
             return Err(Refusal::Syntax);
@@ -171,7 +159,7 @@ impl Cursor<'_> {
     /// Operands with operators of one level between them, grouped from the left.
     #[cycle(expression)]
     fn chain(&mut self, alloc: Global, depth: usize, level: Level) -> Result<Expr, Refusal>
-        ensures { Gives tree_of (spec.chain_at (spec.expression depth) level self.old) result self.new }
+        ensures { Parses tree_of (spec.chain_at (spec.expression depth) level self.old) result self.new }
     {
         let mut left = self.operand(alloc, depth, level)?;
         for _turn in 0..self.left() {
@@ -187,7 +175,7 @@ impl Cursor<'_> {
     /// An operand of a level.
     #[cycle(expression)]
     fn operand(&mut self, alloc: Global, depth: usize, level: Level) -> Result<Expr, Refusal>
-        ensures { Gives tree_of (spec.operand_at (spec.expression depth) level self.old) result self.new }
+        ensures { Parses tree_of (spec.operand_at (spec.expression depth) level self.old) result self.new }
     {
         match level {
             Level::Disjunction => self.chain(alloc, depth, Level::Conjunction),
@@ -200,18 +188,18 @@ impl Cursor<'_> {
     /// A comparison behind none or more `not`.
     #[cycle(expression)]
     fn negation(&mut self, alloc: Global, depth: usize) -> Result<Expr, Refusal>
-        ensures { Gives tree_of (spec.negation (spec.expression depth) self.old) result self.new }
+        ensures { Parses tree_of (spec.negation (spec.expression depth) self.old) result self.new }
     {
-        let count = self.count_of(Symbol::Not);
+        let count = self.count_of(Symbol::Keyword(Keyword::Not));
         let found = self.comparison(alloc, depth)?;
         Ok(with_negations(alloc, count, found)?)
     }
 
     /// A sum, or two with a comparison between them.
     #[cycle(expression)]
-    #[tactic(auto, unfolding(crate::specs::Descent::comparison))]
+    #[tactic(auto, unfolding(crate::specs::inner::Descent::comparison))]
     fn comparison(&mut self, alloc: Global, depth: usize) -> Result<Expr, Refusal>
-        ensures { Gives tree_of (spec.comparison (spec.expression depth) self.old) result self.new }
+        ensures { Parses tree_of (spec.comparison (spec.expression depth) self.old) result self.new }
     {
         let left = self.chain(alloc, depth, Level::Sum)?;
         let Some(op) = self.comparison_sign() else {
@@ -224,9 +212,9 @@ impl Cursor<'_> {
     /// A primary behind none or more minus signs; the last one and a number behind it are one literal.
     #[cycle(expression)]
     fn signed(&mut self, alloc: Global, depth: usize) -> Result<Expr, Refusal>
-        ensures { Gives tree_of (spec.signed (spec.expression depth) self.old) result self.new }
+        ensures { Parses tree_of (spec.signed (spec.expression depth) self.old) result self.new }
     {
-        let count = self.count_of(Symbol::Minus);
+        let count = self.count_of(Symbol::Sign(Sign::Minus));
         if count == 0 {
             return self.primary(alloc, depth);
         }
@@ -237,7 +225,7 @@ impl Cursor<'_> {
     #[cycle(expression)]
     fn behind_minuses(&mut self, alloc: Global, depth: usize, count: usize) -> Result<Expr, Refusal>
         requires { count < 2 ^ 63 }
-        ensures { Gives tree_of (spec.signed_behind (spec.expression depth) (count + 1) (spec.first self.old) self.old) result self.new }
+        ensures { Parses tree_of (spec.signed_behind (spec.expression depth) (count + 1) (spec.first self.old) self.old) result self.new }
     {
         if let Some(Terminal::Number(number)) = self.peek() {
             self.skip();
@@ -249,9 +237,9 @@ impl Cursor<'_> {
 
     /// A literal, a column, an aggregate, or an expression in parentheses.
     #[cycle(expression)]
-    #[tactic(auto, unfolding(crate::specs::Descent::primary))]
+    #[tactic(auto, unfolding(crate::specs::inner::Descent::primary))]
     fn primary(&mut self, alloc: Global, depth: usize) -> Result<Expr, Refusal>
-        ensures { Gives tree_of (spec.primary (spec.expression depth) self.old) result self.new }
+        ensures { Parses tree_of (spec.primary (spec.expression depth) self.old) result self.new }
     {
         let Some(next) = self.peek() else {
             return Err(Refusal::Syntax);
@@ -271,76 +259,65 @@ impl Cursor<'_> {
     /// What stands behind the symbol that a primary begins with.
     #[cycle(expression)]
     fn fixed(&mut self, alloc: Global, depth: usize, symbol: Symbol) -> Result<Expr, Refusal>
-        ensures { Gives tree_of (spec.fixed_by (spec.expression depth) symbol self.old) result self.new }
+        ensures { Parses tree_of (spec.fixed_by (spec.expression depth) symbol self.old) result self.new }
     {
         match symbol {
-            Symbol::True => Ok(Expr::Lit(Value::Bool(true))),
-            Symbol::False => Ok(Expr::Lit(Value::Bool(false))),
-            Symbol::Dollar => Ok(Expr::Col(ColRef::ByPlace(self.number()?))),
-            Symbol::OpenParen => self.closed(alloc, depth),
-            Symbol::Count => self.count(alloc, depth),
-            Symbol::CountAll => {
-                self.expect(Symbol::OpenParen)?;
-                self.ended()
+            Symbol::Keyword(Keyword::True) => Ok(Expr::Lit(Value::Bool(true))),
+            Symbol::Keyword(Keyword::False) => Ok(Expr::Lit(Value::Bool(false))),
+            Symbol::Keyword(word) => self.aggregate(alloc, depth, word),
+            Symbol::Sign(Sign::Dollar) => Ok(Expr::Col(ColRef::ByPlace(self.number()?))),
+            Symbol::Sign(Sign::OpenParen) => {
+                let inner = self.expression(alloc, depth)?;
+                self.expect(Symbol::Sign(Sign::CloseParen))?;
+                Ok(inner)
             }
-            Symbol::Sum => self.aggregate(alloc, depth, AggOp::Sum),
-            Symbol::Min => self.aggregate(alloc, depth, AggOp::Min),
-            Symbol::Max => self.aggregate(alloc, depth, AggOp::Max),
-            _ => Err(Refusal::Syntax),
+            Symbol::Sign(_) => Err(Refusal::Syntax),
         }
+    }
+
+    /// What stands behind the word of an aggregate, in parentheses.
+    #[cycle(expression)]
+    fn aggregate(&mut self, alloc: Global, depth: usize, word: Keyword) -> Result<Expr, Refusal>
+        ensures { Parses tree_of (spec.in_parens (spec.aggregated (spec.expression depth) word) self.old) result self.new }
+    {
+        self.expect(Symbol::Sign(Sign::OpenParen))?;
+        let found = self.aggregated(alloc, depth, word)?;
+        self.expect(Symbol::Sign(Sign::CloseParen))?;
+        Ok(found)
+    }
+
+    /// What stands in the parentheses of an aggregate: a star, nothing or an expression.
+    #[cycle(expression)]
+    fn aggregated(&mut self, alloc: Global, depth: usize, word: Keyword) -> Result<Expr, Refusal>
+        ensures { Parses tree_of (spec.aggregated (spec.expression depth) word self.old) result self.new }
+    {
+        let op = match word {
+            Keyword::CountAll => return Ok(Expr::Agg(AggOp::CountAll, None)),
+            Keyword::Count => {
+                if self.eat(Symbol::Sign(Sign::Star)) {
+                    return Ok(Expr::Agg(AggOp::CountAll, None));
+                }
+                AggOp::Count
+            }
+            Keyword::Sum => AggOp::Sum,
+            Keyword::Min => AggOp::Min,
+            Keyword::Max => AggOp::Max,
+            _ => return Err(Refusal::Syntax),
+        };
+        let argument = self.expression(alloc, depth)?;
+        Ok(Expr::aggregate(alloc, op, argument)?)
     }
 
     /// What stands behind the first name of a column: nothing of its own, or a dot and a column of that alias.
     fn column(&mut self, alloc: Global, name: Text) -> Result<ColRef, Refusal>
-        ensures { Gives (λ x. x) (spec.column_behind name self.old) result self.new }
+        ensures { Parses (λ x. x) (spec.column_behind name self.old) result self.new }
     {
-        if !self.eat(Symbol::Dot) {
+        if !self.eat(Symbol::Sign(Sign::Dot)) {
             return Ok(ColRef::ByName(name));
         }
-        if self.eat(Symbol::Dollar) {
+        if self.eat(Symbol::Sign(Sign::Dollar)) {
             return Ok(ColRef::OfPlace(name, self.number()?));
         }
         Ok(ColRef::OfName(name, self.name(alloc)?))
-    }
-
-    /// The closing parenthesis of an aggregate of all rows.
-    fn ended(&mut self) -> Result<Expr, Refusal>
-        ensures { Gives tree_of (spec.ended self.old) result self.new }
-    {
-        self.expect(Symbol::CloseParen)?;
-        Ok(Expr::Agg(AggOp::CountAll, None))
-    }
-
-    /// An expression and the closing parenthesis behind it.
-    #[cycle(expression)]
-    fn closed(&mut self, alloc: Global, depth: usize) -> Result<Expr, Refusal>
-        ensures { Gives tree_of (spec.closed (spec.expression depth) (λ a. a) self.old) result self.new }
-    {
-        let inner = self.expression(alloc, depth)?;
-        self.expect(Symbol::CloseParen)?;
-        Ok(inner)
-    }
-
-    /// What stands behind `count`: a star or an expression in parentheses.
-    #[cycle(expression)]
-    fn count(&mut self, alloc: Global, depth: usize) -> Result<Expr, Refusal>
-        ensures { Gives tree_of (spec.count (spec.expression depth) self.old) result self.new }
-    {
-        self.expect(Symbol::OpenParen)?;
-        if self.eat(Symbol::Star) {
-            return self.ended();
-        }
-        let argument = self.closed(alloc, depth)?;
-        Ok(Expr::aggregate(alloc, AggOp::Count, argument)?)
-    }
-
-    /// What stands behind the name of an aggregate: an expression in parentheses.
-    #[cycle(expression)]
-    fn aggregate(&mut self, alloc: Global, depth: usize, op: AggOp) -> Result<Expr, Refusal>
-        ensures { Gives tree_of (spec.aggregate (spec.expression depth) op self.old) result self.new }
-    {
-        self.expect(Symbol::OpenParen)?;
-        let argument = self.closed(alloc, depth)?;
-        Ok(Expr::aggregate(alloc, op, argument)?)
     }
 }

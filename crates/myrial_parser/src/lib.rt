@@ -16,6 +16,7 @@ mod laws;
 mod limits;
 mod relations;
 mod scripts;
+mod separated;
 mod terminals;
 
 pub use faults::{ParseFault, What};

@@ -8,22 +8,8 @@ ghost use Rattle.myrial_parser.specs.Pieces.{HasFault, IsFaulty, NestsTooDeep, P
 
 use crate::faults::What;
 use myrial_ast::{RelExpr, Stmt};
-use myrial_lexer::{Token, TokenKind};
-
-/// The most pieces of a script that have a number.
-pub const MOST_PIECES: u32 = 256;
-
-/// The most tokens of a piece.
-pub const MOST_TOKENS: usize = 1024;
-
-/// The most parentheses that are open at one place.
-pub const MOST_NESTING: usize = 64;
-
-/// The most items of a comprehension.
-pub const MOST_ITEMS: u32 = 8;
-
-/// The most columns of `empty`, and emit items of a comprehension.
-pub const MOST_COLUMNS: u32 = 16;
+use myrial_lexer::{Sign, Token, TokenKind};
+use rel_base::{MOST_NESTING, MOST_PIECES, MOST_TOKENS};
 
 /// Whether somewhere in the tokens more than `MOST_NESTING` parentheses are open.
 pub fn nests_too_deep(tokens: &[Token]) -> bool
@@ -33,8 +19,8 @@ pub fn nests_too_deep(tokens: &[Token]) -> bool
     let mut closed = 0;
     for token in tokens {
         match token.kind {
-            TokenKind::OpenParen => opened += 1,
-            TokenKind::CloseParen => closed += 1,
+            TokenKind::Sign(Sign::OpenParen) => opened += 1,
+            TokenKind::Sign(Sign::CloseParen) => closed += 1,
             _ => {}
         }
         if opened > closed + MOST_NESTING {

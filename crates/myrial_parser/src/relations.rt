@@ -1,18 +1,19 @@
 //! Keys, operands, relation expressions and statements.
-ghost use Rattle.std.specs.Prelude.{◌≡◌, Err, IfOk, map, option_map};
-ghost use Rattle.myrial_ast.specs.Trees as tree;
-ghost use Rattle.myrial_ast.specs.Trees.{StatementTree, tree_of, emit_tree_of, rel_tree_of, statement_tree_of};
+ghost use Rattle.std.specs.Prelude.{◌≡◌, option_map};
+ghost use Rattle.myrial_ast.specs.Trees.{EmitTree, tree_of, emit_tree_of, rel_tree_of, statement_tree_of};
 ghost use Rattle.myrial_parser.specs.Grammar as grammar;
-ghost use Rattle.myrial_parser.specs.Grammar.{Reads};
-ghost use Rattle.myrial_parser.specs.Descent as spec;
-ghost use Rattle.myrial_parser.specs.Descent.{Gives};
-ghost use Rattle.myrial_parser.specs.declared.faults.Refusal.TheVariants as refusal;
+ghost use Rattle.rel_base.specs.declared.relations.Column.{Column as ColumnSeen};
+ghost use Rattle.myrial_ast.specs.declared.relations.FromItem.{FromItem as ItemSeen};
+ghost use Rattle.myrial_parser.specs.inner.Descent as spec;
+ghost use Rattle.myrial_parser.specs.inner.Descent.{Parses};
 
 use crate::cursor::Cursor;
 use crate::faults::Refusal;
-use crate::terminals::{Symbol, Terminal, same_word};
-use myrial_ast::{EmitItem, EmitItems, Expr, FromItem, FromItems, Operand, RelExpr, Stmt};
-use rel_base::{ColType, Column, Duplicate, Key, Schema, Text};
+use crate::separated::Phrase;
+use crate::terminals::{Keyword, Symbol, Terminal, same_word};
+use myrial_ast::{EmitItem, Expr, FromItem, Operand, RelExpr, Stmt};
+use myrial_lexer::Sign;
+use rel_base::{ColType, Column, Duplicate, Key, Text};
 use std::alloc::Global;
 
 /// The type that a word names, in any case.
@@ -41,11 +42,47 @@ fn own_name(source: &Operand) -> &Text
     }
 }
 
+impl Phrase for Column {
+    ghost Tree = { ColumnSeen };
+
+    ghost tree_of = { λ column. column };
+
+    ghost parser = { spec.column_definition };
+
+    fn read(cursor: &mut Cursor<'_>, alloc: Global) -> Result<Column, Refusal> {
+        cursor.column_definition(alloc)
+    }
+}
+
+impl Phrase for FromItem {
+    ghost Tree = { ItemSeen };
+
+    ghost tree_of = { λ item. item };
+
+    ghost parser = { spec.item };
+
+    fn read(cursor: &mut Cursor<'_>, alloc: Global) -> Result<FromItem, Refusal> {
+        cursor.item(alloc)
+    }
+}
+
+impl Phrase for EmitItem {
+    ghost Tree = { EmitTree };
+
+    ghost tree_of = { emit_tree_of };
+
+    ghost parser = { spec.emit };
+
+    fn read(cursor: &mut Cursor<'_>, alloc: Global) -> Result<EmitItem, Refusal> {
+        cursor.emit(alloc)
+    }
+}
+
 impl Cursor<'_> {
     /// A key: its name, behind a program and behind a user where they are given.
-    #[tactic(auto, unfolding(crate::specs::Descent::key))]
+    #[tactic(auto, unfolding(crate::specs::inner::Descent::key))]
     fn key(&mut self, alloc: Global) -> Result<Key, Refusal>
-        ensures { Gives (λ x. x) (spec.key self.old) result self.new }
+        ensures { Parses (λ x. x) (spec.key self.old) result self.new }
     {
         let first = self.name(alloc)?;
         self.key_behind(alloc, first)
@@ -53,9 +90,9 @@ impl Cursor<'_> {
 
     /// A key behind its first name.
     fn key_behind(&mut self, alloc: Global, first: Text) -> Result<Key, Refusal>
-        ensures { Gives (λ x. x) (spec.key_behind first self.old) result self.new }
+        ensures { Parses (λ x. x) (spec.key_behind first self.old) result self.new }
     {
-        if self.eat(Symbol::Colon) {
+        if self.eat(Symbol::Sign(Sign::Colon)) {
             let second = self.name(alloc)?;
             return self.key_behind_two(alloc, first, second);
         }
@@ -70,9 +107,9 @@ impl Cursor<'_> {
 
     /// A key behind its first two names.
     fn key_behind_two(&mut self, alloc: Global, first: Text, second: Text) -> Result<Key, Refusal>
-        ensures { Gives (λ x. x) (spec.key_behind_two first second self.old) result self.new }
+        ensures { Parses (λ x. x) (spec.key_behind_two first second self.old) result self.new }
     {
-        if self.eat(Symbol::Colon) {
+        if self.eat(Symbol::Sign(Sign::Colon)) {
             let name = self.name(alloc)?;
             return Ok(Key {
                 user: first,
@@ -89,14 +126,14 @@ impl Cursor<'_> {
     }
 
     /// A relation by its name or by its key.
-    #[tactic(auto, unfolding(crate::specs::Descent::source))]
+    #[tactic(auto, unfolding(crate::specs::inner::Descent::source))]
     fn source(&mut self, alloc: Global) -> Result<Operand, Refusal>
-        ensures { Gives (λ x. x) (spec.source self.old) result self.new }
+        ensures { Parses (λ x. x) (spec.source self.old) result self.new }
     {
-        if self.eat(Symbol::Scan) {
-            self.expect(Symbol::OpenParen)?;
+        if self.eat(Symbol::Keyword(Keyword::Scan)) {
+            self.expect(Symbol::Sign(Sign::OpenParen))?;
             let key = self.key(alloc)?;
-            self.expect(Symbol::CloseParen)?;
+            self.expect(Symbol::Sign(Sign::CloseParen))?;
             return Ok(Operand::Scan(key));
         }
         Ok(Operand::Named(self.name(alloc)?))
@@ -104,76 +141,54 @@ impl Cursor<'_> {
 
     /// The type that comes next.
     fn kind(&mut self) -> Result<ColType, Refusal>
-        ensures { Gives (λ x. x) (spec.kind self.old) result self.new }
+        ensures { Parses (λ x. x) (spec.kind self.old) result self.new }
     {
-        let found = match self.peek() {
-            Some(Terminal::Name(word)) => type_of(word),
-            Some(Terminal::Number(_)) => None,
-            Some(Terminal::Quoted(_)) => None,
-            Some(Terminal::Fixed(_)) => None,
-            None => None,
+        let Some(Terminal::Name(word)) = self.peek() else {
+            return Err(Refusal::Syntax);
         };
-        match found {
-            Some(kind) => {
-                self.skip();
-                Ok(kind)
-            }
-            None => Err(Refusal::Syntax),
-        }
+        let Some(kind) = type_of(word) else {
+            return Err(Refusal::Syntax);
+        };
+        self.skip();
+        Ok(kind)
     }
 
     /// A column of `empty`: its name and its type.
-    #[tactic(auto, unfolding(crate::specs::Descent::column_definition))]
+    #[tactic(auto, unfolding(crate::specs::inner::Descent::column_definition))]
     fn column_definition(&mut self, alloc: Global) -> Result<Column, Refusal>
-        ensures { Gives (λ x. x) (spec.column_definition self.old) result self.new }
+        ensures { Parses (λ x. x) (spec.column_definition self.old) result self.new }
     {
         let name = self.name(alloc)?;
-        self.expect(Symbol::Colon)?;
+        self.expect(Symbol::Sign(Sign::Colon))?;
         let kind = self.kind()?;
         Ok(Column { name, kind })
     }
 
-    /// The columns of `empty`, with commas between them.
-    #[tactic(auto, unfolding(crate::specs::Descent::column_definitions))]
-    fn column_definitions(&mut self, alloc: Global) -> Result<Schema, Refusal>
-        ensures { Gives (λ x. x) (spec.column_definitions self.old) result self.new }
-    {
-        let mut columns = Schema::new(alloc);
-        for _turn in 0..self.left() {
-            let column = self.column_definition(alloc)?;
-            columns.push(column)?;
-            if !self.eat(Symbol::Comma) {
-                return Ok(columns);
-            }
-        }
-        Err(Refusal::Syntax)
-    }
-
     /// The two operands of `unionall` and `diff`.
-    #[tactic(auto, unfolding(crate::specs::Descent::two_sources))]
+    #[tactic(auto, unfolding(crate::specs::inner::Descent::two_sources))]
     fn two_sources(&mut self, alloc: Global) -> Result<(Operand, Operand), Refusal>
-        ensures { Gives (λ x. x) (spec.two_sources self.old) result self.new }
+        ensures { Parses (λ x. x) (spec.two_sources self.old) result self.new }
     {
         let left = self.source(alloc)?;
-        self.expect(Symbol::Comma)?;
+        self.expect(Symbol::Sign(Sign::Comma))?;
         let right = self.source(alloc)?;
         Ok((left, right))
     }
 
     /// A name behind `as`, where there is one.
     fn name_behind_as(&mut self, alloc: Global) -> Result<Option<Text>, Refusal>
-        ensures { Gives (λ x. x) (spec.name_behind_as self.old) result self.new }
+        ensures { Parses (λ x. x) (spec.name_behind_as self.old) result self.new }
     {
-        if self.eat(Symbol::As) {
+        if self.eat(Symbol::Keyword(Keyword::As)) {
             return Ok(Some(self.name(alloc)?));
         }
         Ok(None)
     }
 
     /// An item of a comprehension. Its alias is its operand's own name where none is given.
-    #[tactic(auto, unfolding(crate::specs::Descent::item))]
+    #[tactic(auto, unfolding(crate::specs::inner::Descent::item))]
     fn item(&mut self, alloc: Global) -> Result<FromItem, Refusal>
-        ensures { Gives (λ x. x) (spec.item self.old) result self.new }
+        ensures { Parses (λ x. x) (spec.item self.old) result self.new }
     {
         let source = self.source(alloc)?;
         let alias = match self.name_behind_as(alloc)? {
@@ -183,45 +198,29 @@ impl Cursor<'_> {
         Ok(FromItem { source, alias })
     }
 
-    /// The items of a comprehension, with commas between them.
-    #[tactic(auto, unfolding(crate::specs::Descent::items))]
-    fn items(&mut self, alloc: Global) -> Result<FromItems, Refusal>
-        ensures { Gives (λ x. x) (spec.items self.old) result self.new }
-    {
-        let mut items = FromItems::new(alloc);
-        for _turn in 0..self.left() {
-            let item = self.item(alloc)?;
-            items.push(item)?;
-            if !self.eat(Symbol::Comma) {
-                return Ok(items);
-            }
-        }
-        Err(Refusal::Syntax)
-    }
-
     /// An expression that nests no deeper than there are terminals ahead.
-    #[tactic(auto, unfolding(crate::specs::Descent::whole_expression))]
+    #[tactic(auto, unfolding(crate::specs::inner::Descent::whole_expression))]
     fn whole_expression(&mut self, alloc: Global) -> Result<Expr, Refusal>
-        ensures { Gives tree_of (spec.whole_expression self.old) result self.new }
+        ensures { Parses tree_of (spec.whole_expression self.old) result self.new }
     {
         self.expression(alloc, self.left() + 1)
     }
 
     /// The condition of a comprehension, where there is one.
-    #[tactic(auto, unfolding(crate::specs::Descent::condition))]
+    #[tactic(auto, unfolding(crate::specs::inner::Descent::condition))]
     fn condition(&mut self, alloc: Global) -> Result<Option<Expr>, Refusal>
-        ensures { Gives (option_map tree_of) (spec.condition self.old) result self.new }
+        ensures { Parses (option_map tree_of) (spec.condition self.old) result self.new }
     {
-        if self.eat(Symbol::Where) {
+        if self.eat(Symbol::Keyword(Keyword::Where)) {
             return Ok(Some(self.whole_expression(alloc)?));
         }
         Ok(None)
     }
 
     /// An expression that is emitted, with a name where one is given.
-    #[tactic(auto, unfolding(crate::specs::Descent::emitted))]
+    #[tactic(auto, unfolding(crate::specs::inner::Descent::emitted))]
     fn emitted(&mut self, alloc: Global) -> Result<EmitItem, Refusal>
-        ensures { Gives emit_tree_of (spec.emitted self.old) result self.new }
+        ensures { Parses emit_tree_of (spec.emitted self.old) result self.new }
     {
         let expression = self.whole_expression(alloc)?;
         let name = self.name_behind_as(alloc)?;
@@ -229,9 +228,9 @@ impl Cursor<'_> {
     }
 
     /// The alias of an item all of whose columns are emitted, and the dot and the star behind it.
-    #[tactic(auto, unfolding(crate::specs::Descent::emitted_alias))]
+    #[tactic(auto, unfolding(crate::specs::inner::Descent::emitted_alias))]
     fn emitted_alias(&mut self, alloc: Global) -> Result<EmitItem, Refusal>
-        ensures { Gives emit_tree_of (spec.emitted_alias self.old) result self.new }
+        ensures { Parses emit_tree_of (spec.emitted_alias self.old) result self.new }
     {
         let alias = self.name(alloc)?;
         self.skip();
@@ -240,145 +239,120 @@ impl Cursor<'_> {
     }
 
     /// What a comprehension emits: all columns, those of an alias, or an expression.
-    #[tactic(auto, unfolding(crate::specs::Descent::emit))]
+    #[tactic(auto, unfolding(crate::specs::inner::Descent::emit))]
     fn emit(&mut self, alloc: Global) -> Result<EmitItem, Refusal>
-        ensures { Gives emit_tree_of (spec.emit self.old) result self.new }
+        ensures { Parses emit_tree_of (spec.emit self.old) result self.new }
     {
-        if self.eat(Symbol::Star) {
+        if self.eat(Symbol::Sign(Sign::Star)) {
             return Ok(EmitItem::All);
         }
-        if self.sees_behind(1, Symbol::Dot) && self.sees_behind(2, Symbol::Star) {
+        if self.sees_behind(1, Symbol::Sign(Sign::Dot))
+            && self.sees_behind(2, Symbol::Sign(Sign::Star))
+        {
             return self.emitted_alias(alloc);
         }
         self.emitted(alloc)
     }
 
-    /// The emit items of a comprehension, with commas between them.
-    #[tactic(auto, unfolding(crate::specs::Descent::emits))]
-    fn emits(&mut self, alloc: Global) -> Result<EmitItems, Refusal>
-        ensures { Gives (map emit_tree_of) (spec.emits self.old) result self.new }
-    {
-        let mut emits = EmitItems::new(alloc);
-        for _turn in 0..self.left() {
-            let emit = self.emit(alloc)?;
-            emits.push(emit)?;
-            if !self.eat(Symbol::Comma) {
-                return Ok(emits);
-            }
-        }
-        Err(Refusal::Syntax)
-    }
-
     /// A comprehension behind its opening bracket.
-    #[tactic(auto, unfolding(crate::specs::Descent::comprehension))]
+    #[tactic(auto, unfolding(crate::specs::inner::Descent::comprehension))]
     fn comprehension(&mut self, alloc: Global) -> Result<RelExpr, Refusal>
-        ensures { Gives rel_tree_of (spec.comprehension self.old) result self.new }
+        ensures { Parses rel_tree_of (spec.comprehension self.old) result self.new }
     {
-        self.expect(Symbol::From)?;
-        let items = self.items(alloc)?;
+        self.expect(Symbol::Keyword(Keyword::From))?;
+        let items = self.separated(alloc)?;
         let condition = self.condition(alloc)?;
-        self.expect(Symbol::Emit)?;
-        let emits = self.emits(alloc)?;
-        self.expect(Symbol::CloseBracket)?;
+        self.expect(Symbol::Keyword(Keyword::Emit))?;
+        let emits = self.separated(alloc)?;
+        self.expect(Symbol::Sign(Sign::CloseBracket))?;
         Ok(RelExpr::From(items, condition, emits))
     }
 
-    /// The columns of `empty` in parentheses.
-    fn emptied(&mut self, alloc: Global) -> Result<RelExpr, Refusal>
-        ensures { Gives rel_tree_of (spec.in_parens tree.Empty spec.column_definitions self.old) result self.new }
-    {
-        self.expect(Symbol::OpenParen)?;
-        let columns = self.column_definitions(alloc)?;
-        self.expect(Symbol::CloseParen)?;
-        Ok(RelExpr::Empty(columns))
-    }
-
-    /// The operand of `distinct` in parentheses.
-    fn distinct(&mut self, alloc: Global) -> Result<RelExpr, Refusal>
-        ensures { Gives rel_tree_of (spec.in_parens tree.Distinct spec.source self.old) result self.new }
-    {
-        self.expect(Symbol::OpenParen)?;
-        let source = self.source(alloc)?;
-        self.expect(Symbol::CloseParen)?;
-        Ok(RelExpr::Distinct(source))
-    }
-
-    /// The operands of `unionall` in parentheses.
-    fn union_all(&mut self, alloc: Global) -> Result<RelExpr, Refusal>
-        ensures { Gives rel_tree_of (spec.in_parens (λ p. tree.UnionAll p.0 p.1) spec.two_sources self.old) result self.new }
-    {
-        self.expect(Symbol::OpenParen)?;
-        let (left, right) = self.two_sources(alloc)?;
-        self.expect(Symbol::CloseParen)?;
-        Ok(RelExpr::UnionAll(left, right))
-    }
-
-    /// The operands of `diff` in parentheses.
-    fn difference(&mut self, alloc: Global) -> Result<RelExpr, Refusal>
-        ensures { Gives rel_tree_of (spec.in_parens (λ p. tree.Diff p.0 p.1) spec.two_sources self.old) result self.new }
-    {
-        self.expect(Symbol::OpenParen)?;
-        let (left, right) = self.two_sources(alloc)?;
-        self.expect(Symbol::CloseParen)?;
-        Ok(RelExpr::Diff(left, right))
-    }
-
-    /// A relation that is an operand alone.
+    /// An operand as a relation.
     fn copied(&mut self, alloc: Global) -> Result<RelExpr, Refusal>
-        ensures { Gives rel_tree_of (spec.copied self.old) result self.new }
+        ensures { Parses rel_tree_of (spec.copied self.old) result self.new }
     {
         Ok(RelExpr::Copy(self.source(alloc)?))
     }
 
     /// A relation expression.
-    #[tactic(auto, unfolding(crate::specs::Descent::relation))]
+    #[tactic(auto, unfolding(crate::specs::inner::Descent::relation))]
     fn relation(&mut self, alloc: Global) -> Result<RelExpr, Refusal>
-        ensures { Gives rel_tree_of (spec.relation self.old) result self.new }
+        ensures { Parses rel_tree_of (spec.relation self.old) result self.new }
     {
-        if self.eat(Symbol::Empty) {
-            self.emptied(alloc)
-        } else if self.eat(Symbol::Distinct) {
-            self.distinct(alloc)
-        } else if self.eat(Symbol::UnionAll) {
-            self.union_all(alloc)
-        } else if self.eat(Symbol::Diff) {
-            self.difference(alloc)
-        } else if self.eat(Symbol::OpenBracket) {
-            self.comprehension(alloc)
-        } else {
-            self.copied(alloc)
+        match self.symbol() {
+            Some(Symbol::Sign(Sign::OpenBracket)) => {
+                self.skip();
+                self.comprehension(alloc)
+            }
+            Some(Symbol::Keyword(Keyword::Scan)) => self.copied(alloc),
+            Some(Symbol::Keyword(word)) => {
+                self.skip();
+                self.call(alloc, word)
+            }
+            _ => self.copied(alloc),
+        }
+    }
+
+    /// What stands behind a word, in parentheses.
+    fn call(&mut self, alloc: Global, word: Keyword) -> Result<RelExpr, Refusal>
+        ensures { Parses rel_tree_of (spec.in_parens (spec.argument word) self.old) result self.new }
+    {
+        self.expect(Symbol::Sign(Sign::OpenParen))?;
+        let relation = self.argument(alloc, word)?;
+        self.expect(Symbol::Sign(Sign::CloseParen))?;
+        Ok(relation)
+    }
+
+    /// What stands in the parentheses of a word.
+    #[tactic(auto, unfolding(crate::specs::inner::Descent::argument))]
+    fn argument(&mut self, alloc: Global, word: Keyword) -> Result<RelExpr, Refusal>
+        ensures { Parses rel_tree_of (spec.argument word self.old) result self.new }
+    {
+        match word {
+            Keyword::Empty => Ok(RelExpr::Empty(self.separated(alloc)?)),
+            Keyword::Distinct => Ok(RelExpr::Distinct(self.source(alloc)?)),
+            Keyword::UnionAll => {
+                let (left, right) = self.two_sources(alloc)?;
+                Ok(RelExpr::UnionAll(left, right))
+            }
+            Keyword::Diff => {
+                let (left, right) = self.two_sources(alloc)?;
+                Ok(RelExpr::Diff(left, right))
+            }
+            _ => Err(Refusal::Syntax),
         }
     }
 
     /// A name, the sign `=` and a relation expression.
-    #[tactic(auto, unfolding(crate::specs::Descent::assignment))]
+    #[tactic(auto, unfolding(crate::specs::inner::Descent::assignment))]
     fn assignment(&mut self, alloc: Global) -> Result<Stmt, Refusal>
-        ensures { Gives statement_tree_of (spec.assignment self.old) result self.new }
+        ensures { Parses statement_tree_of (spec.assignment self.old) result self.new }
     {
         let name = self.name(alloc)?;
-        self.expect(Symbol::Eq)?;
+        self.expect(Symbol::Sign(Sign::Eq))?;
         let relation = self.relation(alloc)?;
         Ok(Stmt::Assign(name, relation))
     }
 
     /// What stands behind `store`: a name and a key in parentheses.
-    #[tactic(auto, unfolding(crate::specs::Descent::store))]
+    #[tactic(auto, unfolding(crate::specs::inner::Descent::store))]
     fn store(&mut self, alloc: Global) -> Result<Stmt, Refusal>
-        ensures { Gives statement_tree_of (spec.store self.old) result self.new }
+        ensures { Parses statement_tree_of (spec.store self.old) result self.new }
     {
-        self.expect(Symbol::OpenParen)?;
+        self.expect(Symbol::Sign(Sign::OpenParen))?;
         let name = self.name(alloc)?;
-        self.expect(Symbol::Comma)?;
+        self.expect(Symbol::Sign(Sign::Comma))?;
         let key = self.key(alloc)?;
-        self.expect(Symbol::CloseParen)?;
+        self.expect(Symbol::Sign(Sign::CloseParen))?;
         Ok(Stmt::Store(name, key))
     }
 
     /// A statement that isn't empty.
     fn action(&mut self, alloc: Global) -> Result<Stmt, Refusal>
-        ensures { Gives statement_tree_of (spec.action self.old) result self.new }
+        ensures { Parses statement_tree_of (spec.action self.old) result self.new }
     {
-        if self.eat(Symbol::Store) {
+        if self.eat(Symbol::Keyword(Keyword::Store)) {
             self.store(alloc)
         } else {
             self.assignment(alloc)
@@ -386,9 +360,9 @@ impl Cursor<'_> {
     }
 
     /// A statement that goes on to the end.
-    #[tactic(auto, unfolding(crate::specs::Descent::statement))]
-    fn whole_statement(&mut self, alloc: Global) -> Result<Stmt, Refusal>
-        ensures { Gives statement_tree_of (spec.statement self.old) result self.new }
+    #[tactic(auto, unfolding(crate::specs::inner::Descent::statement))]
+    pub fn statement(&mut self, alloc: Global) -> Result<Stmt, Refusal>
+        ensures { Parses statement_tree_of (spec.statement self.old) result self.new }
     {
         if self.left() == 0 {
             return Ok(Stmt::Nothing);
@@ -396,13 +370,5 @@ impl Cursor<'_> {
         let statement = self.action(alloc)?;
         self.end()?;
         Ok(statement)
-    }
-
-    /// A statement that goes on to the end.
-    pub fn statement(&mut self, alloc: Global) -> Result<Stmt, Refusal>
-        ensures ok { IfOk result (λ made. Reads self.old (statement_tree_of made)) }
-        ensures syntax { result ≡ Err refusal.Syntax → (s : StatementTree) → Reads self.old s → ⊥ }
-    {
-        self.whole_statement(alloc)
     }
 }

@@ -10,16 +10,17 @@ ghost use Rattle.myrial_parser.specs.Pieces.{HasFault, IsFaulty, IsFirstFault, I
 use crate::cursor::Cursor;
 use crate::faults::{ParseFault, Refusal, What};
 use crate::laws::a_piece_has_one_statement;
-use crate::limits::{MOST_COLUMNS, MOST_ITEMS, columns_of, excess_of_tokens, items_of};
+use crate::limits::{columns_of, excess_of_tokens, items_of};
 use myrial_ast::{Script, Stmt};
-use myrial_lexer::{Token, TokenKind, Tokens, tokens_are_slices};
+use myrial_lexer::{Sign, Token, TokenKind, Tokens, tokens_are_slices};
+use rel_base::{MOST_COLUMNS, MOST_ITEMS};
 use std::alloc::Global;
 
 /// Whether a token of this kind ends a piece.
 fn is_semicolon(kind: TokenKind) -> bool
     ensures { result ≡ spec.is_semicolon kind }
 {
-    matches!(kind, TokenKind::Semicolon)
+    matches!(kind, TokenKind::Sign(Sign::Semicolon))
 }
 
 /// How many tokens stand in front of the first semicolon, where there is one.

@@ -6,12 +6,12 @@ ghost use Rattle.myrial_lexer.specs.Slices as cut;
 ghost use Rattle.myrial_lexer.specs.Tokens as lexed;
 ghost use Rattle.myrial_parser.specs.Terminals as spec;
 
-use myrial_lexer::{Token, TokenKind};
+use myrial_lexer::{Sign, Token, TokenKind};
 use std::str;
 
-/// A reserved word or a sign.
-#[derive(Clone, Copy, Debug, PartialEq, Eq)]
-pub enum Symbol {
+/// A reserved word.
+#[derive(Clone, Copy, PartialEq, Eq)]
+pub enum Keyword {
     From,
     Where,
     Emit,
@@ -32,28 +32,19 @@ pub enum Symbol {
     Sum,
     Min,
     Max,
-    Eq,
-    Ne,
-    Le,
-    Lt,
-    Ge,
-    Gt,
-    Plus,
-    Minus,
-    Star,
-    OpenParen,
-    CloseParen,
-    OpenBracket,
-    CloseBracket,
-    Comma,
-    Dot,
-    Colon,
-    Semicolon,
-    Dollar,
+}
+
+/// A reserved word or a sign.
+#[derive(Clone, Copy)]
+pub enum Symbol {
+    /// A reserved word.
+    Keyword(Keyword),
+    /// A sign.
+    Sign(Sign),
 }
 
 /// What the grammar reads, with the text or the value that a tree keeps of it.
-#[derive(Clone, Copy, Debug)]
+#[derive(Clone, Copy)]
 pub enum Terminal<'a> {
     /// A word that isn't reserved.
     Name(&'a str),
@@ -66,27 +57,27 @@ pub enum Terminal<'a> {
 }
 
 /// The reserved words, which stand in any case.
-pub const RESERVED: [(&[u8], Symbol); 20] = [
-    (b"from", Symbol::From),
-    (b"where", Symbol::Where),
-    (b"emit", Symbol::Emit),
-    (b"as", Symbol::As),
-    (b"and", Symbol::And),
-    (b"or", Symbol::Or),
-    (b"not", Symbol::Not),
-    (b"true", Symbol::True),
-    (b"false", Symbol::False),
-    (b"scan", Symbol::Scan),
-    (b"store", Symbol::Store),
-    (b"empty", Symbol::Empty),
-    (b"distinct", Symbol::Distinct),
-    (b"unionall", Symbol::UnionAll),
-    (b"diff", Symbol::Diff),
-    (b"count", Symbol::Count),
-    (b"countall", Symbol::CountAll),
-    (b"sum", Symbol::Sum),
-    (b"min", Symbol::Min),
-    (b"max", Symbol::Max),
+const RESERVED: [(&[u8], Keyword); 20] = [
+    (b"from", Keyword::From),
+    (b"where", Keyword::Where),
+    (b"emit", Keyword::Emit),
+    (b"as", Keyword::As),
+    (b"and", Keyword::And),
+    (b"or", Keyword::Or),
+    (b"not", Keyword::Not),
+    (b"true", Keyword::True),
+    (b"false", Keyword::False),
+    (b"scan", Keyword::Scan),
+    (b"store", Keyword::Store),
+    (b"empty", Keyword::Empty),
+    (b"distinct", Keyword::Distinct),
+    (b"unionall", Keyword::UnionAll),
+    (b"diff", Keyword::Diff),
+    (b"count", Keyword::Count),
+    (b"countall", Keyword::CountAll),
+    (b"sum", Keyword::Sum),
+    (b"min", Keyword::Min),
+    (b"max", Keyword::Max),
 ];
 
 /// Whether two words are one in any case.
@@ -96,8 +87,8 @@ pub fn same_word(word: &[u8], other: &[u8]) -> bool
     word.eq_ignore_ascii_case(other)
 }
 
-/// The symbol of a word in a table, in any case.
-fn lookup(mut table: &[(&[u8], Symbol)], word: &[u8]) -> Option<Symbol>
+/// The reserved word of a table that a word is, in any case.
+fn lookup(mut table: &[(&[u8], Keyword)], word: &[u8]) -> Option<Keyword>
     ensures { result ≡ spec.lookup (map (λ row. (row.0.now, row.1)) table.entry.now) word.now }
 {
     while let [row, rest @ ..] = table {
@@ -110,7 +101,7 @@ fn lookup(mut table: &[(&[u8], Symbol)], word: &[u8]) -> Option<Symbol>
 }
 
 /// The reserved word that a word is, in any case.
-fn reserved(word: &[u8]) -> Option<Symbol>
+fn reserved(word: &[u8]) -> Option<Keyword>
     ensures { result ≡ spec.reserved word.now }
 {
     lookup(&RESERVED, word)
@@ -141,7 +132,7 @@ fn word(bytes: &[u8]) -> Terminal<'_>
     ensures { spec.seen result ≡ spec.word_terminal bytes.now (spec.reserved bytes.now) }
 {
     match reserved(bytes) {
-        Some(symbol) => Terminal::Fixed(symbol),
+        Some(keyword) => Terminal::Fixed(Symbol::Keyword(keyword)),
         None => Terminal::Name(text_of(bytes)),
     }
 }
@@ -179,23 +170,6 @@ pub fn terminal_of(bytes: &[u8], token: Token) -> Terminal<'_>
         TokenKind::Word => word(slice_of(bytes, token)),
         TokenKind::Int => Terminal::Number(number(slice_of(bytes, token))),
         TokenKind::Str => Terminal::Quoted(unquoted(slice_of(bytes, token))),
-        TokenKind::Eq => Terminal::Fixed(Symbol::Eq),
-        TokenKind::Ne => Terminal::Fixed(Symbol::Ne),
-        TokenKind::Le => Terminal::Fixed(Symbol::Le),
-        TokenKind::Lt => Terminal::Fixed(Symbol::Lt),
-        TokenKind::Ge => Terminal::Fixed(Symbol::Ge),
-        TokenKind::Gt => Terminal::Fixed(Symbol::Gt),
-        TokenKind::Plus => Terminal::Fixed(Symbol::Plus),
-        TokenKind::Minus => Terminal::Fixed(Symbol::Minus),
-        TokenKind::Star => Terminal::Fixed(Symbol::Star),
-        TokenKind::OpenParen => Terminal::Fixed(Symbol::OpenParen),
-        TokenKind::CloseParen => Terminal::Fixed(Symbol::CloseParen),
-        TokenKind::OpenBracket => Terminal::Fixed(Symbol::OpenBracket),
-        TokenKind::CloseBracket => Terminal::Fixed(Symbol::CloseBracket),
-        TokenKind::Comma => Terminal::Fixed(Symbol::Comma),
-        TokenKind::Dot => Terminal::Fixed(Symbol::Dot),
-        TokenKind::Colon => Terminal::Fixed(Symbol::Colon),
-        TokenKind::Semicolon => Terminal::Fixed(Symbol::Semicolon),
-        TokenKind::Dollar => Terminal::Fixed(Symbol::Dollar),
+        TokenKind::Sign(sign) => Terminal::Fixed(Symbol::Sign(sign)),
     }
 }

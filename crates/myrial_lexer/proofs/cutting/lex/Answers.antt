@@ -4,7 +4,7 @@ use Rattle.myrial_lexer.specs.declared.front.Front.TheVariants.{Gap, Piece}
 use Rattle.myrial_lexer.specs.declared.faults.LexWhat.{LexWhat}
 use Rattle.myrial_lexer.specs.declared.kinds.Token.{Token}
 use Rattle.myrial_lexer.specs.Tokens.{front_of, tokens_from, tokens_of}
-use Rattle.myrial_lexer.specs.Sizes.{IsWithin}
+use Rattle.myrial_lexer.specs.inner.Sizes.{IsWithin}
 use Rattle.myrial_lexer.proofs.CutLemmas.{with_all, turn-gap, turn-piece, turn-fault}
 use Rattle.myrial_lexer.proofs.cutting.lex.Goals as goal
 

@@ -1,7 +1,7 @@
 -- as many nodes as there were turns
 use Rattle.std.proofs.Common.{◌≡◌}
 use Rattle.myrial_ast.specs.Trees.{tree_of, Not}
-use Rattle.myrial_parser.specs.Descent.{wrapped}
+use Rattle.myrial_parser.specs.inner.Descent.{wrapped}
 use Rattle.myrial_parser.proofs.expressions.with_negations.Given as goal
 
 abbrev pub invariant-loop-turn : goal.invariant-loop-turn

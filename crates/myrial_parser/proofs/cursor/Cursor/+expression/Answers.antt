@@ -2,18 +2,19 @@ use Rattle.std.proofs.Common.{◌≡◌, ◌+◌, ◌-◌, suc, Some, ◌∙◌,
 use Rattle.std.proofs.lemmas.Result.{err_from_is_err_and}
 use Rattle.myrial_ast.specs.Trees as tree
 use Rattle.myrial_ast.specs.Trees.{Tree, tree_of}
-use Rattle.myrial_parser.specs.Descent as spec
-use Rattle.myrial_parser.specs.Descent.{Gives, Input, Outcome, ◌>>=◌, chain_from, wrapped}
+use Rattle.myrial_parser.specs.inner.Descent as spec
+use Rattle.myrial_parser.specs.inner.Descent.{Parses, Input, Parsed, ◌>>=◌, chain_from, wrapped}
 use Rattle.myrial_parser.proofs.CountLemmas.{negation-counted, signed-counted, expression-some}
 use Rattle.myrial_parser.proofs.LevelLemmas.{chain_at-is}
-use Rattle.myrial_parser.proofs.TurnLemmas.{gives-refused, gives-along, chain-begun, chain-none, chain_from-turn, chain_from-none, chain_from-over, chain_from-end}
+use Rattle.myrial_parser.proofs.ParserLemmas.{chain-none}
+use Rattle.myrial_parser.proofs.TurnLemmas.{parses-refused, parses-along, chain-begun, chain_from-turn, chain_from-none, chain_from-over, chain_from-end}
 use Rattle.myrial_parser.proofs.cursor.Cursor.+expression.Goals as goal
 
 pub chain-returns-in_err-left : goal.chain-returns-in_err-left
 chain-returns-in_err-left t c =
     let inner = spec.expression c.args.depth in
     let p = err_from_is_err_and c.from_residual.result c.from_residual.ensures.1 in
-    gives-refused tree_of tree_of (spec.operand_at inner c.args.level c.args.self.now) _ _ _ c.from_residual.result _ _
+    parses-refused tree_of tree_of (spec.operand_at inner c.args.level c.args.self.now) _ _ _ c.from_residual.result _ _
     (λ h. chain_at-is inner c.args.level c.args.self.now ∙ chain-none (spec.sign_at c.args.level) (spec.operand_at inner c.args.level) c.args.self.now h)
     c.in_err-left.ensures p.1 p.2
 
@@ -56,7 +57,7 @@ chain-returns-in_err-right t c =
     let turns = c.left-turn-end.result - (c.loop-turn._turn + 1) in
     let more : c.left-turn-end.result - c.loop-turn._turn ≡ suc turns = omega (arith, c.loop-turn-test.true) in
     let p = err_from_is_err_and c.from_residual-in_err-right.result c.from_residual-in_err-right.ensures.1 in
-    gives-refused tree_of tree_of (operand c.operator.new.self) _ _ _ c.from_residual-in_err-right.result _ _
+    parses-refused tree_of tree_of (operand c.operator.new.self) _ _ _ c.from_residual-in_err-right.result _ _
     (λ h. c.loop-turn.invariant
     ∙ chain_from-none sign operand (c.left-turn-end.result - c.loop-turn._turn) turns (tree_of c.loop-turn.left) c.in-Some.op now more (sym c.in-Some.ensures.found) (ap operand (sym c.in-Some.ensures.after) ∙ h))
     c.in_err-right.ensures p.1 p.2
@@ -69,16 +70,16 @@ chain-returns t c =
     c.loop-turn.invariant ∙ chain_from-end sign operand (c.left-turn-end.result - c.loop-turn._turn) (tree_of c.loop-turn.left) c.loop-turn.self over
 
 pub expression-returns : goal.expression-returns
-expression-returns t c = gives-along tree_of _ _ _ _ (expression-some c.args.depth c.args.self.now c.if-depth-eq0.false) c.chain.ensures
+expression-returns t c = parses-along tree_of _ _ _ _ (expression-some c.args.depth c.args.self.now c.if-depth-eq0.false) c.chain.ensures
 
 pub negation-returns-in_err-found : goal.negation-returns-in_err-found
 negation-returns-in_err-found t c =
     let inner = spec.expression c.args.depth in
     let count = c.count_of-count.result in
     let p = err_from_is_err_and c.from_residual.result c.from_residual.ensures.1 in
-    gives-refused tree_of tree_of (spec.comparison inner c.count_of-count.new.self) _ _ _ c.from_residual.result _ _
+    parses-refused tree_of tree_of (spec.comparison inner c.count_of-count.new.self) _ _ _ c.from_residual.result _ _
     (λ h. negation-counted inner c.args.self.now c.count_of-count.new.self count c.count_of-count.ensures.count c.count_of-count.ensures.after
-    ∙ ap (λ (o : Outcome Tree). o >>= λ a rest. Some (wrapped tree.Not count a, rest)) h)
+    ∙ ap (λ (o : Parsed Tree). o >>= λ a rest. Some (wrapped tree.Not count a, rest)) h)
     c.in_err-found.ensures p.1 p.2
 
 pub negation-returns : goal.negation-returns
@@ -86,17 +87,17 @@ negation-returns t c =
     let inner = spec.expression c.args.depth in
     let count = c.count_of-count.result in
     negation-counted inner c.args.self.now c.count_of-count.new.self count c.count_of-count.ensures.count c.count_of-count.ensures.after
-    ∙ ap (λ (o : Outcome Tree). o >>= λ a rest. Some (wrapped tree.Not count a, rest)) c.in_ok-found.ensures
+    ∙ ap (λ (o : Parsed Tree). o >>= λ a rest. Some (wrapped tree.Not count a, rest)) c.in_ok-found.ensures
     ∙ ap (λ (a : Tree). Some (a, c.comparison.new.self)) (sym c.in_ok-with_negations.ensures)
 
 pub signed-returns-then-count-eq0 : goal.signed-returns-then-count-eq0
 signed-returns-then-count-eq0 t c =
     let none : 0 ≡ c.count_of-count.result = omega (arith, c.if-count-eq0.true) in
-    gives-along tree_of _ _ _ _
+    parses-along tree_of _ _ _ _
     (signed-counted (spec.expression c.args.depth) c.args.self.now c.count_of-count.new.self c.count_of-count.result 0 c.count_of-count.ensures.count c.count_of-count.ensures.after none) c.primary.ensures
 
 pub signed-returns : goal.signed-returns
 signed-returns t c =
     let some : c.count_of-count.result - 1 + 1 ≡ c.count_of-count.result = omega (arith, c.if-count-eq0.false) in
-    gives-along tree_of _ _ _ _
+    parses-along tree_of _ _ _ _
     (signed-counted (spec.expression c.args.depth) c.args.self.now c.count_of-count.new.self c.count_of-count.result (c.count_of-count.result - 1 + 1) c.count_of-count.ensures.count c.count_of-count.ensures.after some) c.behind_minuses.ensures

@@ -3,7 +3,7 @@ use Rattle.std.proofs.Common.{◌≡◌, ℕ, ◌+◌, ◌-◌, ◌*◌}
 use Rattle.myrial_ast.specs.Trees.{tree_of}
 use Rattle.myrial_parser.specs.declared.expressions.Level.{Level}
 use Rattle.myrial_parser.specs.declared.expressions.Level.TheVariants.{Disjunction, Conjunction, Sum, Product}
-use Rattle.myrial_parser.specs.Descent.{expression, chain_at, chain_from, operand_at, sign_at}
+use Rattle.myrial_parser.specs.inner.Descent.{expression, chain_at, chain_from, operand_at, sign_at}
 use Rattle.myrial_parser.proofs.cursor.Cursor.+expression.Given as goal
 
 -- how loose the operands of a level are
@@ -16,14 +16,11 @@ rank Product = 6
 abbrev pub decreases-expression : goal.decreases-expression
 decreases-expression l = 20 * l.depth
 
-abbrev pub decreases-closed : goal.decreases-closed
-decreases-closed l = 20 * l.depth + 1
+abbrev pub decreases-aggregated : goal.decreases-aggregated
+decreases-aggregated l = 20 * l.depth + 1
 
 abbrev pub decreases-aggregate : goal.decreases-aggregate
 decreases-aggregate l = 20 * l.depth + 2
-
-abbrev pub decreases-count : goal.decreases-count
-decreases-count l = 20 * l.depth + 2
 
 abbrev pub decreases-fixed : goal.decreases-fixed
 decreases-fixed l = 20 * l.depth + 3

@@ -1,5 +1,5 @@
 use Rattle.std.proofs.Common.{◌≡◌, ◌∙◌, ◌+◌, true, cond, ap, sym, drop}
-use Rattle.myrial_parser.specs.Descent.{Input, sees, count_ahead}
+use Rattle.myrial_parser.specs.inner.Descent.{Input, sees, count_ahead}
 use Rattle.myrial_parser.proofs.CountLemmas.{count-turn, drop-turn}
 use Rattle.myrial_parser.proofs.cursor.Cursor.count_of.Goals as goal
 

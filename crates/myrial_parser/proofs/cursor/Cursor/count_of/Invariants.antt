@@ -1,6 +1,6 @@
 -- the symbols so far and those ahead are all
 use Rattle.std.proofs.Common.{◌≡◌, ◌+◌, drop}
-use Rattle.myrial_parser.specs.Descent.{count_ahead}
+use Rattle.myrial_parser.specs.inner.Descent.{count_ahead}
 use Rattle.myrial_parser.proofs.cursor.Cursor.count_of.Given as goal
 
 abbrev pub invariant-loop-count : goal.invariant-loop-count

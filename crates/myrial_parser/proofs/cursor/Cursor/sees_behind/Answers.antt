@@ -1,6 +1,6 @@
 use Rattle.std.proofs.Common.{◌∙◌, ap, sym, drop}
 use Rattle.std.proofs.lemmas.List.{take_rest, drop-map}
-use Rattle.myrial_parser.specs.Descent.{Input, sees}
+use Rattle.myrial_parser.specs.inner.Descent.{Input, sees}
 use Rattle.myrial_parser.specs.Terminals.{terminal_of, terminals_of}
 use Rattle.myrial_parser.proofs.cursor.Cursor.sees_behind.Goals as goal
 

@@ -3,9 +3,9 @@
 -- phrase, and each phrase is read wherever no terminal behind it goes on with it.
 --
 --   Input                   the terminals ahead
---   Outcome A               a value and the terminals behind its phrase, or nothing where no such phrase is ahead
---   Rule A                  an outcome for each input
---   Gives view o r behind   a function that answers r and leaves these terminals has the outcome o, or was refused memory
+--   Parsed A                a value and the terminals behind its phrase, or nothing where no such phrase is ahead
+--   Parser A                what is parsed of each input
+--   Parses view o r behind  a function that answers r and leaves these terminals parsed o, or was refused memory
 --   chain, pair, prefixed   operands with operators between them, two at most, and behind symbols
 --   expression depth        an expression in which fewer parentheses than `depth` are open at one place
 --   separated item          items with commas between them
@@ -28,13 +28,18 @@ use Rattle.myrial_ast.specs.declared.relations.Operand.TheVariants.{Named, Scan}
 use Rattle.myrial_ast.specs.declared.relations.FromItem.{FromItem}
 use Rattle.myrial_ast.specs.Trees as tree
 use Rattle.myrial_ast.specs.Trees.{Tree, EmitTree, RelTree, StatementTree, Name}
-use Rattle.myrial_parser.specs.contracts.terminals.Symbol.{the_type}
+use Rattle.myrial_lexer.specs.contracts.kinds.Sign.{the_type as sign_type}
+use Rattle.myrial_lexer.specs.declared.kinds.Sign.TheVariants as sign
+use Rattle.myrial_parser.specs.contracts.terminals.Keyword.{the_type as keyword_type}
+use Rattle.myrial_parser.specs.declared.terminals.Keyword.{Keyword}
+use Rattle.myrial_parser.specs.declared.terminals.Keyword.TheVariants as keyword
 use Rattle.myrial_parser.specs.declared.faults.Refusal.{Refusal}
 use Rattle.myrial_parser.specs.declared.faults.Refusal.TheVariants as refusal
 use Rattle.myrial_parser.specs.declared.expressions.Level.{Level}
 use Rattle.myrial_parser.specs.declared.expressions.Level.TheVariants as level
 use Rattle.myrial_parser.specs.declared.terminals.Symbol.{Symbol}
-use Rattle.myrial_parser.specs.declared.terminals.Symbol.TheVariants as s
+use Rattle.myrial_parser.specs.declared.terminals.Symbol.TheVariants.{Keyword as Word, Sign}
+use Rattle.myrial_parser.specs.Symbols as s
 use Rattle.myrial_parser.specs.Terminals as t
 use Rattle.myrial_parser.specs.Terminals.{Terminal, Fixed}
 use Rattle.myrial_parser.specs.Grammar.{or_sign, and_sign, sum_sign, product_sign, comparison_sign, type_of, own_name}
@@ -49,9 +54,11 @@ abbrev pub first : {A : Type 0} → List A → Option A
 first [] = None
 first (x ∷ xs) = Some x
 
--- `==` on symbols
+-- whether two symbols are one
 unfoldable pub same_symbol : Symbol → Symbol → Bool
-same_symbol = sameb the_type
+same_symbol (Word found) (Word other) = sameb keyword_type found other
+same_symbol (Sign found) (Sign other) = sameb sign_type found other
+same_symbol _ _ = false
 
 -- whether a terminal is this symbol
 abbrev pub is_symbol : Symbol → Option Terminal → Bool
@@ -66,44 +73,44 @@ after symbol i = if sees symbol i then drop 1 i else i
 
 -- ---- rules
 
-abbrev pub Outcome : Type 0 → Type 0
-Outcome A = Option (A × Input)
+abbrev pub Parsed : Type 0 → Type 0
+Parsed A = Option (A × Input)
 
-abbrev pub Rule : Type 0 → Type 0
-Rule A = Input → Outcome A
+abbrev pub Parser : Type 0 → Type 0
+Parser A = Input → Parsed A
 
 infixl 10 ◌>>=◌
-abbrev pub ◌>>=◌ : {A B : Type 0} → Outcome A → (A → Rule B) → Outcome B
+abbrev pub ◌>>=◌ : {A B : Type 0} → Parsed A → (A → Parser B) → Parsed B
 None >>= f = None
 (Some p) >>= f = f p.0 p.1
 
 -- what a function that reads ensures: the outcome, seen by view, unless memory was refused
-abbrev pub Gives : {X Y : Type 0} → (X → Y) → Outcome Y → Result X Refusal → Input → Type 0
-Gives view outcome (Ok x) new = outcome ≡ Some (view x, new)
-Gives view outcome (Err refusal.Syntax) new = outcome ≡ None
-Gives view outcome (Err refusal.Memory) new = Unit {0}
+abbrev pub Parses : {X Y : Type 0} → (X → Y) → Parsed Y → Result X Refusal → Input → Type 0
+Parses view outcome (Ok x) new = outcome ≡ Some (view x, new)
+Parses view outcome (Err refusal.Syntax) new = outcome ≡ None
+Parses view outcome (Err refusal.Memory) new = Unit {0}
 
 -- passes this symbol, which has to come next
-abbrev pub expect : Symbol → Rule (Unit {0})
+abbrev pub expect : Symbol → Parser (Unit {0})
 expect symbol i = if sees symbol i then Some (tt, drop 1 i) else None
 
 -- passes the end, which has to be reached
-abbrev pub end : Rule (Unit {0})
+abbrev pub end : Parser (Unit {0})
 end [] = Some (tt, [])
 end (x ∷ i) = None
 
-abbrev pub name_by : Option Terminal → Rule Name
+abbrev pub name_by : Option Terminal → Parser Name
 name_by (Some (t.Name n)) rest = Some (n, rest)
 name_by _ rest = None
 
-abbrev pub name : Rule Name
+abbrev pub name : Parser Name
 name i = name_by (first i) (drop 1 i)
 
-abbrev pub number_by : Option Terminal → Rule ℕ
+abbrev pub number_by : Option Terminal → Parser ℕ
 number_by (Some (t.Number n)) rest = Some (n, rest)
 number_by _ rest = None
 
-abbrev pub number : Rule ℕ
+abbrev pub number : Parser ℕ
 number i = number_by (first i) (drop 1 i)
 
 -- ---- operators
@@ -132,32 +139,32 @@ abbrev pub behind_operator : Option BinOp → Input → Input
 behind_operator (Some op) i = drop 1 i
 behind_operator None i = i
 
-module _ (sign : Terminal → Option BinOp) (operand : Rule Tree) where
+module _ (sign : Terminal → Option BinOp) (operand : Parser Tree) where
   -- behind an operand: an operator with its operand and what goes on with it, or nothing
-  abbrev pub chain_by : (Tree → Rule Tree) → Tree → Option BinOp → Rule Tree
+  abbrev pub chain_by : (Tree → Parser Tree) → Tree → Option BinOp → Parser Tree
   chain_by on left None i = Some (left, i)
   chain_by on left (Some op) i = operand (drop 1 i) >>= λ right. on (tree.Bin op left right)
 
   -- goes on with operators and operands, so many at most
-  abbrev pub chain_from : ℕ → Tree → Rule Tree
+  abbrev pub chain_from : ℕ → Tree → Parser Tree
   chain_from zero left i = Some (left, i)
   chain_from (suc turns) left i = chain_by (chain_from turns) left (operator_ahead sign i) i
 
   -- operands with operators between them
-  abbrev pub chain : Rule Tree
+  abbrev pub chain : Parser Tree
   chain i = operand i >>= λ left rest. chain_from (length rest) left rest
 
-  abbrev pub pair_by : Tree → Option BinOp → Rule Tree
+  abbrev pub pair_by : Tree → Option BinOp → Parser Tree
   pair_by left None i = Some (left, i)
   pair_by left (Some op) i = operand (drop 1 i) >>= λ right rest. Some (tree.Bin op left right, rest)
 
   -- an operand, or two with an operator between them
-  abbrev pub pair : Rule Tree
+  abbrev pub pair : Parser Tree
   pair i = operand i >>= λ left rest. pair_by left (operator_ahead sign rest) rest
 
-module _ (symbol : Symbol) (node : Tree → Tree) (operand : Rule Tree) where
+module _ (symbol : Symbol) (node : Tree → Tree) (operand : Parser Tree) where
   -- an operand behind none or more of a symbol
-  abbrev pub prefixed : Rule Tree
+  abbrev pub prefixed : Parser Tree
   prefixed [] = operand []
   prefixed (x ∷ i) = if is_symbol symbol (Some x) then (prefixed i >>= λ a rest. Some (node a, rest)) else operand (x ∷ i)
 
@@ -166,21 +173,21 @@ abbrev pub count_ahead : Symbol → Input → ℕ
 count_ahead symbol [] = 0
 count_ahead symbol (x ∷ i) = if is_symbol symbol (Some x) then suc (count_ahead symbol i) else 0
 
+-- what is read between an opening and a closing parenthesis
+abbrev pub in_parens : {A : Type 0} → Parser A → Parser A
+in_parens inside i = expect s.OpenParen i >>= λ _ rest. inside rest >>= λ a end. expect s.CloseParen end >>= λ _ behind. Some (a, behind)
+
 -- ---- expressions
 
 -- a column of an alias
-abbrev pub column_of : Name → Rule ColRef
+abbrev pub column_of : Name → Parser ColRef
 column_of alias i =
     if sees s.Dollar i then (number (drop 1 i) >>= λ place rest. Some (column.OfPlace alias place, rest))
     else (name i >>= λ n rest. Some (column.OfName alias n, rest))
 
 -- a column by what stands behind its first name
-abbrev pub column_behind : Name → Rule ColRef
+abbrev pub column_behind : Name → Parser ColRef
 column_behind n i = if sees s.Dot i then column_of n (drop 1 i) else Some (column.ByName n, i)
-
--- the closing parenthesis of an aggregate of all rows
-abbrev pub ended : Rule Tree
-ended i = expect s.CloseParen i >>= λ _ rest. Some (tree.AggAll agg.CountAll, rest)
 
 -- the literal of a number behind a minus sign
 abbrev pub negative : ℕ → Tree
@@ -191,215 +198,210 @@ abbrev pub wrapped : (Tree → Tree) → ℕ → Tree → Tree
 wrapped node zero a = a
 wrapped node (suc count) a = node (wrapped node count a)
 
-module _ (inner : Rule Tree) where
-  -- an inner expression and the closing parenthesis
-  abbrev pub closed : (Tree → Tree) → Rule Tree
-  closed node i = inner i >>= λ a rest. expect s.CloseParen rest >>= λ _ end. Some (node a, end)
+module _ (inner : Parser Tree) where
+  -- an aggregate of an argument
+  abbrev pub aggregate : AggOp → Parser Tree
+  aggregate op i = inner i >>= λ a rest. Some (tree.Agg op a, rest)
 
-  abbrev pub aggregate : AggOp → Rule Tree
-  aggregate op i = expect s.OpenParen i >>= λ _ rest. closed (tree.Agg op) rest
+  -- what stands in the parentheses of an aggregate
+  abbrev pub aggregated : Keyword → Parser Tree
+  aggregated keyword.CountAll i = Some (tree.AggAll agg.CountAll, i)
+  aggregated keyword.Count i = if sees s.Star i then Some (tree.AggAll agg.CountAll, drop 1 i) else aggregate agg.Count i
+  aggregated keyword.Sum i = aggregate agg.Sum i
+  aggregated keyword.Min i = aggregate agg.Min i
+  aggregated keyword.Max i = aggregate agg.Max i
+  aggregated _ i = None
 
-  abbrev pub count : Rule Tree
-  count i = expect s.OpenParen i >>= λ _ rest. if sees s.Star rest then ended (drop 1 rest) else closed (tree.Agg agg.Count) rest
+  -- what stands behind the symbol that a primary begins with
+  abbrev pub fixed_by : Symbol → Parser Tree
+  fixed_by (Word keyword.True) i = Some (tree.Lit (value.Bool true), i)
+  fixed_by (Word keyword.False) i = Some (tree.Lit (value.Bool false), i)
+  fixed_by (Word word) i = in_parens (aggregated word) i
+  fixed_by (Sign sign.Dollar) i = number i >>= λ place rest. Some (tree.Col (column.ByPlace place), rest)
+  fixed_by (Sign sign.OpenParen) i = inner i >>= λ a rest. expect s.CloseParen rest >>= λ _ end. Some (a, end)
+  fixed_by (Sign _) i = None
 
-  abbrev pub fixed_by : Symbol → Rule Tree
-  fixed_by s.True i = Some (tree.Lit (value.Bool true), i)
-  fixed_by s.False i = Some (tree.Lit (value.Bool false), i)
-  fixed_by s.Dollar i = number i >>= λ place rest. Some (tree.Col (column.ByPlace place), rest)
-  fixed_by s.OpenParen i = closed (λ a. a) i
-  fixed_by s.Count i = count i
-  fixed_by s.CountAll i = expect s.OpenParen i >>= λ _ rest. ended rest
-  fixed_by s.Sum i = aggregate agg.Sum i
-  fixed_by s.Min i = aggregate agg.Min i
-  fixed_by s.Max i = aggregate agg.Max i
-  fixed_by _ i = None
-
-  abbrev pub primary_by : Option Terminal → Rule Tree
+  abbrev pub primary_by : Option Terminal → Parser Tree
   primary_by (Some (t.Number n)) i = Some (tree.Lit (value.Int (pos n)), i)
   primary_by (Some (t.Quoted text)) i = Some (tree.Lit (value.Str text), i)
   primary_by (Some (t.Name n)) i = column_behind n i >>= λ c rest. Some (tree.Col c, rest)
   primary_by (Some (Fixed symbol)) i = fixed_by symbol i
   primary_by None i = None
 
-  unfoldable pub primary : Rule Tree
+  unfoldable pub primary : Parser Tree
   primary i = primary_by (first i) (drop 1 i)
 
   -- behind a minus sign: a number, or what stands there anyway
-  abbrev pub behind_minus : Option Terminal → Input → Outcome Tree → Outcome Tree
+  abbrev pub behind_minus : Option Terminal → Input → Parsed Tree → Parsed Tree
   behind_minus (Some (t.Number n)) rest other = Some (negative n, rest)
   behind_minus _ rest other = other >>= λ a end. Some (tree.Neg a, end)
 
-  unfoldable pub signed : Rule Tree
+  unfoldable pub signed : Parser Tree
   signed [] = primary []
   signed (x ∷ i) = if is_symbol s.Minus (Some x) then behind_minus (first i) (drop 1 i) (signed i) else primary (x ∷ i)
 
   -- what is read behind so many minus signs, by the terminal that is ahead
-  abbrev pub signed_behind : ℕ → Option Terminal → Rule Tree
+  abbrev pub signed_behind : ℕ → Option Terminal → Parser Tree
   signed_behind zero next i = primary i
   signed_behind (suc count) (Some (t.Number n)) i = Some (wrapped tree.Neg count (negative n), drop 1 i)
   signed_behind (suc count) next i = primary i >>= λ a rest. Some (wrapped tree.Neg (suc count) a, rest)
 
-  unfoldable pub product : Rule Tree
+  unfoldable pub product : Parser Tree
   product = chain product_sign signed
 
-  unfoldable pub sum : Rule Tree
+  unfoldable pub sum : Parser Tree
   sum = chain sum_sign product
 
-  unfoldable pub comparison : Rule Tree
+  unfoldable pub comparison : Parser Tree
   comparison = pair comparison_sign sum
 
-  unfoldable pub negation : Rule Tree
+  unfoldable pub negation : Parser Tree
   negation = prefixed s.Not tree.Not comparison
 
-  unfoldable pub conjunction : Rule Tree
+  unfoldable pub conjunction : Parser Tree
   conjunction = chain and_sign negation
 
-  unfoldable pub disjunction : Rule Tree
+  unfoldable pub disjunction : Parser Tree
   disjunction = chain or_sign conjunction
 
   -- the operand of a level, and the operands of a level with operators between them
-  abbrev pub operand_at : Level → Rule Tree
+  abbrev pub operand_at : Level → Parser Tree
   operand_at level.Disjunction = conjunction
   operand_at level.Conjunction = negation
   operand_at level.Sum = product
   operand_at level.Product = signed
 
-  abbrev pub chain_at : Level → Rule Tree
+  abbrev pub chain_at : Level → Parser Tree
   chain_at level.Disjunction = disjunction
   chain_at level.Conjunction = conjunction
   chain_at level.Sum = sum
   chain_at level.Product = product
 
 -- an expression in which fewer parentheses than the number are open at one place
-unfoldable pub expression : ℕ → Rule Tree
+unfoldable pub expression : ℕ → Parser Tree
 expression zero i = None
 expression (suc depth) i = disjunction (expression depth) i
 
 -- ---- lists
 
-module _ {A : Type 0} (item : Rule A) where
+module _ {A : Type 0} (item : Parser A) where
   -- an item, and the others behind a comma, so many at most
-  abbrev pub separated_from : ℕ → Rule (List A)
+  abbrev pub separated_from : ℕ → Parser (List A)
   separated_from zero i = None
   separated_from (suc turns) i = item i >>= λ a rest.
       if sees s.Comma rest then (separated_from turns (drop 1 rest) >>= λ others end. Some (a ∷ others, end)) else Some (a ∷ [], rest)
 
   -- one or more items with commas between them
-  abbrev pub separated : Rule (List A)
+  abbrev pub separated : Parser (List A)
   separated i = separated_from (length i) i
-
--- what a rule reads between an opening and a closing parenthesis
-abbrev pub in_parens : {A B : Type 0} → (A → B) → Rule A → Rule B
-in_parens node rule i = expect s.OpenParen i >>= λ _ rest. rule rest >>= λ a end. expect s.CloseParen end >>= λ _ behind. Some (node a, behind)
 
 -- ---- relation expressions
 
 -- a key behind its first two names, a program where no third one follows
-abbrev pub key_behind_two : Name → Name → Rule Key
+abbrev pub key_behind_two : Name → Name → Parser Key
 key_behind_two first second i =
     if sees s.Colon i then (name (drop 1 i) >>= λ third rest. Some (record { user = first; program = second; name = third }, rest))
     else Some (record { user = codes "public"; program = first; name = second }, i)
 
 -- a key behind its first name
-abbrev pub key_behind : Name → Rule Key
+abbrev pub key_behind : Name → Parser Key
 key_behind first i =
     if sees s.Colon i then (name (drop 1 i) >>= λ second rest. key_behind_two first second rest)
     else Some (record { user = codes "public"; program = codes "adhoc"; name = first }, i)
 
-unfoldable pub key : Rule Key
+unfoldable pub key : Parser Key
 key i = name i >>= λ first rest. key_behind first rest
 
-unfoldable pub source : Rule Operand
-source i = if sees s.Scan i then in_parens Scan key (drop 1 i) else (name i >>= λ n rest. Some (Named n, rest))
+unfoldable pub source : Parser Operand
+source i = if sees s.Scan i then (in_parens key (drop 1 i) >>= λ k rest. Some (Scan k, rest)) else (name i >>= λ n rest. Some (Named n, rest))
 
 -- the type that a word names
-abbrev pub kind_of : Option ColType → Rule ColType
+abbrev pub kind_of : Option ColType → Parser ColType
 kind_of (Some kind) rest = Some (kind, rest)
 kind_of None rest = None
 
-abbrev pub kind_by : Option Terminal → Rule ColType
+abbrev pub kind_by : Option Terminal → Parser ColType
 kind_by (Some (t.Name word)) rest = kind_of (type_of word) rest
 kind_by _ rest = None
 
-abbrev pub kind : Rule ColType
+abbrev pub kind : Parser ColType
 kind i = kind_by (first i) (drop 1 i)
 
-unfoldable pub column_definition : Rule Column
+unfoldable pub column_definition : Parser Column
 column_definition i = name i >>= λ n rest. expect s.Colon rest >>= λ _ behind. kind behind >>= λ k end. Some (record { name = n; kind = k }, end)
 
-unfoldable pub column_definitions : Rule (List Column)
-column_definitions = separated column_definition
-
-unfoldable pub two_sources : Rule (Operand × Operand)
+unfoldable pub two_sources : Parser (Operand × Operand)
 two_sources i = source i >>= λ left rest. expect s.Comma rest >>= λ _ behind. source behind >>= λ right end. Some ((left, right), end)
 
 -- a name behind `as`, where there is one
-abbrev pub name_behind_as : Rule (Option Name)
+abbrev pub name_behind_as : Parser (Option Name)
 name_behind_as i = if sees s.As i then (name (drop 1 i) >>= λ n rest. Some (Some n, rest)) else Some (None, i)
 
-unfoldable pub item : Rule FromItem
+unfoldable pub item : Parser FromItem
 item i = source i >>= λ o rest. name_behind_as rest >>= λ alias end. Some (record { source = o; alias = unwrap_or alias (own_name o) }, end)
 
-unfoldable pub items : Rule (List FromItem)
-items = separated item
-
 -- an expression that nests no deeper than there are terminals ahead
-unfoldable pub whole_expression : Rule Tree
+unfoldable pub whole_expression : Parser Tree
 whole_expression i = expression (length i + 1) i
 
-unfoldable pub condition : Rule (Option Tree)
+unfoldable pub condition : Parser (Option Tree)
 condition i = if sees s.Where i then (whole_expression (drop 1 i) >>= λ a rest. Some (Some a, rest)) else Some (None, i)
 
 -- an expression that is emitted, with a name where one is given
-unfoldable pub emitted : Rule EmitTree
+unfoldable pub emitted : Parser EmitTree
 emitted i = whole_expression i >>= λ a rest. name_behind_as rest >>= λ n end. Some (tree.One a n, end)
 
 -- the alias of an item all of whose columns are emitted
-unfoldable pub emitted_alias : Rule EmitTree
+unfoldable pub emitted_alias : Parser EmitTree
 emitted_alias i = name i >>= λ alias rest. Some (tree.AllOf alias, drop 1 (drop 1 rest))
 
-unfoldable pub emit : Rule EmitTree
+unfoldable pub emit : Parser EmitTree
 emit i =
     if sees s.Star i then Some (tree.All, drop 1 i)
     else (if sees s.Dot (drop 1 i) && sees s.Star (drop 2 i) then emitted_alias i else emitted i)
 
-unfoldable pub emits : Rule (List EmitTree)
-emits = separated emit
-
-unfoldable pub comprehension : Rule RelTree
+unfoldable pub comprehension : Parser RelTree
 comprehension i =
-    expect s.From i >>= λ _ rest. items rest >>= λ from rest. condition rest >>= λ where_ rest. expect s.Emit rest >>= λ _ rest. emits rest >>= λ all rest.
+    expect s.From i >>= λ _ rest. separated item rest >>= λ from rest. condition rest >>= λ where_ rest. expect s.Emit rest >>= λ _ rest. separated emit rest >>= λ all rest.
     expect s.CloseBracket rest >>= λ _ end. Some (tree.From from where_ all, end)
 
-abbrev pub copied : Rule RelTree
+-- what stands in the parentheses of a word
+unfoldable pub argument : Keyword → Parser RelTree
+argument keyword.Empty i = separated column_definition i >>= λ columns rest. Some (tree.Empty columns, rest)
+argument keyword.Distinct i = source i >>= λ o rest. Some (tree.Distinct o, rest)
+argument keyword.UnionAll i = two_sources i >>= λ p rest. Some (tree.UnionAll p.0 p.1, rest)
+argument keyword.Diff i = two_sources i >>= λ p rest. Some (tree.Diff p.0 p.1, rest)
+argument _ i = None
+
+abbrev pub copied : Parser RelTree
 copied i = source i >>= λ o rest. Some (tree.Copy o, rest)
 
--- a relation by the word or the sign that it begins with
-unfoldable pub relation : Rule RelTree
-relation i =
-    if sees s.Empty i then in_parens tree.Empty column_definitions (drop 1 i)
-    else (if sees s.Distinct i then in_parens tree.Distinct source (drop 1 i)
-    else (if sees s.UnionAll i then in_parens (λ p. tree.UnionAll p.0 p.1) two_sources (drop 1 i)
-    else (if sees s.Diff i then in_parens (λ p. tree.Diff p.0 p.1) two_sources (drop 1 i)
-    else (if sees s.OpenBracket i then comprehension (drop 1 i)
-    else copied i))))
+-- a relation by the symbol that it begins with
+abbrev pub relation_by : Option Symbol → Parser RelTree
+relation_by (Some (Sign sign.OpenBracket)) i = comprehension (drop 1 i)
+relation_by (Some (Word keyword.Scan)) i = copied i
+relation_by (Some (Word word)) i = in_parens (argument word) (drop 1 i)
+relation_by _ i = copied i
+
+unfoldable pub relation : Parser RelTree
+relation i = relation_by (symbol_ahead i) i
 
 -- ---- statements
 
-unfoldable pub assignment : Rule StatementTree
+unfoldable pub assignment : Parser StatementTree
 assignment i = name i >>= λ n rest. expect s.Eq rest >>= λ _ behind. relation behind >>= λ r end. Some (tree.Assign n r, end)
 
 -- what stands behind `store`
-unfoldable pub store : Rule StatementTree
+unfoldable pub store : Parser StatementTree
 store i =
     expect s.OpenParen i >>= λ _ rest. name rest >>= λ n rest. expect s.Comma rest >>= λ _ rest. key rest >>= λ k rest.
     expect s.CloseParen rest >>= λ _ end. Some (tree.Store n k, end)
 
 -- a statement that isn't empty
-abbrev pub action : Rule StatementTree
+abbrev pub action : Parser StatementTree
 action i = if sees s.Store i then store (drop 1 i) else assignment i
 
 -- a statement that goes on to the end
-unfoldable pub statement : Rule StatementTree
+unfoldable pub statement : Parser StatementTree
 statement [] = Some (tree.Nothing, [])
 statement (x ∷ i) = action (x ∷ i) >>= λ a rest. end rest >>= λ _ behind. Some (a, behind)

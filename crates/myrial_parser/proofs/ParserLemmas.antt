@@ -2,14 +2,17 @@
 use Rattle.std.proofs.Common.{◌≡◌, ℕ, zero, suc, ◌≤◌, Bool, true, false, cond, List, [], ◌∷◌, ◌++◌, drop, length, Option, Some, None, refl, sym, ap, subst, ◌∙◌, append_assoc, append-nil, length-append, arith}
 use denote.Enum.Bare.{same_true, true_same}
 use Rattle.std.proofs.Common.{rules}
-use Rattle.myrial_parser.specs.contracts.terminals.Symbol.{the_type}
+use Rattle.myrial_lexer.specs.contracts.kinds.Sign.{the_type as sign_type}
+use Rattle.myrial_parser.specs.contracts.terminals.Keyword.{the_type as keyword_type}
 use Rattle.myrial_parser.specs.Terminals.{Name, Number, Quoted}
 use Rattle.myrial_ast.specs.declared.operators.BinOp.{BinOp}
 use Rattle.myrial_ast.specs.Trees.{Tree, Bin}
 use Rattle.myrial_parser.specs.declared.terminals.Symbol.{Symbol}
+use Rattle.myrial_parser.specs.declared.terminals.Symbol.TheVariants.{Keyword as Word, Sign}
 use Rattle.myrial_parser.specs.Terminals.{Terminal, Fixed}
+use Rattle.myrial_parser.specs.Symbols as s
 use Rattle.myrial_parser.specs.Phrases.{Chain, alone, joined, Pair, single, compared, Prefixed, plain, behind}
-use Rattle.myrial_parser.specs.Descent.{Input, Outcome, Rule, ◌>>=◌, operator_ahead, chain, chain_from, chain_by, pair, pair_by, prefixed, is_symbol, same_symbol, sees, expect, name, number}
+use Rattle.myrial_parser.specs.inner.Descent.{Input, Parsed, Parser, ◌>>=◌, operator_ahead, chain, chain_from, chain_by, pair, pair_by, prefixed, is_symbol, same_symbol, sees, expect, name, number, in_parens, symbol_ahead}
 
 -- what a rule reads at a place: a phrase, and the rest
 pub record Reading {A : Type 0} (Is : Input → A → Type 0) (i : Input) (a : A) (rest : Input) : Type 0 where
@@ -18,7 +21,7 @@ pub record Reading {A : Type 0} (Is : Input → A → Type 0) (i : Input) (a : A
   pub is : Is front a
 
 -- what a rule reads is such a phrase
-pub record Sound {A : Type 0} (rule : Rule A) (Is : Input → A → Type 0) : Type 0 where
+pub record Sound {A : Type 0} (rule : Parser A) (Is : Input → A → Type 0) : Type 0 where
   pub reads : (i : Input) (a : A) (rest : Input) → rule i ≡ Some (a, rest) → Reading Is i a rest
 
 -- no terminal of a kind stands ahead
@@ -47,30 +50,30 @@ stops-right p q (x ∷ i) e = by (p x) (q x) e
     by false b e = e
 
 -- a phrase is read wherever no terminal of a kind follows it
-pub record Complete {A : Type 0} (rule : Rule A) (Is : Input → A → Type 0) (goes_on : Terminal → Bool) : Type 0 where
+pub record Complete {A : Type 0} (rule : Parser A) (Is : Input → A → Type 0) (goes_on : Terminal → Bool) : Type 0 where
   pub reads : (ts : Input) (a : A) (rest : Input) → Is ts a → stops goes_on rest ≡ true → rule (ts ++ rest) ≡ Some (a, rest)
 
 -- the two steps of a rule that gave something
-pub record Steps {A B : Type 0} (o : Outcome A) (f : A → Rule B) (b : B) (rest : Input) : Type 0 where
+pub record Steps {A B : Type 0} (o : Parsed A) (f : A → Parser B) (b : B) (rest : Input) : Type 0 where
   pub value : A
   pub middle : Input
   pub start : o ≡ Some (value, middle)
   pub end : f value middle ≡ Some (b, rest)
 
-pub steps : {A B : Type 0} (o : Outcome A) (f : A → Rule B) (b : B) (rest : Input) → (o >>= f) ≡ Some (b, rest) → Steps o f b rest
+pub steps : {A B : Type 0} (o : Parsed A) (f : A → Parser B) (b : B) (rest : Input) → (o >>= f) ≡ Some (b, rest) → Steps o f b rest
 steps None f b rest e = absurd (cc)
 steps (Some p) f b rest e = record { value = p.0; middle = p.1; start = refl; end = e }
 
-pub same_value : {A : Type 0} (a b : A) (i j : Input) → ◌≡◌ {A = Outcome A} (Some (a, i)) (Some (b, j)) → a ≡ b
+pub same_value : {A : Type 0} (a b : A) (i j : Input) → ◌≡◌ {A = Parsed A} (Some (a, i)) (Some (b, j)) → a ≡ b
 same_value {A = A} a b i j e = let p : ◌≡◌ {A = A × Input} (a, i) (b, j) = cc in ap (λ (q : A × Input). q.0) p
 
-pub same_rest : {A : Type 0} (a b : A) (i j : Input) → ◌≡◌ {A = Outcome A} (Some (a, i)) (Some (b, j)) → i ≡ j
+pub same_rest : {A : Type 0} (a b : A) (i j : Input) → ◌≡◌ {A = Parsed A} (Some (a, i)) (Some (b, j)) → i ≡ j
 same_rest {A = A} a b i j e = let p : ◌≡◌ {A = A × Input} (a, i) (b, j) = cc in ap (λ (q : A × Input). q.1) p
 
 -- ---- chains
 
-module _ (sign : Terminal → Option BinOp) (operand : Rule Tree) (Operand : Input → Tree → Type 0) (sound : Sound operand Operand) where
-  nothing_more : (i : Input) (left a : Tree) (rest front : Input) → Chain sign Operand front left → ◌≡◌ {A = Outcome Tree} (Some (left, i)) (Some (a, rest)) → Reading (λ ts t. Chain sign Operand (front ++ ts) t) i a rest
+module _ (sign : Terminal → Option BinOp) (operand : Parser Tree) (Operand : Input → Tree → Type 0) (sound : Sound operand Operand) where
+  nothing_more : (i : Input) (left a : Tree) (rest front : Input) → Chain sign Operand front left → ◌≡◌ {A = Parsed Tree} (Some (left, i)) (Some (a, rest)) → Reading (λ ts t. Chain sign Operand (front ++ ts) t) i a rest
   nothing_more i left a rest front c e = record {
     front = [];
     split = same_rest left a i rest e;
@@ -120,7 +123,7 @@ module _ (sign : Terminal → Option BinOp) (operand : Rule Tree) (Operand : Inp
         by i a rest two.value two.middle left two.end;
   }
     where
-      lone : (i : Input) (a : Tree) (rest : Input) (l : Tree) (middle : Input) → Reading Operand i l middle → ◌≡◌ {A = Outcome Tree} (Some (l, middle)) (Some (a, rest)) → Reading (Pair sign Operand) i a rest
+      lone : (i : Input) (a : Tree) (rest : Input) (l : Tree) (middle : Input) → Reading Operand i l middle → ◌≡◌ {A = Parsed Tree} (Some (l, middle)) (Some (a, rest)) → Reading (Pair sign Operand) i a rest
       lone i a rest l middle left e = record {
         front = left.front;
         split = left.split ∙ ap (λ (ts : Input). left.front ++ ts) (same_rest l a middle rest e);
@@ -144,7 +147,7 @@ module _ (sign : Terminal → Option BinOp) (operand : Rule Tree) (Operand : Inp
                     (compared left.front right.front x op l two.value left.is is right.is);
               }
 
-module _ (sign : Terminal → Option BinOp) (operand : Rule Tree) (Operand : Input → Tree → Type 0) (goes_on : Terminal → Bool)
+module _ (sign : Terminal → Option BinOp) (operand : Parser Tree) (Operand : Input → Tree → Type 0) (goes_on : Terminal → Bool)
     (complete : Complete operand Operand goes_on) (apart : (x : Terminal) (op : BinOp) → sign x ≡ Some op → goes_on x ≡ false) where
   -- no operator of the chain is ahead
   abbrev pub is_sign : Terminal → Bool
@@ -160,7 +163,7 @@ module _ (sign : Terminal → Option BinOp) (operand : Rule Tree) (Operand : Inp
   chain-goes_on ts a (alone _ _ h) rest st = record {
     turns = length rest;
     enough = omega arith;
-    on = ap (λ (o : Outcome Tree). o >>= λ left rest. chain_from sign operand (length rest) left rest) (complete.reads ts a rest h st);
+    on = ap (λ (o : Parsed Tree). o >>= λ left rest. chain_from sign operand (length rest) left rest) (complete.reads ts a rest h st);
   }
   chain-goes_on _ _ (joined ts us x op a b c is h) rest st =
       let before = chain-goes_on ts a c (x ∷ us ++ rest) (ap (λ b. cond b false true) (apart x op is)) in
@@ -176,7 +179,7 @@ module _ (sign : Terminal → Option BinOp) (operand : Rule Tree) (Operand : Inp
             turns = n;
             enough = omega arith;
             on = on ∙ ap (λ (o : Option BinOp). chain_by sign operand (chain_from sign operand n) a o (x ∷ us ++ rest)) is
-                ∙ ap (λ (o : Outcome Tree). o >>= λ right. chain_from sign operand n (Bin op a right)) (complete.reads us b rest h st);
+                ∙ ap (λ (o : Parsed Tree). o >>= λ right. chain_from sign operand n (Bin op a right)) (complete.reads us b rest h st);
           }
 
   chain_from-stops : (n : ℕ) (a : Tree) (rest : Input) → stops is_sign rest ≡ true → chain_from sign operand n a rest ≡ Some (a, rest)
@@ -218,25 +221,36 @@ module _ (sign : Terminal → Option BinOp) (operand : Rule Tree) (Operand : Inp
 
       read : (ts : Input) (a : Tree) (rest : Input) → Pair sign Operand ts a → stops (either goes_on is_sign) rest ≡ true → pair sign operand (ts ++ rest) ≡ Some (a, rest)
       read ts a rest (single _ _ h) st =
-          ap (λ (o : Outcome Tree). o >>= λ left rest. pair_by sign operand left (operator_ahead sign rest) rest) (complete.reads ts a rest h (stops-left goes_on is_sign rest st))
+          ap (λ (o : Parsed Tree). o >>= λ left rest. pair_by sign operand left (operator_ahead sign rest) rest) (complete.reads ts a rest h (stops-left goes_on is_sign rest st))
           ∙ ends a rest (stops-right goes_on is_sign rest st)
       read _ _ rest (compared ts us x op a b h is k) st =
           ap (pair sign operand) (append_assoc ts (x ∷ us) rest)
-          ∙ ap (λ (o : Outcome Tree). o >>= λ left rest. pair_by sign operand left (operator_ahead sign rest) rest) (complete.reads ts a (x ∷ us ++ rest) h (ap (λ b. cond b false true) (apart x op is)))
+          ∙ ap (λ (o : Parsed Tree). o >>= λ left rest. pair_by sign operand left (operator_ahead sign rest) rest) (complete.reads ts a (x ∷ us ++ rest) h (ap (λ b. cond b false true) (apart x op is)))
           ∙ ap (λ (o : Option BinOp). pair_by sign operand a o (x ∷ us ++ rest)) is
-          ∙ ap (λ (o : Outcome Tree). o >>= λ right rest. Some (Bin op a right, rest)) (complete.reads us b rest k (stops-left goes_on is_sign rest st))
+          ∙ ap (λ (o : Parsed Tree). o >>= λ right rest. Some (Bin op a right, rest)) (complete.reads us b rest k (stops-left goes_on is_sign rest st))
+
+-- no operand is ahead
+pub chain-none : (sign : Terminal → Option BinOp) (operand : Parser Tree) (i : Input) → operand i ≡ None → chain sign operand i ≡ None
+chain-none sign operand i h = ap (λ (o : Parsed Tree). o >>= λ left rest. chain_from sign operand (length rest) left rest) h
+
+pub pair-none : (sign : Terminal → Option BinOp) (operand : Parser Tree) (i : Input) → operand i ≡ None → pair sign operand i ≡ None
+pair-none sign operand i h = ap (λ (o : Parsed Tree). o >>= λ left rest. pair_by sign operand left (operator_ahead sign rest) rest) h
 
 -- ---- prefixes
 
 -- each symbol is itself
 pub symbol-self : (symbol : Symbol) → same_symbol symbol symbol ≡ true
 unfolding same_symbol
-symbol-self symbol = true_same the_type symbol symbol refl
+symbol-self (Word word) = true_same keyword_type word word refl
+symbol-self (Sign sign) = true_same sign_type sign sign refl
 
 -- symbols that test as one are one
 pub symbol-same : (found symbol : Symbol) → same_symbol found symbol ≡ true → found ≡ symbol
 unfolding same_symbol
-symbol-same found symbol e = same_true the_type (search rules) found symbol e
+symbol-same (Word found) (Word other) e = ap Word (same_true keyword_type (search rules) found other e)
+symbol-same (Word found) (Sign other) e = absurd (cc)
+symbol-same (Sign found) (Word other) e = absurd (cc)
+symbol-same (Sign found) (Sign other) e = ap Sign (same_true sign_type (search rules) found other e)
 
 -- a terminal that tests as a symbol is it
 pub is_symbol-same : (symbol : Symbol) (x : Terminal) → is_symbol symbol (Some x) ≡ true → x ≡ Fixed symbol
@@ -245,7 +259,7 @@ is_symbol-same symbol (Name text) e = absurd (cc)
 is_symbol-same symbol (Number n) e = absurd (cc)
 is_symbol-same symbol (Quoted text) e = absurd (cc)
 
-module _ (symbol : Symbol) (node : Tree → Tree) (operand : Rule Tree) (Operand : Input → Tree → Type 0) where
+module _ (symbol : Symbol) (node : Tree → Tree) (operand : Parser Tree) (Operand : Input → Tree → Type 0) where
   prefixed-reads : Sound operand Operand → (i : Input) (a : Tree) (rest : Input) → prefixed symbol node operand i ≡ Some (a, rest) → Reading (Prefixed symbol node Operand) i a rest
   prefixed-reads sound [] a rest e = let r = sound.reads [] a rest e in record { front = r.front; split = r.split; is = plain r.front a r.is }
   prefixed-reads sound (x ∷ i) a rest e = by (is_symbol symbol (Some x)) refl e (prefixed-reads sound i)
@@ -279,7 +293,7 @@ module _ (symbol : Symbol) (node : Tree → Tree) (operand : Rule Tree) (Operand
           on true is = let none = refuses i in let same = ap (λ (y : Terminal). operand (y ∷ i)) (is_symbol-same symbol x is) in absurd (cc)
   prefixed-all goes_on complete refuses _ _ rest (behind ts a h) st =
       ap (λ t. cond t (prefixed symbol node operand (ts ++ rest) >>= λ b end. Some (node b, end)) (operand (Fixed symbol ∷ ts ++ rest))) (symbol-self symbol)
-      ∙ ap (λ (o : Outcome Tree). o >>= λ b end. Some (node b, end)) (prefixed-all goes_on complete refuses ts a rest h st)
+      ∙ ap (λ (o : Parsed Tree). o >>= λ b end. Some (node b, end)) (prefixed-all goes_on complete refuses ts a rest h st)
 
   pub prefixed-complete : (goes_on : Terminal → Bool) → Complete operand Operand goes_on → ((i : Input) → operand (Fixed symbol ∷ i) ≡ None) → Complete (prefixed symbol node operand) (Prefixed symbol node Operand) goes_on
   prefixed-complete goes_on complete refuses = record { reads = prefixed-all goes_on complete refuses }
@@ -287,7 +301,7 @@ module _ (symbol : Symbol) (node : Tree → Tree) (operand : Rule Tree) (Operand
 -- ---- single terminals
 
 -- a phrase and what follows it, where a rule gave just that
-pub finish : {A : Type 0} (Is : Input → A → Type 0) (i front end : Input) (a b : A) (rest : Input) → i ≡ front ++ end → Is front a → ◌≡◌ {A = Outcome A} (Some (a, end)) (Some (b, rest)) → Reading Is i b rest
+pub finish : {A : Type 0} (Is : Input → A → Type 0) (i front end : Input) (a b : A) (rest : Input) → i ≡ front ++ end → Is front a → ◌≡◌ {A = Parsed A} (Some (a, end)) (Some (b, rest)) → Reading Is i b rest
 finish Is i front end a b rest split is e = record {
   front = front;
   split = split ∙ ap (λ (ts : Input). front ++ ts) (same_rest a b end rest e);
@@ -304,7 +318,7 @@ sees-it symbol i = symbol-self symbol
 pub expect-is : (symbol : Symbol) (i : Input) (u : Unit {0}) (rest : Input) → expect symbol i ≡ Some (u, rest) → i ≡ Fixed symbol ∷ rest
 expect-is symbol i u rest e = by (sees symbol i) refl e
   where
-    by : (t : Bool) → sees symbol i ≡ t → ◌≡◌ {A = Outcome (Unit {0})} (cond t (Some (tt, drop 1 i)) None) (Some (u, rest)) → i ≡ Fixed symbol ∷ rest
+    by : (t : Bool) → sees symbol i ≡ t → ◌≡◌ {A = Parsed (Unit {0})} (cond t (Some (tt, drop 1 i)) None) (Some (u, rest)) → i ≡ Fixed symbol ∷ rest
     by true is e = sees-is symbol i is ∙ ap (λ (ts : Input). Fixed symbol ∷ ts) (same_rest tt u (drop 1 i) rest e)
     by false is e = absurd (cc)
 
@@ -324,3 +338,99 @@ number-is (Number m ∷ i) n rest e = λ k. Number (same_value m n i rest e k) �
 number-is (Name m ∷ i) n rest e = absurd (cc)
 number-is (Quoted m ∷ i) n rest e = absurd (cc)
 number-is (Fixed m ∷ i) n rest e = absurd (cc)
+
+-- the symbol that is ahead is the first terminal
+pub symbol_ahead-is : (symbol : Symbol) (i : Input) → symbol_ahead i ≡ Some symbol → i ≡ Fixed symbol ∷ drop 1 i
+symbol_ahead-is symbol [] e = absurd (cc)
+symbol_ahead-is symbol (Fixed found ∷ i) e = let same : found ≡ symbol = cc in ap (λ (s : Symbol). Fixed s ∷ i) same
+symbol_ahead-is symbol (Name text ∷ i) e = absurd (cc)
+symbol_ahead-is symbol (Number n ∷ i) e = absurd (cc)
+symbol_ahead-is symbol (Quoted text ∷ i) e = absurd (cc)
+
+-- the symbol that had to come next, and the terminals behind it
+pub record Expected {B : Type 0} (symbol : Symbol) (f : Parser B) (i : Input) (b : B) (rest : Input) : Type 0 where
+  pub behind : Input
+  pub split : i ≡ Fixed symbol ∷ behind
+  pub on : f behind ≡ Some (b, rest)
+
+pub expect-then : {B : Type 0} (symbol : Symbol) (f : Parser B) (i : Input) (b : B) (rest : Input) → (expect symbol i >>= λ _ behind. f behind) ≡ Some (b, rest) → Expected symbol f i b rest
+expect-then symbol f i b rest e =
+    let two = steps (expect symbol i) (λ _ behind. f behind) b rest e in
+    record { behind = two.middle; split = expect-is symbol i two.value two.middle two.start; on = two.end }
+
+-- the name that had to come next, and the terminals behind it
+pub record Named {B : Type 0} (f : List ℕ → Parser B) (i : Input) (b : B) (rest : Input) : Type 0 where
+  pub text : List ℕ
+  pub behind : Input
+  pub split : i ≡ Name text ∷ behind
+  pub on : f text behind ≡ Some (b, rest)
+
+pub name-then : {B : Type 0} (f : List ℕ → Parser B) (i : Input) (b : B) (rest : Input) → (name i >>= f) ≡ Some (b, rest) → Named f i b rest
+name-then f i b rest e =
+    let two = steps (name i) f b rest e in
+    record { text = two.value; behind = two.middle; split = name-is i two.value two.middle two.start; on = two.end }
+
+-- ---- parentheses
+
+-- a phrase, and the closing parenthesis behind it
+pub data IsClosed {A : Type 0} (Is : Input → A → Type 0) : Input → A → Type 0 where
+  closed : (ts : Input) (a : A) → Is ts a → IsClosed Is (ts ++ Fixed s.CloseParen ∷ []) a
+
+-- a phrase in parentheses
+pub data IsEnclosed {A : Type 0} (Is : Input → A → Type 0) : Input → A → Type 0 where
+  enclosed : (ts : Input) (a : A) → Is ts a → IsEnclosed Is (Fixed s.OpenParen ∷ ts ++ Fixed s.CloseParen ∷ []) a
+
+module _ {A : Type 0} (inside : Parser A) (Is : Input → A → Type 0) where
+  pub closed-reads : Sound inside Is → (i : Input) (a : A) (rest : Input) → (inside i >>= λ a end. expect s.CloseParen end >>= λ _ behind. Some (a, behind)) ≡ Some (a, rest) → Reading (IsClosed Is) i a rest
+  closed-reads sound i a rest e =
+      let two = steps (inside i) (λ a end. expect s.CloseParen end >>= λ _ behind. Some (a, behind)) a rest e in
+      let r = sound.reads i two.value two.middle two.start in
+      let end = expect-then s.CloseParen (λ behind. Some (two.value, behind)) two.middle a rest two.end in
+      finish (IsClosed Is) i (r.front ++ Fixed s.CloseParen ∷ []) end.behind two.value a rest
+      (r.split ∙ ap (λ (ts : Input). r.front ++ ts) end.split ∙ sym (append_assoc r.front (Fixed s.CloseParen ∷ []) end.behind)) (closed r.front two.value r.is) end.on
+
+  open-IsEnclosed : (ts : Input) (a : A) → IsClosed Is ts a → IsEnclosed Is (Fixed s.OpenParen ∷ ts) a
+  open-IsEnclosed _ _ (closed ts a h) = enclosed ts a h
+
+  -- what is read in parentheses is such a phrase
+  pub in_parens-sound : Sound inside Is → Sound (in_parens inside) (IsEnclosed Is)
+  in_parens-sound sound = record {
+    reads = λ i a rest e.
+        let start = expect-then s.OpenParen (λ behind. inside behind >>= λ a end. expect s.CloseParen end >>= λ _ behind. Some (a, behind)) i a rest e in
+        let r = closed-reads sound start.behind a rest start.on in
+        record {
+          front = Fixed s.OpenParen ∷ r.front;
+          split = start.split ∙ ap (λ (ts : Input). Fixed s.OpenParen ∷ ts) r.split;
+          is = open-IsEnclosed r.front a r.is;
+        };
+  }
+
+  -- each phrase in parentheses is read
+  pub closed-all : (goes_on : Terminal → Bool) → Complete inside Is goes_on → goes_on (Fixed s.CloseParen) ≡ false → (ts : Input) (a : A) (rest : Input) → Is ts a
+      → (inside ((ts ++ Fixed s.CloseParen ∷ []) ++ rest) >>= λ a end. expect s.CloseParen end >>= λ _ behind. Some (a, behind)) ≡ Some (a, rest)
+  unfolding same_symbol
+  closed-all goes_on complete closing ts a rest h =
+      ap (λ (o : Parsed A). o >>= λ a end. expect s.CloseParen end >>= λ _ behind. Some (a, behind))
+      (ap inside (append_assoc ts (Fixed s.CloseParen ∷ []) rest) ∙ complete.reads ts a (Fixed s.CloseParen ∷ rest) h (ap (λ b. cond b false true) closing))
+
+  pub in_parens-all : (goes_on : Terminal → Bool) → Complete inside Is goes_on → goes_on (Fixed s.CloseParen) ≡ false → (ts : Input) (a : A) (rest : Input) → Is ts a
+      → in_parens inside (Fixed s.OpenParen ∷ (ts ++ Fixed s.CloseParen ∷ []) ++ rest) ≡ Some (a, rest)
+  unfolding same_symbol
+  in_parens-all goes_on complete closing ts a rest h = closed-all goes_on complete closing ts a rest h
+
+-- nothing is read in parentheses where nothing stands in them
+pub in_parens-none : {A : Type 0} (inside : Parser A) (i : Input) → ((j : Input) → inside j ≡ None) → in_parens inside i ≡ None
+in_parens-none {A = A} inside i none = by (sees s.OpenParen i)
+  where
+    by : (t : Bool) → (cond {A = Parsed (Unit {0})} t (Some (tt, drop 1 i)) None >>= λ _ rest. inside rest >>= λ a end. expect s.CloseParen end >>= λ _ behind. Some (a, behind)) ≡ None
+    by true = ap (λ (o : Parsed A). o >>= λ a end. expect s.CloseParen end >>= λ _ behind. Some (a, behind)) (none (drop 1 i))
+    by false = refl
+
+-- a word, and what stands in parentheses behind it
+pub word-reads : {A B : Type 0} (symbol : Symbol) (Is : Input → A → Type 0) (node : A → B) (Phrase : Input → B → Type 0)
+    → ((ts : Input) (a : A) → Is ts a → Phrase (Fixed symbol ∷ Fixed s.OpenParen ∷ ts ++ Fixed s.CloseParen ∷ []) (node a))
+    → (i : Input) (a : A) (rest : Input) → Reading (IsEnclosed Is) i a rest → Reading Phrase (Fixed symbol ∷ i) (node a) rest
+word-reads {A = A} symbol Is node Phrase make i a rest r = record { front = Fixed symbol ∷ r.front; split = ap (λ (ts : Input). Fixed symbol ∷ ts) r.split; is = by r.front a r.is }
+  where
+    by : (ts : Input) (a : A) → IsEnclosed Is ts a → Phrase (Fixed symbol ∷ ts) (node a)
+    by _ _ (enclosed ts a h) = make ts a h
