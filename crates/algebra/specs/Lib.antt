@@ -6,5 +6,7 @@ pub mod ShapeTrees
 pub mod CheckedTrees
 pub mod Joins
 pub mod Meanings
+pub mod ShapeLaws
 pub mod Conditions
+pub mod Needed
 pub mod Rewriting

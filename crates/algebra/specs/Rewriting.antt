@@ -76,10 +76,6 @@ pub record IsRewritten (c d : CheckedTree) : Type 0 where
 abbrev pub AreTyped : List File → Type 0
 AreTyped files = All (λ (f : File). All (HasTypes f.1.schema) f.1.rows) files
 
--- what is needed is needed of the needed steps
-abbrev pub NeededIsNeeded : Type 0
-NeededIsNeeded = (stores : List StoreStep) (steps : List StepTree) → needed_steps stores (needed_steps stores steps) ≡ needed_steps stores steps
-
 -- a rewritten script stores what the script stores, and has its fault
 abbrev pub RewrittenStoresTheSame : Type 0
 RewrittenStoresTheSame =

@@ -1,7 +1,28 @@
-//! The law of needed steps.
-ghost use Rattle.algebra.specs.Rewriting.{NeededIsNeeded};
+//! The laws.
+ghost use Rattle.algebra.specs.Needed.{NeededByRule, NeededIsNeeded};
+ghost use Rattle.algebra.specs.ShapeLaws.{ShapeListsTheSame, ShapeKeepsTheSame, ShapeFaultsTheSame};
 
-/// Law: what is needed is needed of the needed steps.
+/// Law: the shape of a comprehension has its candidates and listed rows.
+pub fn shape_lists_the_same()
+    ensures { ShapeListsTheSame }
+{}
+
+/// Law: the shape of a comprehension has its kept rows and prefixes.
+pub fn shape_keeps_the_same()
+    ensures { ShapeKeepsTheSame }
+{}
+
+/// Law: the shape of a comprehension has its fault.
+pub fn shape_faults_the_same()
+    ensures { ShapeFaultsTheSame }
+{}
+
+/// Law: the steps that are computed as needed are those that the rule says.
+pub fn needed_by_rule()
+    ensures { NeededByRule }
+{}
+
+/// Law: what is needed needs all of itself.
 pub fn needed_is_needed()
     ensures { NeededIsNeeded }
 {}

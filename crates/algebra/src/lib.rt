@@ -22,7 +22,10 @@ mod shapes;
 mod terms;
 
 pub use joins::{JoinFault, Listed, LocalJoin};
-pub use laws::needed_is_needed;
+pub use laws::{
+    needed_by_rule, needed_is_needed, shape_faults_the_same, shape_keeps_the_same,
+    shape_lists_the_same,
+};
 pub use myrial_ast::{Scalar, Scalars};
 pub use notes::{
     Counts, Exchange, ItemPlaces, PlanKind, PlanNote, PlanNotes, Traffic, TrafficNotes,
