@@ -1,19 +1,18 @@
 -- The steps that are computed as needed are those that the rule says.
-use Rattle.std.proofs.Common.{◌≡◌, ℕ, zero, suc, ◌+◌, ◌<◌, ◌≤◌, ◌==◌, Bool, true, false, cond, List, [], ◌∷◌, map, refl, sym, ◌∙◌, ap, subst, arith, Option, Some, None, option_map, ◌⊎◌, inl, inr}
-use Rattle.std.specs.Prelude.{◌↔◌, Contains, IsTrue, ⊤, ◌&&◌, ◌||◌, find, is_some, nat_lt}
+use Rattle.std.proofs.Common.{◌≡◌, ℕ, zero, suc, ◌<◌, ◌≤◌, ◌==◌, Bool, true, false, cond, List, [], ◌∷◌, refl, sym, ◌∙◌, ap, subst, arith, Option, Some, None, option_map, ◌⊎◌, inl, inr}
+use Rattle.std.specs.Prelude.{Contains, ⊤, ◌&&◌, ◌||◌, find, is_some, nat_lt}
 use Rattle.std.specs.List.{list_any}
 use Rattle.std.specs.Cmp.Lexicographic.{pointwise}
 use Rattle.std.proofs.lemmas.Bool.{eqb-true, ltb-true}
 use Rattle.std.proofs.lemmas.List.Elements.{Contains-append_cases, Contains-append_right}
 use Rattle.rel_base.specs.declared.values.ColType.{ColType}
 use Rattle.rel_base.specs.Keys.{File}
-use Rattle.myrial_ast.specs.Groups.{Kinds}
 use Rattle.algebra.specs.declared.terms.Source.{Source}
 use Rattle.algebra.specs.declared.terms.Source.TheVariants as source
 use Rattle.algebra.specs.declared.terms.StoreStep.{StoreStep}
-use Rattle.algebra.specs.Trees.{AtomTree, Shape, TermTree, Same, Empty, UnionAll, Diff, Distinct, Join, Group, StepTree, CheckedTree}
+use Rattle.algebra.specs.Trees.{AtomTree, TermTree, Same, Empty, UnionAll, Diff, Distinct, Join, Group, StepTree}
 use Rattle.algebra.specs.ShapeConditions.{is_shape}
-use Rattle.algebra.specs.Conditions.{kinds_of_columns, source_kinds, has_kinds, is_term, are_steps, is_store, is_of}
+use Rattle.algebra.specs.Conditions.{kinds_of_columns, source_kinds, has_kinds, is_term, are_steps}
 use Rattle.algebra.specs.Meanings.{sources_of, is_result, uses, is_used, needed_steps}
 use Rattle.algebra.specs.Needed.{IsNeeded, stored, used, NeededByRule, NeededIsNeeded}
 use Rattle.algebra.proofs.ShapeLemmas.{both}

@@ -10,7 +10,6 @@ use Rattle.myrial_ast.specs.Combinations.{Rows, all_hold}
 use Rattle.myrial_ast.specs.CandidateFaults.{PrefixRule}
 use Rattle.rel_base.specs.Keys.{File}
 use Rattle.rel_base.specs.Relations.{HasTypes}
-use Rattle.algebra.specs.declared.terms.StoreStep.{StoreStep}
 use Rattle.algebra.specs.Trees.{AtomTree, Shape, TermTree, Join, Group, StepTree, CheckedTree}
 use Rattle.algebra.specs.Shapes.{candidates_of, kept_of, prefix_of}
 use Rattle.algebra.specs.ShapeConditions.{HasKinds}
