@@ -1,0 +1,16 @@
+pub mod TogetherLemmas
+pub mod StepLemmas
+pub mod WidthLemmas
+pub mod ScriptLemmas
+pub mod StoredLemmas
+pub mod UsualLemmas
+pub mod MeetingLemmas
+pub mod CellLemmas
+pub mod KeptLemmas
+pub mod PrefixLemmas
+pub mod AlikeLemmas
+pub mod MoveLemmas
+pub mod BalanceLemmas
+pub mod ReceivedLemmas
+pub mod BroadcastLemmas
+pub mod WorkedRows

@@ -1,0 +1,143 @@
+-- The plan of a checked script.
+--
+--   pushed_of shape j                   how many tests atom j's own columns are put to before the join
+--   uses_of shape                       the variables of each atom, as the bits of a number
+--   kept_sizes shape given              the numbers of kept rows
+--   usual_placing settings              what settings say: all rows are joined, and by cells the shares are those of least load
+--   join_notes p local number shape ..  the lines of a comprehension
+--   step_notes p local value s          the lines of a step
+--   plan_of p local files checked       the lines of the needed steps
+use Rattle.std.specs.Prelude.{ℕ, suc, ◌+◌, ◌-◌, ◌^◌, if◌then◌else◌, List, [], ◌∷◌, ◌++◌, map, filter, length, sum_by, slice_index_or, Option, Some, None, is_some, is_none}
+use Rattle.std.specs.List.{flat_map, enumerate_from, list_any}
+use Rattle.rel_base.specs.Keys.{File}
+use Rattle.myrial_ast.specs.Combinations.{Rows}
+use Rattle.myrial_ast.specs.Classes.{item_of}
+use Rattle.myrial_ast.specs.Groups.{Kinds}
+use Rattle.myrial_ast.specs.KeptRows.{lies_in, reads_within, span_of_item}
+use Rattle.algebra.specs.declared.notes.PlanKind.{PlanKind}
+use Rattle.algebra.specs.declared.notes.PlanKind.TheVariants as plan
+use Rattle.algebra.specs.declared.notes.PlanNote.{PlanNote}
+use Rattle.algebra.specs.declared.notes.PlanNote.TheVariants as note
+use Rattle.algebra.specs.declared.settings.JoinKind.{JoinKind}
+use Rattle.algebra.specs.declared.settings.ShuffleKind.{ShuffleKind}
+use Rattle.algebra.specs.declared.settings.ShuffleKind.TheVariants as shuffle_kind
+use Rattle.algebra.specs.declared.settings.Settings.{Settings}
+use Rattle.algebra.specs.declared.terms.Source.{Source}
+use Rattle.algebra.specs.declared.terms.Source.TheVariants as source
+use Rattle.algebra.specs.Trees.{Shape, TermTree, Same, Empty, UnionAll, Diff, Distinct, Join, Group, StepTree, CheckedTree}
+use Rattle.algebra.specs.Shapes.{widths_of, tests_of, kept_of}
+use Rattle.algebra.specs.Meanings.{needed_steps}
+use Rattle.share_chooser.specs.Load.{product, load_of}
+use Rattle.share_chooser.specs.Best.{best_shares}
+use Rattle.placement.specs.Layouts.{PlacedRelation, Placing, Shuffle, ByCells, ByKeys, Broadcast, rows_of, staying_atom, placed_source, placed_steps}
+
+-- the columns of a variable in atom j
+abbrev pub columns_in_atom : Shape → ℕ → List ℕ → List ℕ
+columns_in_atom shape j variable = filter (lies_in (span_of_item (widths_of shape) j)) variable
+
+-- the number of tests that read columns of atom j and no others, and of each variable's columns in atom j but for the first
+abbrev pub pushed_of : Shape → ℕ → ℕ
+pushed_of shape j =
+    length (filter (reads_within (span_of_item (widths_of shape) j)) (tests_of shape))
+    + sum_by (λ v. length (columns_in_atom shape j v) - 1) shape.variables
+
+-- the numbers of the kept rows
+abbrev pub kept_sizes : Shape → List Rows → List ℕ
+kept_sizes shape given = map (λ e. length (kept_of shape e.0 e.1)) (enumerate_from 0 given)
+
+-- the variables with a column in atom j, as the bits of a number
+abbrev pub bits_of : Shape → ℕ → ℕ
+bits_of shape j =
+    sum_by (λ (e : ℕ × List ℕ). if list_any (lies_in (span_of_item (widths_of shape) j)) e.1 then 2 ^ e.0 else 0)
+    (enumerate_from 0 shape.variables)
+
+-- those of each atom
+abbrev pub uses_of : Shape → List ℕ
+uses_of shape = map (λ e. bits_of shape e.0) (enumerate_from 0 shape.atoms)
+
+-- by settings, each join has one shuffle: at cells with the shares of least load for its kept rows, two at a time, or broadcast
+abbrev pub usual_shuffle : ShuffleKind → ℕ → Shape → List Rows → Shuffle
+usual_shuffle shuffle_kind.Hc workers shape given =
+    ByCells (best_shares (uses_of shape) (kept_sizes shape given) (length shape.variables) workers)
+usual_shuffle shuffle_kind.Rs workers shape given = ByKeys
+usual_shuffle shuffle_kind.Br workers shape given = Broadcast
+
+-- the workers and the hash seed of the settings, all rows of the items, and one shuffle for all statements
+abbrev pub usual_placing : Settings → Placing
+usual_placing s = record {
+  workers = s.workers;
+  seed = s.seed;
+  joined = λ shape given. given;
+  shuffle = λ number. usual_shuffle s.shuffle s.workers;
+}
+
+-- ---- lines
+
+-- for each item its number, its rows, its pushed tests and its kept rows
+abbrev pub item_notes : Shape → List Rows → List PlanNote
+item_notes shape given =
+    map (λ (e : ℕ × Rows). note.Item (suc e.0) (length e.1) (pushed_of shape e.0) (length (kept_of shape e.0 e.1)))
+    (enumerate_from 0 given)
+
+-- the columns of a variable, by items from 1 and places from 0
+abbrev pub places_of : Shape → List ℕ → List (ℕ × ℕ)
+places_of shape variable =
+    map (λ c. let j = item_of (widths_of shape) c in (suc j, c - (span_of_item (widths_of shape) j).from)) variable
+
+-- the share of variable i, where there are shares
+abbrev pub share_of : Shuffle → ℕ → Option ℕ
+share_of (ByCells shares) i = Some (slice_index_or shares i 1)
+share_of ByKeys i = None
+share_of Broadcast i = None
+
+-- for each variable its number, its columns and its share
+abbrev pub variable_notes : Shuffle → Shape → List PlanNote
+variable_notes shuffle shape =
+    map (λ (e : ℕ × List ℕ). note.Variable (suc e.0) (places_of shape e.1) (share_of shuffle e.0)) (enumerate_from 0 shape.variables)
+
+-- the shuffle: with cells and load, with nothing more, or with the item that stays
+abbrev pub shuffle_note : Shuffle → JoinKind → Shape → List Rows → PlanNote
+shuffle_note (ByCells shares) local shape given =
+    let load = load_of (uses_of shape) (kept_sizes shape given) shares in
+    note.Hc local (product shares) load.num load.den
+shuffle_note ByKeys local shape given = note.Rs local
+shuffle_note Broadcast local shape given = note.Br local (suc (staying_atom shape given))
+
+-- the lines of a comprehension: of its items, and where there are several of its variables and its shuffle
+abbrev pub join_notes : Placing → JoinKind → ℕ → Shape → List PlacedRelation → List PlanNote
+join_notes p local number shape (one ∷ []) = item_notes shape (rows_of (one ∷ []))
+join_notes p local number shape given =
+    let items = rows_of (p.joined shape given) in
+    let shuffle = p.shuffle number shape items in
+    item_notes shape (rows_of given) ++ variable_notes shuffle shape ++ shuffle_note shuffle local shape items ∷ []
+
+-- how many emitted columns are keys, and how many aggregates
+abbrev pub group_note : Kinds → PlanNote
+group_note kinds = note.Group (length (filter (λ k. is_none k) kinds)) (length (filter (λ k. is_some k) kinds))
+
+-- the word for a term
+abbrev pub plan_kind : TermTree → PlanKind
+plan_kind (Same s) = plan.Copy
+plan_kind Empty = plan.Empty
+plan_kind (UnionAll s t) = plan.UnionAll
+plan_kind (Diff s t) = plan.Diff
+plan_kind (Distinct s) = plan.Distinct
+plan_kind _ = plan.From
+
+-- the lines below that of a step
+abbrev pub term_notes : Placing → JoinKind → ℕ → (Source → PlacedRelation) → TermTree → List PlanNote
+term_notes p local number value (Join shape sources) = join_notes p local number shape (map value sources)
+term_notes p local number value (Group shape sources kinds) =
+    join_notes p local number shape (map value sources) ++ group_note kinds ∷ []
+term_notes p local number value _ = []
+
+-- the lines of a step, where `value` gives what sources and its own result stand for
+abbrev pub step_notes : Placing → JoinKind → (Source → PlacedRelation) → StepTree → List PlanNote
+step_notes p local value s =
+    note.Statement s.statement (plan_kind s.term) (length (value (source.Result s.statement)).relation.rows)
+    ∷ term_notes p local s.statement value s.term
+
+-- the lines of the needed steps
+abbrev pub plan_of : Placing → JoinKind → List File → CheckedTree → List PlanNote
+plan_of p local files c =
+    flat_map (step_notes p local (placed_source p files (placed_steps p files c.steps))) (needed_steps c.stores c.steps)

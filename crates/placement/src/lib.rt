@@ -1,0 +1,23 @@
+//! Where the rows of a script lie, where they go, and what its plan says: definitions and their laws.
+//!
+//! Stands on `algebra` for shapes, terms and checked scripts, on `hash_partition` for homes and cells, on `share_chooser` for
+//! shares of least load, and on `bag_laws`. Nothing here runs: each law is the contract of a function with an empty body.
+//!
+//! Promises: for every script, number of workers, hash seed and way of shuffling, all workers' rows together are the bag of
+//! the meaning. The rows of a candidate meet at one worker, and what a worker lists is made of what it is given alone. All
+//! that is said of an exchange is read off one list of moves, and as many rows are sent as received.
+//! Not promised: that rows spread evenly.
+//!
+//! Read `specs/Destinations.antt`, `specs/Layouts.antt`, `specs/Moves.antt` and `specs/Exchanges.antt`, then `specs/Laws.antt`
+//! and `specs/Receiving.antt`.
+#![tactic(auto)]
+
+mod laws;
+
+pub use laws::{
+    broadcasts_list_what_they_are_given, candidates_are_kept, candidates_meet_at_one_cell,
+    cells_list_their_candidates, cells_list_what_they_are_given, destinations_are_cells,
+    destinations_are_workers, exchanges_balance, groups_are_merged, listed_rows_are_grouped,
+    moves_balance, parts_are_bags, parts_hold_the_rows, placed_are_stored, prefixes_meet_by_key,
+    rows_are_given_once, steps_list_what_they_are_given, usual_is_placing,
+};
