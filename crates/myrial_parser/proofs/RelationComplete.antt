@@ -1,5 +1,7 @@
 -- Relation expressions: each phrase is read by the descent.
-use Rattle.std.proofs.Common.{◌≡◌, ℕ, zero, suc, ◌+◌, ◌<◌, Bool, true, false, cond, ◌&&◌, List, [], ◌∷◌, ◌++◌, drop, length, Option, Some, None, unwrap_or, codes, refl, sym, ap, ◌∙◌, append_assoc, add-one, length-append, arith}
+use Rattle.std.proofs.Common.{◌≡◌, ℕ, zero, suc, ◌+◌, ◌<◌, Bool, true, false, cond, ◌&&◌, List, [], ◌∷◌, ◌++◌, drop, length, Option, Some, None, unwrap_or, codes, refl, sym, ap, subst, ◌∙◌, append_assoc, append-nil, add-one, length-append, arith}
+use Rattle.std.specs.Prelude.{nat_lt}
+use Rattle.std.proofs.lemmas.Bool.Decides.{nat_tests}
 use Rattle.rel_base.specs.declared.values.ColType.{ColType}
 use Rattle.rel_base.specs.declared.names.Key.{Key}
 use Rattle.rel_base.specs.declared.relations.Column.{Column}
@@ -18,7 +20,7 @@ use Rattle.myrial_parser.specs.Symbols as s
 use Rattle.myrial_parser.specs.Terminals.{Terminal, Fixed, Name, Number, Quoted}
 use Rattle.myrial_parser.specs.Phrases.{Separated}
 use Rattle.myrial_parser.specs.Grammar as g
-use Rattle.myrial_parser.specs.Grammar.{IsKey, own_key, program_key, user_key, IsSource, named_source, scanned_source, IsColumnDefinition, typed, IsItem, unaliased, aliased, IsCondition, absent, present, IsEmit, all_columns, columns_of, unnamed, named, IsExpression, IsArgument, IsRelation, type_of, own_name}
+use Rattle.myrial_parser.specs.Grammar.{IsKey, own_key, program_key, user_key, IsSource, named_source, scanned_source, IsColumnDefinition, typed, IsItem, unaliased, aliased, IsCondition, absent, present, IsEmit, all_columns, columns_of, unnamed, named, IsExpression, IsArgument, IsRelation, type_of, own_name, is_word}
 use Rattle.myrial_parser.specs.inner.Descent as d
 use Rattle.myrial_parser.specs.inner.Descent.{Input, Parsed, Parser, ◌>>=◌, is_symbol, sees, expect, name, in_parens, key_behind, key_behind_two, kind_of, name_behind_as, separated, same_symbol}
 use Rattle.myrial_parser.proofs.ParserLemmas.{Complete, stops, either, stops-left, stops-right, same_rest, sees-is, in_parens-all, chain-none, pair-none}
@@ -290,13 +292,60 @@ called-all word ts b rest h = by word ts b h (in_parens-all (d.argument word) (I
     by _ _ _ (g.of_both _ _ _ _ _ _) e = e
     by _ _ _ (g.of_difference _ _ _ _ _ _) e = e
 
-relation-all : (ts : Input) (b : RelTree) (rest : Input) → IsRelation ts b → stops nothing rest ≡ true → d.relation (ts ++ rest) ≡ Some (b, rest)
-unfolding d.relation d.source same_symbol
-relation-all _ _ rest (g.copied _ _ (named_source n)) st = refl
-relation-all _ _ rest (g.copied _ _ (scanned_source ts k h)) st =
-    ap (λ (r : Parsed Key). (r >>= λ k rest. Some (source.Scan k, rest)) >>= λ o rest. Some (tree.Copy o, rest)) (in_parens-all d.key IsKey (is_it s.Colon) key-complete colon-apart ts k rest h)
-relation-all _ _ rest (g.called word ts b h) st = called-all word ts b rest h
-relation-all _ _ rest (g.comprehension ts us vs items condition emits h k l) st = comprehension-all ts us vs items condition emits rest h k l
+-- the condition of a comprehension that is behind no bracket ends the piece
+condition-end : (us : Input) (c : Option Tree) → IsCondition us c → d.condition us ≡ Some (c, [])
+unfolding d.condition same_symbol
+condition-end _ _ absent = refl
+condition-end _ _ (present ts e h) = ap (λ (o : Parsed Tree). o >>= λ a rest. Some (Some a, rest)) (ap d.whole_expression (sym (append-nil ts)) ∙ whole_expression-all ts e [] h refl)
 
-pub relation-complete : Complete d.relation IsRelation nothing
-relation-complete = record { reads = relation-all }
+condition-behind : (us : Input) (c : Option Tree) → IsCondition us c → stops (either (is_it s.As) is_comma) us ≡ true
+unfolding same_symbol
+condition-behind _ _ absent = refl
+condition-behind _ _ (present ts e h) = refl
+
+selection-all : (ts us vs : Input) (emits : List EmitTree) (items : List FromItem) (condition : Option Tree) → Separated IsEmit ts emits → Separated IsItem us items → IsCondition vs condition
+    → d.selection (ts ++ (Fixed s.From ∷ (us ++ vs))) ≡ Some (tree.From items condition emits, [])
+unfolding d.selection same_symbol
+selection-all ts us vs emits items condition h k l =
+    ap (λ (o : Parsed (List EmitTree)). o >>= λ all rest. expect s.From rest >>= λ _ rest. separated d.item rest >>= λ from rest. d.condition rest >>= λ where_ end. Some (tree.From from where_ all, end))
+    (emits-complete.reads ts emits (Fixed s.From ∷ (us ++ vs)) h refl)
+    ∙ ap (λ (o : Parsed (List FromItem)). o >>= λ from rest. d.condition rest >>= λ where_ end. Some (tree.From from where_ emits, end)) (items-complete.reads us items vs k (condition-behind vs condition l))
+    ∙ ap (λ (o : Parsed (Option Tree)). o >>= λ where_ end. Some (tree.From items where_ emits, end)) (condition-end vs condition l)
+
+selected-all : (word : List ℕ) (ts us vs : Input) (emits : List EmitTree) (items : List FromItem) (condition : Option Tree) → is_word (codes "select") word ≡ true → Separated IsEmit ts emits → Separated IsItem us items
+    → IsCondition vs condition → d.relation (Name word ∷ (ts ++ (Fixed s.From ∷ (us ++ vs)))) ≡ Some (tree.From items condition emits, [])
+unfolding d.relation d.sees_select
+selected-all word ts us vs emits items condition is h k l =
+    let behind = ts ++ (Fixed s.From ∷ (us ++ vs)) in
+    ap (λ t. cond (t && nat_lt 1 (length (Name word ∷ behind))) (d.selection behind) (d.copied (Name word ∷ behind))) is
+    ∙ ap (λ t. cond t (d.selection behind) (d.copied (Name word ∷ behind))) (two ts (us ++ vs))
+    ∙ selection-all ts us vs emits items condition h k l
+  where
+    two : (ts us : Input) → nat_lt 1 (length (Name word ∷ (ts ++ (Fixed s.From ∷ us)))) ≡ true
+    two ts us = let lens = length-append ts (Fixed s.From ∷ us) in grind (arith, nat_tests)
+
+and-false : (b : Bool) → (b && false) ≡ false
+and-false true = refl
+and-false false = refl
+
+-- each relation expression is read to the end of its piece
+relation-all : (ts : Input) (b : RelTree) → IsRelation ts b → d.relation (ts ++ []) ≡ Some (b, [])
+unfolding d.relation d.source d.sees_select same_symbol
+relation-all _ _ (g.copied _ _ (named_source n)) = ap (λ t. cond t (d.selection []) (d.copied (Name n ∷ []))) (and-false (is_word (codes "select") n))
+relation-all _ _ (g.copied _ _ (scanned_source ts k h)) =
+    ap (λ (r : Parsed Key). (r >>= λ k rest. Some (source.Scan k, rest)) >>= λ o rest. Some (tree.Copy o, rest)) (in_parens-all d.key IsKey (is_it s.Colon) key-complete colon-apart ts k [] h)
+relation-all _ _ (g.called word ts b h) = called-all word ts b [] h
+relation-all _ _ (g.comprehension ts us vs items condition emits h k l) = comprehension-all ts us vs items condition emits [] h k l
+relation-all _ _ (g.selected word ts us vs emits items condition is h k l) =
+    ap d.relation (append-nil (Name word ∷ (ts ++ (Fixed s.From ∷ (us ++ vs))))) ∙ selected-all word ts us vs emits items condition is h k l
+
+-- whatever follows goes on with a relation expression
+abbrev pub anything : Terminal → Bool
+anything x = true
+
+at_end : (rest : Input) → stops anything rest ≡ true → rest ≡ []
+at_end [] st = refl
+at_end (x ∷ rest) st = absurd (cc)
+
+pub relation-complete : Complete d.relation IsRelation anything
+relation-complete = record { reads = λ ts b rest h st. subst (λ (us : Input). d.relation (ts ++ us) ≡ Some (b, us)) (sym (at_end rest st)) (relation-all ts b h) }

@@ -1,5 +1,6 @@
 -- Relation expressions: what the descent reads is such a phrase.
 use Rattle.std.proofs.Common.{◌≡◌, ℕ, ◌+◌, Bool, true, false, cond, ◌&&◌, List, [], ◌∷◌, ◌++◌, drop, length, Option, Some, None, unwrap_or, codes, refl, sym, ap, subst, ◌∙◌, append_assoc, append-nil}
+use Rattle.std.specs.Prelude.{nat_lt}
 use Rattle.rel_base.specs.declared.values.ColType.{ColType}
 use Rattle.rel_base.specs.declared.names.Key.{Key}
 use Rattle.myrial_ast.specs.declared.relations.Operand.{Operand}
@@ -15,7 +16,7 @@ use Rattle.myrial_parser.specs.Symbols as s
 use Rattle.myrial_parser.specs.Terminals.{Fixed, Name, Number, Quoted}
 use Rattle.myrial_parser.specs.Phrases.{Separated}
 use Rattle.myrial_parser.specs.Grammar as g
-use Rattle.myrial_parser.specs.Grammar.{IsKey, own_key, program_key, user_key, IsSource, named_source, scanned_source, IsColumnDefinition, typed, IsItem, unaliased, aliased, IsCondition, absent, present, IsEmit, all_columns, columns_of, unnamed, named, IsExpression, Expression, IsArgument, IsRelation, type_of, own_name}
+use Rattle.myrial_parser.specs.Grammar.{IsKey, own_key, program_key, user_key, IsSource, named_source, scanned_source, IsColumnDefinition, typed, IsItem, unaliased, aliased, IsCondition, absent, present, IsEmit, all_columns, columns_of, unnamed, named, IsExpression, Expression, IsArgument, IsRelation, type_of, own_name, is_word}
 use Rattle.myrial_parser.specs.inner.Descent as d
 use Rattle.myrial_parser.specs.inner.Descent.{Input, first, Parsed, Parser, ◌>>=◌, sees, expect, name, in_parens, key_behind_two, key_behind, kind_of, name_behind_as, separated, symbol_ahead}
 use Rattle.myrial_parser.proofs.ParserLemmas.{Reading, Sound, steps, same_value, same_rest, finish, sees-is, symbol_ahead-is, expect-then, name-then, in_parens-sound, word-reads}
@@ -257,6 +258,38 @@ copied-reads i b rest e =
     let r = source-reads i o.value o.middle o.start in
     finish IsRelation i r.front o.middle _ b rest r.split (g.copied r.front o.value r.is) o.end
 
+selection-reads : (word : List ℕ) → is_word (codes "select") word ≡ true → (i : Input) (b : RelTree) (rest : Input) → d.selection i ≡ Some (b, rest) → Reading (λ ts r. IsRelation (Name word ∷ ts) r) i b rest
+unfolding d.selection
+selection-reads word is i b rest e =
+    let emits = steps (separated d.emit i) (λ all rest. expect s.From rest >>= λ _ rest. separated d.item rest >>= λ from rest. d.condition rest >>= λ where_ end. Some (tree.From from where_ all, end)) b rest e in
+    let from = expect-then s.From (λ rest. separated d.item rest >>= λ from rest. d.condition rest >>= λ where_ end. Some (tree.From from where_ emits.value, end)) emits.middle b rest emits.end in
+    let items = steps (separated d.item from.behind) (λ from rest. d.condition rest >>= λ where_ end. Some (tree.From from where_ emits.value, end)) b rest from.on in
+    let condition = steps (d.condition items.middle) (λ where_ end. Some (tree.From items.value where_ emits.value, end)) b rest items.end in
+    let p = (separated-sound d.emit IsEmit emit-sound).reads i emits.value emits.middle emits.start in
+    let q = (separated-sound d.item IsItem item-sound).reads from.behind items.value items.middle items.start in
+    let r = condition-sound.reads items.middle condition.value condition.middle condition.start in
+    finish (λ ts r. IsRelation (Name word ∷ ts) r) i (p.front ++ (Fixed s.From ∷ (q.front ++ r.front))) condition.middle _ b rest
+    (p.split ∙ ap (λ (ts : Input). p.front ++ ts) (from.split ∙ ap (λ (ts : Input). Fixed s.From ∷ ts) (q.split ∙ ap (λ (ts : Input). q.front ++ ts) r.split)) ∙ joined p.front q.front r.front condition.middle)
+    (g.selected word p.front q.front r.front emits.value items.value condition.value is p.is q.is r.is) condition.end
+  where
+    joined : (ts us vs rest : Input) → ts ++ (Fixed s.From ∷ (us ++ (vs ++ rest))) ≡ (ts ++ (Fixed s.From ∷ (us ++ vs))) ++ rest
+    joined ts us vs rest = simp append_assoc
+
+unmarked-reads : (i : Input) (b : RelTree) (rest : Input) → d.unmarked i ≡ Some (b, rest) → Reading IsRelation i b rest
+unfolding d.sees_select
+unmarked-reads i b rest e = by i (d.sees_select i) refl e
+  where
+    by : (i : Input) (t : Bool) → d.sees_select i ≡ t → cond t (d.selection (drop 1 i)) (d.copied i) ≡ Some (b, rest) → Reading IsRelation i b rest
+    by i false is e = copied-reads i b rest e
+    by [] true is e = absurd (cc)
+    by (Number n ∷ i) true is e = absurd (cc)
+    by (Quoted n ∷ i) true is e = absurd (cc)
+    by (Fixed n ∷ i) true is e = absurd (cc)
+    by (Name word ∷ i) true is e =
+        let seen = and-both (is_word (codes "select") word) (nat_lt 1 (length (Name word ∷ i))) is in
+        let r = selection-reads word seen.0 i b rest e in
+        record { front = Name word ∷ r.front; split = ap (λ (ts : Input). Name word ∷ ts) r.split; is = r.is }
+
 both-is : (ts : Input) (p : Operand × Operand) → IsTwo ts p → IsArgument keyword.UnionAll ts (tree.UnionAll p.0 p.1)
 both-is _ _ (both_sources ts us o p h k) = g.of_both ts us o p h k
 
@@ -300,9 +333,9 @@ relation-sound = record { reads = λ i b rest e. by i b rest (symbol_ahead i) re
     by-word i b rest word is e = along i (Fixed (Word word) ∷ drop 1 i) b rest (symbol_ahead-is (Word word) i is) (call-reads word (drop 1 i) b rest e)
 
     by : (i : Input) (b : RelTree) (rest : Input) (o : Option Symbol) → symbol_ahead i ≡ o → d.relation_by o i ≡ Some (b, rest) → Reading IsRelation i b rest
-    by i b rest None is e = copied-reads i b rest e
+    by i b rest None is e = unmarked-reads i b rest e
     by i b rest (Some (Word word)) is e = by-word i b rest word is e
     by i b rest (Some (Sign sign.OpenBracket)) is e =
         let r = comprehension-reads (drop 1 i) b rest e in
         record { front = Fixed s.OpenBracket ∷ r.front; split = symbol_ahead-is s.OpenBracket i is ∙ ap (λ (ts : Input). Fixed s.OpenBracket ∷ ts) r.split; is = r.is }
-    by i b rest (Some (Sign _)) is e = copied-reads i b rest e
+    by i b rest (Some (Sign _)) is e = unmarked-reads i b rest e

@@ -145,7 +145,7 @@ is_statement ts t h = statement-sound ts t [] h
 -- `c = scan(a:b)` copies the relation b of the program a
 pub scan_of_a_program : Reads (c ∷ Fixed s.Eq ∷ Fixed s.Scan ∷ Fixed s.OpenParen ∷ a ∷ Fixed s.Colon ∷ b ∷ Fixed s.CloseParen ∷ [])
     (Assign (codes "c") (Copy (source.Scan (record { user = codes "public"; program = codes "a"; name = codes "b" }))))
-unfolding d.statement d.assignment d.relation d.source d.key d.same_symbol
+unfolding d.statement d.assignment d.relation d.sees_select d.source d.key d.same_symbol
 scan_of_a_program = is_statement _ _ refl
 
 -- `store(a, b)` stores under the program and the user of ad-hoc queries
@@ -164,35 +164,46 @@ comprehension_of_two_items = is_statement _ _ refl
 -- `c = empty(a:long, b:STRING)`: type words stand in any case
 pub empty_of_two_columns : Reads (c ∷ Fixed s.Eq ∷ Fixed s.Empty ∷ Fixed s.OpenParen ∷ a ∷ Fixed s.Colon ∷ Name (codes "long") ∷ Fixed s.Comma ∷ b ∷ Fixed s.Colon ∷ Name (codes "STRING") ∷ Fixed s.CloseParen ∷ [])
     (Assign (codes "c") (Empty (record { name = codes "a"; kind = type.Int } ∷ record { name = codes "b"; kind = type.Str } ∷ [])))
-unfolding d.statement d.assignment d.relation d.argument d.source d.two_sources d.column_definition d.key d.same_symbol
+unfolding d.statement d.assignment d.relation d.sees_select d.argument d.source d.two_sources d.column_definition d.key d.same_symbol
 empty_of_two_columns = is_statement _ _ refl
 
 -- `c = distinct(a)`
 pub distinct_of_a_name : Reads (c ∷ Fixed s.Eq ∷ Fixed s.Distinct ∷ Fixed s.OpenParen ∷ a ∷ Fixed s.CloseParen ∷ [])
     (Assign (codes "c") (Distinct (source.Named (codes "a"))))
-unfolding d.statement d.assignment d.relation d.argument d.source d.two_sources d.column_definition d.key d.same_symbol
+unfolding d.statement d.assignment d.relation d.sees_select d.argument d.source d.two_sources d.column_definition d.key d.same_symbol
 distinct_of_a_name = is_statement _ _ refl
 
 -- `c = unionall(a, b)` has the first operand first
 pub union_of_both : Reads (c ∷ Fixed s.Eq ∷ Fixed s.UnionAll ∷ Fixed s.OpenParen ∷ a ∷ Fixed s.Comma ∷ b ∷ Fixed s.CloseParen ∷ [])
     (Assign (codes "c") (UnionAll (source.Named (codes "a")) (source.Named (codes "b"))))
-unfolding d.statement d.assignment d.relation d.argument d.source d.two_sources d.column_definition d.key d.same_symbol
+unfolding d.statement d.assignment d.relation d.sees_select d.argument d.source d.two_sources d.column_definition d.key d.same_symbol
 union_of_both = is_statement _ _ refl
 
 -- `c = diff(a, b)` takes the second operand from the first
 pub difference_of_two : Reads (c ∷ Fixed s.Eq ∷ Fixed s.Diff ∷ Fixed s.OpenParen ∷ a ∷ Fixed s.Comma ∷ b ∷ Fixed s.CloseParen ∷ [])
     (Assign (codes "c") (Diff (source.Named (codes "a")) (source.Named (codes "b"))))
-unfolding d.statement d.assignment d.relation d.argument d.source d.two_sources d.column_definition d.key d.same_symbol
+unfolding d.statement d.assignment d.relation d.sees_select d.argument d.source d.two_sources d.column_definition d.key d.same_symbol
 difference_of_two = is_statement _ _ refl
 
 -- `c = empty()` is no statement
 pub empty_of_no_column : (t : StatementTree) → Reads (c ∷ Fixed s.Eq ∷ Fixed s.Empty ∷ Fixed s.OpenParen ∷ Fixed s.CloseParen ∷ []) t → ⊥
-unfolding d.statement d.assignment d.relation d.argument d.source d.two_sources d.column_definition d.key d.same_symbol
+unfolding d.statement d.assignment d.relation d.sees_select d.argument d.source d.two_sources d.column_definition d.key d.same_symbol
 empty_of_no_column t h = let some = statement-complete _ t h in cc
+
+-- `c = SELECT b FROM a as c where b` is `c = [from a as c where b emit b]`
+pub selected_comprehension : Reads (c ∷ Fixed s.Eq ∷ Name (codes "SELECT") ∷ b ∷ Fixed s.From ∷ a ∷ Fixed s.As ∷ c ∷ Fixed s.Where ∷ b ∷ [])
+    (Assign (codes "c") (From (record { source = source.Named (codes "a"); alias = codes "c" } ∷ []) (Some (col (codes "b"))) (One (col (codes "b")) None ∷ [])))
+unfolding d.statement d.assignment d.relation d.sees_select d.selection d.item d.source d.condition d.emit d.emitted d.emitted_alias d.whole_expression d.expression d.disjunction d.conjunction d.negation d.comparison d.sum d.product d.signed d.primary d.same_symbol
+selected_comprehension = is_statement _ _ refl
+
+-- `select = select` copies the relation of that name
+pub select_is_a_name : Reads (Name (codes "select") ∷ Fixed s.Eq ∷ Name (codes "select") ∷ []) (Assign (codes "select") (Copy (source.Named (codes "select"))))
+unfolding d.statement d.assignment d.relation d.sees_select d.source d.same_symbol
+select_is_a_name = is_statement _ _ refl
 
 -- `c = a b` is no statement
 pub text_behind_a_statement : (t : StatementTree) → Reads (c ∷ Fixed s.Eq ∷ a ∷ b ∷ []) t → ⊥
-unfolding d.statement d.assignment d.relation d.source d.same_symbol
+unfolding d.statement d.assignment d.relation d.sees_select d.source d.same_symbol
 text_behind_a_statement t h = let some = statement-complete _ t h in cc
 
 -- ---- words

@@ -188,13 +188,21 @@ pub data IsArgument : Keyword → List Terminal → RelTree → Type 0 where
   of_both : (ts us : List Terminal) (o p : Operand) → IsSource ts o → IsSource us p → IsArgument keyword.UnionAll (ts ++ Fixed s.Comma ∷ us) (tree.UnionAll o p)
   of_difference : (ts us : List Terminal) (o p : Operand) → IsSource ts o → IsSource us p → IsArgument keyword.Diff (ts ++ Fixed s.Comma ∷ us) (tree.Diff o p)
 
--- a relation expression: an operand, a word with its argument in parentheses, or a comprehension
+-- whether a word is this one, in any case
+abbrev pub is_word : List ℕ → List ℕ → Bool
+is_word wanted word = str_eq_ignore_ascii_case word wanted
+
+-- a relation expression: an operand, a word with its argument in parentheses, or a comprehension in brackets or behind
+-- the word `select`, which isn't reserved
 pub data IsRelation : List Terminal → RelTree → Type 0 where
   copied : (ts : List Terminal) (o : Operand) → IsSource ts o → IsRelation ts (tree.Copy o)
   called : (word : Keyword) (ts : List Terminal) (r : RelTree) → IsArgument word ts r → IsRelation (Fixed (Word word) ∷ Fixed s.OpenParen ∷ ts ++ Fixed s.CloseParen ∷ []) r
   comprehension : (ts us vs : List Terminal) (items : List FromItem) (condition : Option Tree) (emits : List EmitTree)
       → Separated IsItem ts items → IsCondition us condition → Separated IsEmit vs emits
       → IsRelation (Fixed s.OpenBracket ∷ Fixed s.From ∷ ts ++ us ++ Fixed s.Emit ∷ vs ++ Fixed s.CloseBracket ∷ []) (tree.From items condition emits)
+  selected : (word : Name) (ts us vs : List Terminal) (emits : List EmitTree) (items : List FromItem) (condition : Option Tree)
+      → is_word (codes "select") word ≡ true → Separated IsEmit ts emits → Separated IsItem us items → IsCondition vs condition
+      → IsRelation (t.Name word ∷ (ts ++ (Fixed s.From ∷ (us ++ vs)))) (tree.From items condition emits)
 
 -- ---- statements
 

@@ -290,8 +290,42 @@ impl Cursor<'_> {
                 self.skip();
                 self.call(alloc, word)
             }
-            _ => self.copied(alloc),
+            _ => self.unmarked(alloc),
         }
+    }
+
+    /// A comprehension behind the word `select`, or an operand.
+    fn unmarked(&mut self, alloc: Global) -> Result<RelExpr, Refusal>
+        ensures { Parses rel_tree_of (spec.unmarked self.old) result self.new }
+    {
+        if self.sees_select() {
+            self.skip();
+            return self.selection(alloc);
+        }
+        self.copied(alloc)
+    }
+
+    /// Whether the word `select` comes next, and something behind it; alone it is a name.
+    #[tactic(auto, unfolding(crate::specs::inner::Descent::sees_select))]
+    fn sees_select(&self) -> bool
+        ensures { result ≡ spec.sees_select self.now }
+    {
+        let Some(Terminal::Name(word)) = self.peek() else {
+            return false;
+        };
+        same_word(word.as_bytes(), b"select") && self.left() > 1
+    }
+
+    /// A comprehension behind the word `select`.
+    #[tactic(auto, unfolding(crate::specs::inner::Descent::selection))]
+    fn selection(&mut self, alloc: Global) -> Result<RelExpr, Refusal>
+        ensures { Parses rel_tree_of (spec.selection self.old) result self.new }
+    {
+        let emits = self.separated(alloc)?;
+        self.expect(Symbol::Keyword(Keyword::From))?;
+        let items = self.separated(alloc)?;
+        let condition = self.condition(alloc)?;
+        Ok(RelExpr::From(items, condition, emits))
     }
 
     /// What stands behind a word, in parentheses.

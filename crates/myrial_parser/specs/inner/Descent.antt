@@ -11,7 +11,7 @@
 --   separated item          items with commas between them
 --   key, source, relation   the phrases of `IsKey`, `IsSource` and `IsRelation`
 --   statement               a statement that goes on to the end
-use Rattle.std.specs.Prelude.{◌≡◌, ℕ, zero, suc, ◌+◌, pos, neg_ℤ, Bool, true, false, if◌then◌else◌, ◌&&◌, List, [], ◌∷◌, length, drop, Option, Some, None, Result, Ok, Err, unwrap_or, codes}
+use Rattle.std.specs.Prelude.{◌≡◌, ℕ, zero, suc, ◌+◌, pos, neg_ℤ, Bool, true, false, if◌then◌else◌, ◌&&◌, List, [], ◌∷◌, length, drop, Option, Some, None, Result, Ok, Err, unwrap_or, codes, nat_lt}
 use Rattle.std.specs.Option.{option_and_then}
 use denote.Enum.Bare.{sameb}
 use Rattle.rel_base.specs.declared.values.Value.TheVariants as value
@@ -42,7 +42,7 @@ use Rattle.myrial_parser.specs.declared.terminals.Symbol.TheVariants.{Keyword as
 use Rattle.myrial_parser.specs.Symbols as s
 use Rattle.myrial_parser.specs.Terminals as t
 use Rattle.myrial_parser.specs.Terminals.{Terminal, Fixed}
-use Rattle.myrial_parser.specs.Grammar.{or_sign, and_sign, sum_sign, product_sign, comparison_sign, type_of, own_name}
+use Rattle.myrial_parser.specs.Grammar.{or_sign, and_sign, sum_sign, product_sign, comparison_sign, type_of, own_name, is_word}
 
 -- ---- the terminals ahead
 
@@ -376,12 +376,29 @@ argument _ i = None
 abbrev pub copied : Parser RelTree
 copied i = source i >>= λ o rest. Some (tree.Copy o, rest)
 
+-- a comprehension behind the word `select`
+unfoldable pub selection : Parser RelTree
+selection i = separated emit i >>= λ all rest. expect s.From rest >>= λ _ rest. separated item rest >>= λ from rest. condition rest >>= λ where_ end. Some (tree.From from where_ all, end)
+
+-- whether this word, which isn't reserved, is ahead
+abbrev pub is_word_of : List ℕ → Option Terminal → Bool
+is_word_of wanted (Some (t.Name word)) = is_word wanted word
+is_word_of wanted _ = false
+
+-- whether the word `select` is ahead, and something behind it; alone it is a name
+unfoldable pub sees_select : Input → Bool
+sees_select i = is_word_of (codes "select") (first i) && nat_lt 1 (length i)
+
+-- a comprehension behind `select`, or an operand
+abbrev pub unmarked : Parser RelTree
+unmarked i = if sees_select i then selection (drop 1 i) else copied i
+
 -- a relation by the symbol that it begins with
 abbrev pub relation_by : Option Symbol → Parser RelTree
 relation_by (Some (Sign sign.OpenBracket)) i = comprehension (drop 1 i)
 relation_by (Some (Word keyword.Scan)) i = copied i
 relation_by (Some (Word word)) i = in_parens (argument word) (drop 1 i)
-relation_by _ i = copied i
+relation_by _ i = unmarked i
 
 unfoldable pub relation : Parser RelTree
 relation i = relation_by (symbol_ahead i) i
