@@ -13,4 +13,5 @@ pub mod MoveLemmas
 pub mod BalanceLemmas
 pub mod ReceivedLemmas
 pub mod BroadcastLemmas
+pub mod ListingLemmas
 pub mod WorkedRows

@@ -102,7 +102,7 @@ or-false : (b : Bool) → (b || false) ≡ b
 or-false true = refl
 or-false false = refl
 
-alone : (rows : Rows) → flat_map (λ row. behind_it row ([] ∷ [])) rows ≡ rows
+pub alone : (rows : Rows) → flat_map (λ row. behind_it row ([] ∷ [])) rows ≡ rows
 alone [] = refl
 alone (row ∷ rows) =
     let first = row-end row in

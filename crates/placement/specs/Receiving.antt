@@ -4,21 +4,22 @@
 --   CellsListWhatTheyAreGiven          by cells, the candidates of what a worker is given are those that meet there
 --   StepsListWhatTheyAreGiven          two at a time, so are those of a step
 --   BroadcastsListWhatTheyAreGiven     by broadcast, those of a worker's own part and of what it is given are those of its part
+--   PartsAreListed                     what a worker lists of what it is given is its part of the join
 --   GroupsAreMerged                    the partial rows that a worker is given, merged, are the groups at home there
 --   ListedRowsAreGrouped               each listed row has a column for each kind of its grouping
-use Rattle.std.specs.Prelude.{◌≡◌, ℕ, suc, ◌<◌, ◌≤◌, ◌==◌, IsTrue, List, [], ◌∷◌, filter, length, All, set, slice_index_or}
+use Rattle.std.specs.Prelude.{◌≡◌, ⊤, ℕ, suc, ◌++◌, ◌<◌, ◌≤◌, ◌==◌, IsTrue, List, [], ◌∷◌, map, filter, length, All, set, slice_index_or}
 use Rattle.std.specs.List.{list_any}
 use Rattle.rel_base.specs.Bags.{SameBag}
-use Rattle.myrial_ast.specs.Combinations.{Row, Rows}
+use Rattle.myrial_ast.specs.Combinations.{Row, Rows, candidates, listed_from}
 use Rattle.myrial_ast.specs.Groups.{Kinds, groups}
 use Rattle.myrial_ast.specs.Partials.{merged}
 use Rattle.bag_laws.specs.PartialLaws.{AreGrouped}
 use Rattle.algebra.specs.Trees.{Shape}
-use Rattle.algebra.specs.Shapes.{widths_of, candidates_of, kept_of, listed_of, prefix_of}
+use Rattle.algebra.specs.Shapes.{widths_of, tests_of, ties_of, tie_test, candidates_of, kept_of, listed_of, prefix_of}
 use Rattle.algebra.specs.ShapeConditions.{all_different}
 use Rattle.placement.specs.Destinations.{meeting_cell}
 use Rattle.placement.specs.Exchanges.{by_cells, by_broadcast, by_keys, partial_sending}
-use Rattle.placement.specs.Layouts.{PlacedRelation, Placing, placed_nothing, part, rows_of, staying_atom, together, listed_parts, parts_by_key}
+use Rattle.placement.specs.Layouts.{PlacedRelation, Placing, Shuffle, ByCells, ByKeys, Broadcast, placed_nothing, part, rows_of, last_atom, staying_atom, together, join_parts, listed_parts, parts_by_key}
 use Rattle.placement.specs.Laws.{IsPlaced, IsPlacing, AreWide, IsColumns, prefix_is_at, extended}
 use Rattle.placement.specs.Moves.{Sending, moves_of, rows_between, rows_given, all_given}
 
@@ -74,6 +75,34 @@ BroadcastsListWhatTheyAreGiven =
     let own = part (slice_index_or items j (placed_nothing n)) w in
     SameBag (candidates_of shape (set (all_given (moves_of (by_broadcast n shape items)) (length items) w) j (kept_of shape j own)))
     (candidates_of shape (set (rows_of items) j own))
+
+-- what worker w lists of what it is given in the last exchange of a join: of all atoms; of the candidates of the atoms before the
+-- last one and of the last one; or of all atoms but for its own rows of the one that stays
+abbrev pub listed_at : ℕ → ℕ → Shuffle → Shape → List PlacedRelation → ℕ → Rows
+listed_at n seed (ByCells shares) shape items w =
+    listed_of shape (all_given (moves_of (by_cells seed shares shape items)) (length items) w)
+listed_at n seed ByKeys shape items w =
+    let moves = moves_of (by_keys n seed shape items (last_atom shape)) in
+    listed_from shape.arith shape.emits
+    (candidates (tests_of shape ++ map tie_test (ties_of shape)) (rows_given moves 0 w ∷ rows_given moves 1 w ∷ []))
+listed_at n seed Broadcast shape items w =
+    let j = staying_atom shape (rows_of items) in
+    let own = kept_of shape j (part (slice_index_or items j (placed_nothing n)) w) in
+    listed_of shape (set (all_given (moves_of (by_broadcast n shape items)) (length items) w) j own)
+
+-- by cells, there is a positive share for each variable
+abbrev pub IsShuffleOf : Shape → Shuffle → Type 0
+IsShuffleOf shape (ByCells shares) = All (λ share. 1 ≤ share) shares × (length shares ≡ length shape.variables)
+IsShuffleOf shape ByKeys = ⊤
+IsShuffleOf shape Broadcast = ⊤
+
+-- what a worker lists of what it is given is its part of the join
+abbrev pub PartsAreListed : Type 0
+PartsAreListed =
+    (n seed : ℕ) (shuffle : Shuffle) (shape : Shape) (items : List PlacedRelation) → 1 ≤ n → IsShuffleOf shape shuffle
+    → All (IsPlaced n) items → AreWide (widths_of shape) (rows_of items) → length items ≡ length shape.atoms → 2 ≤ length shape.atoms
+    → All (IsColumns shape) shape.variables → (w : ℕ) → w < n
+    → SameBag (listed_at n seed shuffle shape items w) (slice_index_or (join_parts n seed shuffle shape items) w [])
 
 -- each row that a worker lists has a column for each kind
 abbrev pub ListedRowsAreGrouped : Type 0

@@ -12,12 +12,19 @@
 //! and `specs/Receiving.antt`.
 #![tactic(auto)]
 
-mod laws;
+mod layouts;
+mod meeting;
+mod receiving;
 
-pub use laws::{
-    broadcasts_list_what_they_are_given, candidates_are_kept, candidates_meet_at_one_cell,
-    cells_list_their_candidates, cells_list_what_they_are_given, destinations_are_cells,
-    destinations_are_workers, exchanges_balance, groups_are_merged, listed_rows_are_grouped,
-    moves_balance, parts_are_bags, parts_hold_the_rows, placed_are_stored, prefixes_meet_by_key,
-    rows_are_given_once, steps_list_what_they_are_given, usual_is_placing,
+pub use layouts::{
+    exchanges_balance, moves_balance, parts_are_bags, parts_hold_the_rows, placed_are_stored,
+    usual_is_placing,
+};
+pub use meeting::{
+    candidates_are_kept, candidates_meet_at_one_cell, cells_list_their_candidates,
+    destinations_are_cells, destinations_are_workers, prefixes_meet_by_key,
+};
+pub use receiving::{
+    broadcasts_list_what_they_are_given, cells_list_what_they_are_given, groups_are_merged,
+    listed_rows_are_grouped, parts_are_listed, rows_are_given_once, steps_list_what_they_are_given,
 };

@@ -1,5 +1,0 @@
-use Rattle.placement.proofs.BroadcastLemmas.{broadcasts_list_what_they_are_given}
-use Rattle.placement.proofs.laws.broadcasts_list_what_they_are_given.Goals as goal
-
-pub returns : goal.returns
-returns c = broadcasts_list_what_they_are_given

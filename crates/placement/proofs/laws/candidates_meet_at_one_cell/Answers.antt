@@ -1,5 +1,0 @@
-use Rattle.placement.proofs.MeetingLemmas.{candidates_meet_at_one_cell}
-use Rattle.placement.proofs.laws.candidates_meet_at_one_cell.Goals as goal
-
-pub returns : goal.returns
-returns c = candidates_meet_at_one_cell

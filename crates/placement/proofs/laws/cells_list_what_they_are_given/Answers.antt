@@ -1,5 +1,0 @@
-use Rattle.placement.proofs.ReceivedLemmas.{cells_list_what_they_are_given}
-use Rattle.placement.proofs.laws.cells_list_what_they_are_given.Goals as goal
-
-pub returns : goal.returns
-returns c = cells_list_what_they_are_given

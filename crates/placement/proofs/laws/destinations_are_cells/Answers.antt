@@ -1,5 +1,0 @@
-use Rattle.placement.proofs.MeetingLemmas.{destinations_are_cells}
-use Rattle.placement.proofs.laws.destinations_are_cells.Goals as goal
-
-pub returns : goal.returns
-returns c = destinations_are_cells

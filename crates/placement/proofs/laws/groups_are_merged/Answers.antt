@@ -1,5 +1,0 @@
-use Rattle.placement.proofs.ReceivedLemmas.{groups_are_merged}
-use Rattle.placement.proofs.laws.groups_are_merged.Goals as goal
-
-pub returns : goal.returns
-returns c = groups_are_merged

@@ -1,5 +1,0 @@
-use Rattle.placement.proofs.BalanceLemmas.{moves_balance}
-use Rattle.placement.proofs.laws.moves_balance.Goals as goal
-
-pub returns : goal.returns
-returns c = moves_balance

@@ -1,5 +1,0 @@
-use Rattle.placement.proofs.AlikeLemmas.{parts_are_bags}
-use Rattle.placement.proofs.laws.parts_are_bags.Goals as goal
-
-pub returns : goal.returns
-returns c = parts_are_bags

@@ -1,5 +1,0 @@
-use Rattle.placement.proofs.StoredLemmas.{placed_are_stored}
-use Rattle.placement.proofs.laws.placed_are_stored.Goals as goal
-
-pub returns : goal.returns
-returns c = placed_are_stored

@@ -1,5 +1,0 @@
-use Rattle.placement.proofs.ReceivedLemmas.{steps_list_what_they_are_given}
-use Rattle.placement.proofs.laws.steps_list_what_they_are_given.Goals as goal
-
-pub returns : goal.returns
-returns c = steps_list_what_they_are_given
