@@ -57,7 +57,7 @@ struct Ticket {
     number: u32,
 }
 
-/// What a punched ticket leaves, which can't be let go either.
+/// What a sum_of_stubs ticket leaves, which can't be let go either.
 struct Stub {
     number: u32,
 }
@@ -102,7 +102,7 @@ fn stub_number(job: Punching) -> u32
 }
 
 /// Punches so many tickets, numbered from 0, and adds up the numbers on their stubs.
-fn punched<R: Threads + Wait + Sync>(rt: &R, alloc: Global, size: u32) -> Result<u64, AllocError> {
+fn sum_of_stubs<R: Threads + Wait + Sync>(rt: &R, alloc: Global, size: u32) -> Result<u64, AllocError> {
     let mut jobs = Vec::with_capacity(alloc, size as usize)?;
     for number in 0..size {
         let ticket = Some(Ticket { number });
@@ -183,7 +183,7 @@ fn each_job_adds_its_number_once(rt: HostRuntime) -> Result<(), Fail> {
 fn jobs_give_back_what_they_own(rt: HostRuntime) -> Result<(), Fail> {
     for size in SIZES {
         let wanted = u64::from(size) * u64::from(size.saturating_sub(1)) / 2;
-        assert_eq!(rt; punched(&rt, rt.alloc(), size)?, wanted, "{size} jobs");
+        assert_eq!(rt; sum_of_stubs(&rt, rt.alloc(), size)?, wanted, "{size} jobs");
     }
     Ok(())
 }

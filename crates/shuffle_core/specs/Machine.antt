@@ -54,8 +54,8 @@ abbrev pub run_of : InboxState Post → List Event → InboxState Post
 run_of i events = fold after_event i events
 
 -- the inbox to which these posts were sent, in order, and of which the first so many were taken
-abbrev pub logged : ℕ → ℕ → List Post → ℕ → InboxState Post
-logged senders capacity posts taken = record {
+abbrev pub inbox_of_log : ℕ → ℕ → List Post → ℕ → InboxState Post
+inbox_of_log senders capacity posts taken = record {
   senders = senders;
   capacity = capacity;
   sent = map (λ s. inbox.of_sender sender_of s posts) (range_with_len 0 senders);
@@ -69,7 +69,7 @@ ended_of senders posts = map (λ s. list_any is_end (inbox.of_sender sender_of s
 
 -- what the code keeps of an inbox: the posts that were taken are some of those that were sent, it is noted of each
 -- sender whether it has ended, and the whole is an inbox
-pub record IsLogged (senders capacity : ℕ) (posts : List Post) (taken : ℕ) (ended : List Bool) : Type 0 where
+pub record IsLogOf (senders capacity : ℕ) (posts : List Post) (taken : ℕ) (ended : List Bool) : Type 0 where
   pub taken_of_sent : taken ≤ length posts
   pub ends_noted : ended ≡ ended_of senders posts
-  pub is_inbox : inbox.IsInbox sender_of is_end (logged senders capacity posts taken)
+  pub is_inbox : inbox.IsInbox sender_of is_end (inbox_of_log senders capacity posts taken)

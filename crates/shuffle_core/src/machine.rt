@@ -25,13 +25,13 @@ pub struct Inbox {
 impl Model for Inbox {
     ghost use Rattle.shuffle_core.specs.declared.posts.Post.{Post};
     ghost use Rattle.shuffle_core.specs.Inbox.{InboxState};
-    ghost use Rattle.shuffle_core.specs.Machine.{logged, IsLogged};
+    ghost use Rattle.shuffle_core.specs.Machine.{inbox_of_log, IsLogOf};
 
     ghost Value = { InboxState Post };
 
-    ghost view = { λ i. logged i.senders i.capacity i.log.items i.taken };
+    ghost view = { λ i. inbox_of_log i.senders i.capacity i.log.items i.taken };
 
-    ghost invariant = { λ i. IsLogged i.senders i.capacity i.log.items i.taken i.ended.items };
+    ghost invariant = { λ i. IsLogOf i.senders i.capacity i.log.items i.taken i.ended.items };
 }
 
 impl Inbox {
@@ -39,7 +39,8 @@ impl Inbox {
     pub fn new(alloc: Global, senders: u32, capacity: u32) -> Result<Inbox, Memory>
         requires senders { 1 ≤ senders }
         requires capacity { 1 ≤ capacity }
-        ensures { IfOk result (λ made. made ≡ new_inbox senders capacity) }
+        ensures made { IfOk result (λ made. made ≡ new_inbox senders capacity) }
+        ensures kept { IfOk result (IsInbox sender_of is_end) }
     {
         let ended = Vec::from_elem(alloc, false, senders as usize)?;
         Ok(Inbox {
@@ -57,6 +58,7 @@ impl Inbox {
         ensures answer { IfOk result (λ answer. answer ≡ answer_of self.old event) }
         ensures after { OnOk result (self.new ≡ after_event self.old event) }
         ensures err { OnErr result (self.new ≡ self.old) }
+        ensures kept { IsInbox sender_of is_end self.new }
     {
         match event {
             Event::Send(post) => self.send(post),
@@ -69,6 +71,7 @@ impl Inbox {
         ensures answer { IfOk result (λ answer. answer ≡ answer_to_post self.old post) }
         ensures after { OnOk result (self.new ≡ after_post self.old post (answer_to_post self.old post)) }
         ensures err { OnErr result (self.new ≡ self.old) }
+        ensures was { IsInbox sender_of is_end self.old }
     {
         if post.sender >= self.senders {
             return Ok(Stepped::NoSender);
@@ -88,6 +91,7 @@ impl Inbox {
     fn take(&mut self) -> Stepped
         ensures answer { result ≡ answer_to_take self.old.queue }
         ensures after { self.new ≡ with_taken self.old }
+        ensures was { IsInbox sender_of is_end self.old }
     {
         if self.taken == self.log.len() {
             return Stepped::Empty;
@@ -118,7 +122,8 @@ pub fn run(alloc: Global, senders: u32, capacity: u32, events: &Events) -> Resul
     requires capacity { 1 ≤ capacity }
     ensures inbox { IfOk result (λ inbox. inbox ≡ run_of (new_inbox senders capacity) events.now) }
     ensures kept { IfOk result (λ inbox. IsInbox sender_of is_end inbox) }
-    ensures delivered { IfOk result (λ inbox. HasEachEnd sender_of is_end inbox → IsDelivered sender_of inbox) }
+    ensures delivered { IfOk result (λ inbox.
+        HasEachEnd sender_of is_end inbox → IsDelivered sender_of inbox) }
 {
     let mut inbox = Inbox::new(alloc, senders, capacity)?;
     for event in events.as_slice() {

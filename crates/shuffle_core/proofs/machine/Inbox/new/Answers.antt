@@ -1,9 +1,9 @@
 use Rattle.std.proofs.Common.{◌≡◌, List, [], false, replicate, sym, subst, ◌∙◌, ap, rules, arith}
 use Rattle.shuffle_core.specs.declared.posts.Post.{Post}
 use Rattle.shuffle_core.specs.Inbox.{IsInbox}
-use Rattle.shuffle_core.specs.Machine.{sender_of, is_end, logged}
+use Rattle.shuffle_core.specs.Machine.{sender_of, is_end, inbox_of_log}
 use Rattle.shuffle_core.proofs.InboxLemmas.{IsInbox-new_inbox}
-use Rattle.shuffle_core.proofs.MachineLemmas.{logged-nil, ended_of-nil}
+use Rattle.shuffle_core.proofs.MachineLemmas.{inbox_of_log-nil, ended_of-nil}
 use Rattle.shuffle_core.proofs.machine.Inbox.new.Goals as goal
 
 pub invariant_of-result : goal.invariant_of-result
@@ -13,10 +13,17 @@ invariant_of-result c =
     rw (empty, flags) record {
       taken_of_sent = omega arith;
       ends_noted = ended_of-nil c.args.senders c.args.capacity;
-      is_inbox = subst (IsInbox sender_of is_end) (sym (logged-nil c.args.senders c.args.capacity)) (IsInbox-new_inbox sender_of is_end c.args.senders c.args.capacity);
+      is_inbox = subst (IsInbox sender_of is_end) (sym (inbox_of_log-nil c.args.senders c.args.capacity)) (IsInbox-new_inbox sender_of is_end c.args.senders c.args.capacity);
     }
 
-pub returns : goal.returns
-returns c =
-    ap (λ (posts : List Post). logged c.args.senders c.args.capacity posts 0) c.new.ensures.items
-    ∙ logged-nil c.args.senders c.args.capacity
+pub returns-clause-made : goal.returns-clause-made
+returns-clause-made c =
+    ap (λ (posts : List Post). inbox_of_log c.args.senders c.args.capacity posts 0) c.new.ensures.items
+    ∙ inbox_of_log-nil c.args.senders c.args.capacity
+
+pub returns-clause-kept : goal.returns-clause-kept
+returns-clause-kept c =
+    subst (IsInbox sender_of is_end)
+    (sym (ap (λ (posts : List Post). inbox_of_log c.args.senders c.args.capacity posts 0) c.new.ensures.items
+    ∙ inbox_of_log-nil c.args.senders c.args.capacity))
+    (IsInbox-new_inbox sender_of is_end c.args.senders c.args.capacity)

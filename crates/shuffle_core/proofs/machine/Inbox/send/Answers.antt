@@ -1,8 +1,8 @@
 use Rattle.std.proofs.Common.{◌≡◌, List, sym, ◌∙◌, ap, arith}
 use Rattle.shuffle_core.specs.declared.posts.Post.{Post}
 use Rattle.shuffle_core.specs.declared.posts.Stepped.TheVariants.{Ended}
-use Rattle.shuffle_core.specs.Machine.{logged, answer_to_post, after_post}
-use Rattle.shuffle_core.proofs.MachineLemmas.{answer_to_post-noted, answer_to_post-no_room, answer_to_post-room, logged-after_post, IsLogged-push}
+use Rattle.shuffle_core.specs.Machine.{inbox_of_log, answer_to_post, after_post}
+use Rattle.shuffle_core.proofs.MachineLemmas.{answer_to_post-noted, answer_to_post-no_room, answer_to_post-room, inbox_of_log-after_post, IsLogOf-push}
 use Rattle.shuffle_core.proofs.machine.Inbox.send.Goals as goal
 use Rattle.shuffle_core.proofs.machine.Inbox.send.Goals.{Then-index}
 
@@ -25,7 +25,7 @@ returns-then-len-self-clause-answer c =
 pub invariant_of-self-2 : goal.invariant_of-self-2
 invariant_of-self-2 c =
     rw (c.in_ok-push.ensures.items, c.is_end.ensures)
-    (IsLogged-push c.self.inside.senders c.self.inside.capacity c.self.inside.log.items c.self.inside.taken c.self.inside.ended.items c.self.invariant
+    (IsLogOf-push c.self.inside.senders c.self.inside.capacity c.self.inside.log.items c.self.inside.taken c.self.inside.ended.items c.self.invariant
     c.args.post c.if-post-self.false c.index.result.now (sym c.index.ensures ∙ c.if-index.false) (omega arith))
 
 pub returns-clause-answer : goal.returns-clause-answer
@@ -35,6 +35,6 @@ returns-clause-answer c =
 
 pub returns-clause-after : goal.returns-clause-after
 returns-clause-after c =
-    ap (λ (posts : List Post). logged c.self.inside.senders c.self.inside.capacity posts c.self.inside.taken) c.in_ok-push.ensures.items
-    ∙ logged-after_post c.self.inside.senders c.self.inside.capacity c.self.inside.log.items c.self.inside.taken c.self.inside.ended.items c.self.invariant
+    ap (λ (posts : List Post). inbox_of_log c.self.inside.senders c.self.inside.capacity posts c.self.inside.taken) c.in_ok-push.ensures.items
+    ∙ inbox_of_log-after_post c.self.inside.senders c.self.inside.capacity c.self.inside.log.items c.self.inside.taken c.self.inside.ended.items c.self.invariant
     c.args.post c.if-post-self.false c.index.result.now (sym c.index.ensures ∙ c.if-index.false) (omega arith) c.args.self.now c.self.view_is

@@ -1,7 +1,7 @@
 use Rattle.std.proofs.Common.{◌≡◌, ◌≤◌, All, IsNone, IsSome, vec_len}
 use Rattle.std.specs.Prelude.{vec_capacity}
 use Rattle.crew.specs.declared.tests.Punching.{Punching}
-use Rattle.crew.proofs.tests.punched.Given as goal
+use Rattle.crew.proofs.tests.sum_of_stubs.Given as goal
 
 abbrev pub invariant-loop-number : goal.invariant-loop-number
 invariant-loop-number g l =
