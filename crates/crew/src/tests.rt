@@ -57,7 +57,7 @@ struct Ticket {
     number: u32,
 }
 
-/// What a sum_of_stubs ticket leaves, which can't be let go either.
+/// What a punched ticket leaves, which can't be let go either.
 struct Stub {
     number: u32,
 }
@@ -102,7 +102,11 @@ fn stub_number(job: Punching) -> u32
 }
 
 /// Punches so many tickets, numbered from 0, and adds up the numbers on their stubs.
-fn sum_of_stubs<R: Threads + Wait + Sync>(rt: &R, alloc: Global, size: u32) -> Result<u64, AllocError> {
+fn sum_of_stubs<R: Threads + Wait + Sync>(
+    rt: &R,
+    alloc: Global,
+    size: u32,
+) -> Result<u64, AllocError> {
     let mut jobs = Vec::with_capacity(alloc, size as usize)?;
     for number in 0..size {
         let ticket = Some(Ticket { number });

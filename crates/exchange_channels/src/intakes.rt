@@ -147,7 +147,7 @@ impl Taking {
             Some(batch) => {
                 tap.got(u64::from(batch.rows.len()));
                 let drained = mem::replace(&mut self.drained, Err(Memory));
-                self.drained = kept(drained, sender, batch);
+                self.drained = with_batch(drained, sender, batch);
             }
             None => note(self.ended.as_mut_slice(), sender),
         }
@@ -155,7 +155,11 @@ impl Taking {
 }
 
 /// The batches with one more. Where memory was refused or is, all are let go.
-fn kept(drained: Result<Drained, Memory>, sender: u32, batch: Batch) -> Result<Drained, Memory>
+fn with_batch(
+    drained: Result<Drained, Memory>,
+    sender: u32,
+    batch: Batch,
+) -> Result<Drained, Memory>
     ensures { IfOk result (λ now.
         IsOkAnd drained (λ before. now ≡ before ++ (sender, batch) ∷ [])) }
 {

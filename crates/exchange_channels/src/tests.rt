@@ -11,30 +11,35 @@ use std::test::Fail;
 use std::thread;
 use std::thread::Threads;
 
-/// A batch of one row of an atom, which is this number.
-fn batch(alloc: Global, atom: u32, number: i64) -> Result<Batch, Memory> {
-    let mut row = Row::new(alloc);
-    row.push(Value::Int(number))?;
+/// A batch of atom 0, whose rows are these numbers.
+fn batch(alloc: Global, numbers: &[i64]) -> Result<Batch, Memory> {
     let mut rows = Rows::new(alloc);
-    rows.push(row)?;
-    Ok(Batch { atom, rows })
+    for number in numbers {
+        let mut row = Row::new(alloc);
+        row.push(Value::Int(*number))?;
+        if rows.len() < 100 {
+            rows.push(row)?;
+        }
+    }
+    Ok(Batch { atom: 0, rows })
 }
 
-/// Batches of one row each of atom 0, which are these numbers.
-fn batches(alloc: Global, numbers: &[i64]) -> Result<Vec<Batch>, Memory> {
+/// Batches of atom 0, whose rows are these numbers.
+fn batches(alloc: Global, numbers: &[&[i64]]) -> Result<Vec<Batch>, Memory> {
     let mut made = Vec::with_capacity(alloc, numbers.len())?;
-    for number in numbers {
-        made.push(batch(alloc, 0, *number)?)?;
+    for numbers in numbers {
+        made.push(batch(alloc, numbers)?)?;
     }
     Ok(made)
 }
 
-/// Whether the batches that came from a sender are these numbers, in order.
+/// Whether the rows that came from a sender are these numbers, in order.
 fn came_in_order(drained: &Drained, sender: u32, numbers: &[i64]) -> bool {
     let mut next = 0;
     for (from, batch) in drained.as_slice() {
         if *from == sender {
-            for row in batch.rows.as_slice() {
+            for i in 0..batch.rows.len() {
+                let row = batch.rows.get(i);
                 if next >= numbers.len()
                     || row.as_slice() != [Value::Int(numbers[next])].as_slice()
                 {
@@ -45,6 +50,36 @@ fn came_in_order(drained: &Drained, sender: u32, numbers: &[i64]) -> bool {
         }
     }
     next == numbers.len()
+}
+
+/// A tap that notes what it is told, call by call.
+#[derive(Drop)]
+struct NotingTap {
+    counts: CountTap,
+    calls: Vec<u64>,
+}
+
+impl Tap for NotingTap {
+    ghost tag = { λ t. t.counts.tag };
+
+    ghost totals = { λ t. t.counts.totals };
+
+    fn sent(&mut self, rows: u64) {
+        self.counts.sent(rows);
+    }
+
+    fn got(&mut self, rows: u64) {
+        let _ = self.calls.push(rows);
+        self.counts.got(rows);
+    }
+
+    fn listed(&mut self, rows: u64) {
+        self.counts.listed(rows);
+    }
+
+    fn totals(&self) -> Totals {
+        self.counts.totals()
+    }
 }
 
 /// The ends of one cell and two senders.
@@ -59,7 +94,8 @@ struct OneCell {
 /// A wiring of one cell and two senders.
 fn one_cell(alloc: Global, capacity: u32) -> Result<OneCell, Memory>
     requires { (1 ≤ capacity) × (capacity ≤ 1024) }
-    ensures { IfOk result (λ ends. IsWired ends.keep (ends.first ∷ ends.second ∷ []) (ends.intake ∷ []) 1 2 capacity) }
+    ensures { IfOk result (λ ends.
+        IsWired ends.keep (ends.first ∷ ends.second ∷ []) (ends.intake ∷ []) 1 2 capacity) }
 {
     let Wiring {
         mut outlets,
@@ -118,9 +154,9 @@ fn close_one_cell(
     Ok(close(keep, outs, ins))
 }
 
-/// One cell and two senders, in one thread: the cell takes the batches in the order in which they were sent.
+/// In one thread: the cell takes the batches in the order in which they were sent, and tells its tap one after another.
 #[test]
-fn a_cell_takes_what_was_sent_in_order(rt: HostRuntime) -> Result<(), Fail> {
+fn a_cell_takes_what_was_sent_and_tells_it_batch_by_batch(rt: HostRuntime) -> Result<(), Fail> {
     let alloc = rt.alloc();
     let OneCell {
         first,
@@ -128,29 +164,19 @@ fn a_cell_takes_what_was_sent_in_order(rt: HostRuntime) -> Result<(), Fail> {
         intake,
         keep,
     } = one_cell(alloc, 8)?;
-    let first = send_all(&rt, first, batches(alloc, &[7, 8])?);
-    let second = send_all(&rt, second, batches(alloc, &[9])?);
-    let mut tap = CountTap::new();
+    let first = send_all(&rt, first, batches(alloc, &[&[7, 8], &[9]])?);
+    let second = send_all(&rt, second, batches(alloc, &[&[1, 2, 3]])?);
+    let mut tap = NotingTap {
+        counts: CountTap::new(),
+        calls: Vec::new(alloc),
+    };
     let (taken, drained) = intake.drain(&rt, alloc, &mut tap);
     let drained = drained?;
-    let senders = [0, 0, 1];
-    assert!(rt;
-        drained
-            .as_slice()
-            .iter()
-            .map(|taken| taken.0)
-            .eq(senders.iter().copied())
-    );
-    assert!(rt; came_in_order(&drained, 0, &[7, 8]));
-    assert!(rt; came_in_order(&drained, 1, &[9]));
-    assert_eq!(rt;
-        tap.totals(),
-        Totals {
-            sent: 0,
-            got: 3,
-            listed: 0
-        }
-    );
+    assert_eq!(rt; drained.len(), 3);
+    assert!(rt; came_in_order(&drained, 0, &[7, 8, 9]));
+    assert!(rt; came_in_order(&drained, 1, &[1, 2, 3]));
+    assert_eq!(rt; tap.calls.as_slice(), [2, 1, 3].as_slice());
+    assert_eq!(rt; tap.totals().got, 6);
     let _receipt = close_one_cell(alloc, keep, first, second, taken)?;
     Ok(())
 }
@@ -170,7 +196,8 @@ fn exchange_in_threads<R: Threads + Wait + Sync>(
     first_batches: Vec<Batch>,
     second_batches: Vec<Batch>,
 ) -> Result<Exchanged, Memory>
-    requires { IsWired ends.keep (ends.first ∷ ends.second ∷ []) (ends.intake ∷ []) 1 2 ends.keep.capacity }
+    requires { IsWired ends.keep (ends.first ∷ ends.second ∷ []) (ends.intake ∷ [])
+        1 2 ends.keep.capacity }
 {
     let OneCell {
         first,
@@ -198,71 +225,16 @@ fn exchange_in_threads<R: Threads + Wait + Sync>(
     })
 }
 
-/// One cell of capacity 1 and two senders, a thread for each end: each sender's batches come in its order.
+/// One cell of capacity 1, a thread for each end: each sender's batches come in its order.
 #[test]
 fn each_sender_is_taken_in_its_order(rt: HostRuntime) -> Result<(), Fail> {
     let alloc = rt.alloc();
     let ends = one_cell(alloc, 1)?;
-    let first_batches = batches(alloc, &[7, 8])?;
-    let second_batches = batches(alloc, &[9])?;
+    let first_batches = batches(alloc, &[&[7], &[8]])?;
+    let second_batches = batches(alloc, &[&[9]])?;
     let exchanged = exchange_in_threads(&rt, alloc, ends, first_batches, second_batches)?;
     assert_eq!(rt; exchanged.drained.len(), 3);
     assert!(rt; came_in_order(&exchanged.drained, 0, &[7, 8]));
     assert!(rt; came_in_order(&exchanged.drained, 1, &[9]));
-    Ok(())
-}
-
-/// What a thread does: it sends the batches, each to the cell that has its atom's number, or takes what comes to its cell.
-#[derive(Drop)]
-enum Task {
-    Send(Outlet, Vec<Batch>),
-    Take(Intake),
-}
-
-/// How many batches the task took, which are none where it sends.
-fn carry_out<R: Wait>(rt: &R, alloc: Global, task: Task) -> Result<u32, Memory> {
-    match task {
-        Task::Send(outlet, batches) => {
-            let mut outlet = outlet;
-            for batch in batches {
-                if outlet.has_cell(batch.atom) {
-                    outlet.send(rt, batch.atom, batch);
-                }
-            }
-            let _end = outlet.end(rt);
-            Ok(0)
-        }
-        Task::Take(intake) => {
-            let (_end, drained) = intake.drain(rt, alloc, &mut CountTap::new());
-            Ok(drained?.len())
-        }
-    }
-}
-
-/// 64 senders and 64 cells of capacity 1, a thread for each: every batch arrives.
-#[test]
-fn every_batch_arrives_through_full_inboxes(rt: HostRuntime) -> Result<(), Fail> {
-    let alloc = rt.alloc();
-    let Wiring {
-        mut outlets,
-        mut intakes,
-        keep: _,
-    } = wire(alloc, 64, 64, 1)?;
-    let mut tasks = Vec::new(alloc);
-    for _end in 0..64 {
-        let mut batches = Vec::new(alloc);
-        for cell in 0..64 {
-            batches.push(batch(alloc, cell, 5)?)?;
-        }
-        let outlet = outlets.pop().ok_or("64 outlets")?;
-        tasks.push(Task::Send(outlet, batches))?;
-        let intake = intakes.pop().ok_or("64 intakes")?;
-        tasks.push(Task::Take(intake))?;
-    }
-    let mut arrived = 0u64;
-    for taken in thread::map_vec(&rt, tasks, &|task| carry_out(&rt, alloc, task))? {
-        arrived = arrived.saturating_add(u64::from(taken?));
-    }
-    assert_eq!(rt; arrived, 64 * 64);
     Ok(())
 }

@@ -14,11 +14,11 @@ pub invariant_of-self-in-Some-2 : goal.invariant_of-self-in-Some-2
 invariant_of-self-in-Some-2 g c =
     let port : c.take-sender.new.self ≡ record c.self.inside.port { knows = with_taken c.self.inside.port.knows (batch_of c.take-sender.result.sender c.in-Some.batch) } =
     c.take-sender.ensures ∙ (λ i. record c.self.inside.port { knows = with_taken c.self.inside.port.knows (record { sender = c.take-sender.result.sender; batch = c.in-Some.is i }) }) in
-    let more : IfOk c.kept.result (λ now. IsOkAnd c.self.inside.drained (λ before. now ≡ before ++ (c.take-sender.result.sender, c.in-Some.batch) ∷ [])) =
-    subst (λ (old : Result (List (ℕ × Batch)) Memory). IfOk c.kept.result (λ now. IsOkAnd old (λ before. now ≡ before ++ (c.take-sender.result.sender, c.in-Some.batch) ∷ [])))
-    c.replace-drained.ensures.value c.kept.ensures in
-    subst (λ (p : PortState). IsTaking (record { port = p; ended = c.self.inside.ended.items; drained = c.kept.result })) (sym port)
-    (IsTaking-batch c.self.inside.port c.self.inside.ended.items c.self.inside.drained c.take-sender.result.sender c.in-Some.batch c.kept.result c.self.invariant more)
+    let more : IfOk c.with_batch.result (λ now. IsOkAnd c.self.inside.drained (λ before. now ≡ before ++ (c.take-sender.result.sender, c.in-Some.batch) ∷ [])) =
+    subst (λ (old : Result (List (ℕ × Batch)) Memory). IfOk c.with_batch.result (λ now. IsOkAnd old (λ before. now ≡ before ++ (c.take-sender.result.sender, c.in-Some.batch) ∷ [])))
+    c.replace-drained.ensures.value c.with_batch.ensures in
+    subst (λ (p : PortState). IsTaking (record { port = p; ended = c.self.inside.ended.items; drained = c.with_batch.result })) (sym port)
+    (IsTaking-batch c.self.inside.port c.self.inside.ended.items c.self.inside.drained c.take-sender.result.sender c.in-Some.batch c.with_batch.result c.self.invariant more)
 
 pub invariant_of-self-in-None : goal.invariant_of-self-in-None
 invariant_of-self-in-None g c =
