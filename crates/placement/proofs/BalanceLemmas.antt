@@ -328,10 +328,10 @@ destinations_are_workers seed shares shape j row = destinations-workers (product
 abbrev Sends : ℕ → PlacedExchange → Type 0
 Sends n e = AreAmong n e.moves
 
-met-sends : (n seed : ℕ) (how : Shuffle) (shape : Shape) (given : List PlacedRelation) (parts : List Rows) → 1 ≤ n → IsSharing n how → All (IsPlaced n) given
+met-sends : (n seed : ℕ) (how : Shuffle) (shape : Shape) (given : List PlacedRelation) (parts : List Rows) → 1 ≤ n → IsSharing n shape how → All (IsPlaced n) given
     → All (Sends n) (shuffle_exchanges n seed how shape given parts)
 met-sends n seed (ByCells shares) shape given parts some sharing all =
-    All-cons (Sends n) (cells_exchange seed shares shape given parts) [] (moves-among n 0 (by_cells seed shares shape given) (cells-sending n seed shares shape sharing.1 0 given all)) (All-nil (Sends n))
+    All-cons (Sends n) (cells_exchange seed shares shape given parts) [] (moves-among n 0 (by_cells seed shares shape given) (cells-sending n seed shares shape sharing.cells 0 given all)) (All-nil (Sends n))
 met-sends n seed Broadcast shape given parts some sharing all =
     All-cons (Sends n) (broadcast_exchange n shape given parts) [] (moves-among n 0 (by_broadcast n shape given) (broadcast-sending n shape (staying_atom shape (rows_of given)) 0 given all)) (All-nil (Sends n))
 met-sends n seed ByKeys shape given parts some sharing all =

@@ -107,7 +107,7 @@ parts_are_listed n seed (ByCells shares) shape items some of all wide many two c
     let own = filter (λ row. meeting_cell seed shares shape row == w) (candidates_of shape (rows_of items)) in
     subst (λ rows. SameBag (list (candidates_of shape given)) rows) (sym (listed-at-home list n w (meeting_cell seed shares shape) (candidates_of shape (rows_of items)) low))
     (listed_from-same shape.arith shape.emits (candidates_of shape given) own
-    (cells_list_what_they_are_given n seed shares shape items all wide many (omega (arith, two)) columns of.0 of.1 w))
+    (cells_list_what_they_are_given n seed shares shape items all wide many (omega (arith, two)) columns of.positive of.one_each w))
 parts_are_listed n seed ByKeys shape items some of all wide many two columns w low =
     let list : Rows → Rows = listed_from shape.arith shape.emits in
     let home : Row → ℕ = λ row. home_of seed (prefix_key shape (last_atom shape) row) n in

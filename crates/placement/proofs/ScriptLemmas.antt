@@ -142,11 +142,11 @@ nothing_IsPlaced n = record {
     nothing [] = IsPermutation-refl []
     nothing (w ∷ ws) = nothing ws
 
-met-AreParts : (n seed : ℕ) (how : Shuffle) (shape : Shape) (given : List PlacedRelation) → 1 ≤ n → IsSharing n how → 1 ≤ length given → All (IsPlaced n) given
+met-AreParts : (n seed : ℕ) (how : Shuffle) (shape : Shape) (given : List PlacedRelation) → 1 ≤ n → IsSharing n shape how → 1 ≤ length given → All (IsPlaced n) given
     → AreParts n (listed_of shape (rows_of given)) (join_parts n seed how shape given)
 met-AreParts n seed (ByCells shares) shape given some sharing sources placed =
     listed-AreParts n shape (meeting_cell seed shares shape) (candidates_of shape (rows_of given))
-    (λ row. omega (arith, meeting_cell-lt seed shares shape row sharing.0, sharing.1))
+    (λ row. omega (arith, meeting_cell-lt seed shares shape row sharing.positive, sharing.cells))
 met-AreParts n seed ByKeys shape given some sharing sources placed =
     listed-AreParts n shape (λ row. home_of seed (prefix_key shape (last_atom shape) row) n) (candidates_of shape (rows_of given))
     (λ row. home_of-lt seed (prefix_key shape (last_atom shape) row) n some)

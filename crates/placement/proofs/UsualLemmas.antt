@@ -8,10 +8,9 @@ use Rattle.share_chooser.proofs.BestLemmas.{best_is_least}
 use Rattle.placement.specs.Plans.{usual_shuffle, uses_of, kept_sizes}
 use Rattle.placement.specs.Laws.{IsSharing, UsualIsPlacing}
 
-usual-sharing : (kind : ShuffleKind) (n : ℕ) (shape : Shape) (given : List Rows) → 1 ≤ n → IsSharing n (usual_shuffle kind n shape given)
+usual-sharing : (kind : ShuffleKind) (n : ℕ) (shape : Shape) (given : List Rows) → 1 ≤ n → IsSharing n shape (usual_shuffle kind n shape given)
 usual-sharing shuffle_kind.Hc n shape given some =
-    let best = (best_is_least (uses_of shape) (kept_sizes shape given) (length shape.variables) n some).0 in
-    (best.vector.positive, best.vector.cells)
+    (best_is_least (uses_of shape) (kept_sizes shape given) (length shape.variables) n some).0.vector
 usual-sharing shuffle_kind.Rs n shape given some = tt
 usual-sharing shuffle_kind.Br n shape given some = tt
 

@@ -1,6 +1,7 @@
 -- The laws of placement, but for those of what workers are given (`Receiving`).
 --
 --   IsPlaced n p                   there is a list for each worker, and all lists together are the relation's rows
+--   IsSharing n shape shuffle      its shares are those that n workers may have
 --   IsPlacing p                    there are workers, and each join has the candidates and the cells that it may have
 --   PartsHoldTheRows               whatever a checked script stores is placed
 --   PlacedAreStored                the relations that are placed are those that the script stores
@@ -23,7 +24,7 @@ use Rattle.myrial_ast.specs.Combinations.{Row, Rows, combined_row}
 use Rattle.myrial_ast.specs.KeptRows.{passes_within, span_of_prefix}
 use Rattle.bag_laws.specs.Permuted.{SameTables}
 use Rattle.hash_partition.specs.Hashing.{home_of}
-use Rattle.share_chooser.specs.Load.{product}
+use Rattle.share_chooser.specs.Load.{product, IsShareVector}
 use Rattle.algebra.specs.declared.settings.Settings.{Settings}
 use Rattle.algebra.specs.Trees.{Shape, CheckedTree}
 use Rattle.algebra.specs.Shapes.{widths_of, tests_of, ties_of, candidates_of, kept_of, prefix_of}
@@ -44,11 +45,11 @@ pub record IsPlaced (n : ℕ) (p : PlacedRelation) : Type 0 where
   pub each_worker : length p.parts ≡ n
   pub all_rows : SameBag p.relation.rows (together p.parts)
 
--- the shares are positive, and make no more cells than there are workers
-abbrev pub IsSharing : ℕ → Shuffle → Type 0
-IsSharing n (ByCells shares) = All (λ share. 1 ≤ share) shares × (product shares ≤ n)
-IsSharing n ByKeys = ⊤
-IsSharing n Broadcast = ⊤
+-- by cells, there is a positive share for each variable, and there are no more cells than workers
+abbrev pub IsSharing : ℕ → Shape → Shuffle → Type 0
+IsSharing n shape (ByCells shares) = IsShareVector (length shape.variables) n shares
+IsSharing n shape ByKeys = ⊤
+IsSharing n shape Broadcast = ⊤
 
 -- each row of each list is as wide as its atom
 abbrev pub AreWide : List ℕ → List Rows → Type 0
@@ -60,13 +61,14 @@ AreWide _ _ = ⊥
 pub record IsJoined (n : ℕ) (shape : Shape) (given items : List PlacedRelation) : Type 0 where
   pub as_many : length items ≡ length given
   pub placed : All (IsPlaced n) given → All (IsPlaced n) items
-  pub candidates : AreWide (widths_of shape) (rows_of given) → candidates_of shape (rows_of items) ≡ candidates_of shape (rows_of given)
+  pub candidates : AreWide (widths_of shape) (rows_of given)
+      → candidates_of shape (rows_of items) ≡ candidates_of shape (rows_of given)
 
 -- there are workers, what is joined has the same candidates, and no join has more cells than there are workers
 pub record IsPlacing (p : Placing) : Type 0 where
   pub some_worker : 1 ≤ p.workers
   pub joined : (shape : Shape) (given : List PlacedRelation) → IsJoined p.workers shape given (p.joined shape given)
-  pub sharing : (number : ℕ) (shape : Shape) (given : List Rows) → IsSharing p.workers (p.shuffle number shape given)
+  pub sharing : (number : ℕ) (shape : Shape) (given : List Rows) → IsSharing p.workers shape (p.shuffle number shape given)
 
 -- whatever a script stores is placed: all workers' rows together are its rows
 abbrev pub PartsHoldTheRows : Type 0
@@ -99,7 +101,8 @@ DestinationsAreCells =
 -- they are below the number of cells, and a row goes to none twice
 abbrev pub DestinationsAreWorkers : Type 0
 DestinationsAreWorkers =
-    (seed : ℕ) (shares : List ℕ) (shape : Shape) (j : ℕ) (row : Row) → AreWorkers (product shares) (destinations seed shares shape j row)
+    (seed : ℕ) (shares : List ℕ) (shape : Shape) (j : ℕ) (row : Row)
+    → AreWorkers (product shares) (destinations seed shares shape j row)
 
 -- each column of a variable is in the row and holds the value of its first one
 abbrev pub IsTied : Row → List ℕ → Type 0
@@ -126,8 +129,9 @@ IsColumns shape variable = (0 < length variable) × All (λ c. c < sum (widths_o
 -- the candidates of the rows that go to a worker are the candidates whose meeting cell it is
 abbrev pub CellsListTheirCandidates : Type 0
 CellsListTheirCandidates =
-    (seed : ℕ) (shares : List ℕ) (shape : Shape) (tables : List Rows) → 0 < length shape.atoms → All (IsColumns shape) shape.variables
-    → AreWide (widths_of shape) tables → All (λ share. 1 ≤ share) shares → length shares ≡ length shape.variables → (w : ℕ)
+    (seed : ℕ) (shares : List ℕ) (shape : Shape) (tables : List Rows) → 0 < length shape.atoms
+    → All (IsColumns shape) shape.variables → AreWide (widths_of shape) tables
+    → All (λ share. 1 ≤ share) shares → length shares ≡ length shape.variables → (w : ℕ)
     → candidates_of shape (map (λ (e : ℕ × Rows). filter (is_destination seed shares shape w e.0) e.1) (enumerate_from 0 tables))
     ≡ filter (λ row. meeting_cell seed shares shape row == w) (candidates_of shape tables)
 
@@ -155,7 +159,8 @@ extended shape i fronts rows =
 -- the candidates of a longer prefix with one key are made of those of the shorter one and of the kept rows with this key
 abbrev pub PrefixesMeetByKey : Type 0
 PrefixesMeetByKey =
-    (seed n : ℕ) (shape : Shape) (i : ℕ) (tables : List Rows) → AreWide (widths_of shape) tables → 0 < i → i < length tables → (w : ℕ)
+    (seed n : ℕ) (shape : Shape) (i : ℕ) (tables : List Rows) → AreWide (widths_of shape) tables
+    → 0 < i → i < length tables → (w : ℕ)
     → filter (prefix_is_at seed n shape i w) (prefix_of shape (suc i) tables)
     ≡ extended shape i (filter (prefix_is_at seed n shape i w) (prefix_of shape i tables))
     (filter (item_is_at seed n shape i w) (kept_of shape i (slice_index_or tables i [])))
@@ -170,7 +175,8 @@ pub record IsSamePlaced (p q : PlacedRelation) : Type 0 where
 -- one after another
 pub data AreSamePlaced : List PlacedRelation → List PlacedRelation → Type 0 where
   none_placed : AreSamePlaced [] []
-  one_placed : (p q : PlacedRelation) (ps qs : List PlacedRelation) → IsSamePlaced p q → AreSamePlaced ps qs → AreSamePlaced (p ∷ ps) (q ∷ qs)
+  one_placed : (p q : PlacedRelation) (ps qs : List PlacedRelation) → IsSamePlaced p q → AreSamePlaced ps qs
+      → AreSamePlaced (p ∷ ps) (q ∷ qs)
 
 -- the order of rows changes no worker's part of a join but in the order of its rows
 abbrev pub PartsAreBags : Type 0

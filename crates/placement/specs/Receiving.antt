@@ -7,7 +7,7 @@
 --   PartsAreListed                     what a worker lists of what it is given is its part of the join
 --   GroupsAreMerged                    the partial rows that a worker is given, merged, are the groups at home there
 --   ListedRowsAreGrouped               each listed row has a column for each kind of its grouping
-use Rattle.std.specs.Prelude.{◌≡◌, ⊤, ℕ, suc, ◌++◌, ◌<◌, ◌≤◌, ◌==◌, IsTrue, List, [], ◌∷◌, map, filter, length, All, set, slice_index_or}
+use Rattle.std.specs.Prelude.{◌≡◌, ℕ, suc, ◌++◌, ◌<◌, ◌≤◌, ◌==◌, IsTrue, List, [], ◌∷◌, map, filter, length, All, set, slice_index_or}
 use Rattle.std.specs.List.{list_any}
 use Rattle.rel_base.specs.Bags.{SameBag}
 use Rattle.myrial_ast.specs.Combinations.{Row, Rows, candidates, listed_from}
@@ -20,7 +20,7 @@ use Rattle.algebra.specs.ShapeConditions.{all_different}
 use Rattle.placement.specs.Destinations.{meeting_cell}
 use Rattle.placement.specs.Exchanges.{by_cells, by_broadcast, by_keys, partial_sending}
 use Rattle.placement.specs.Layouts.{PlacedRelation, Placing, Shuffle, ByCells, ByKeys, Broadcast, placed_nothing, part, rows_of, last_atom, staying_atom, together, join_parts, listed_parts, parts_by_key}
-use Rattle.placement.specs.Laws.{IsPlaced, IsPlacing, AreWide, IsColumns, prefix_is_at, extended}
+use Rattle.placement.specs.Laws.{IsPlaced, IsSharing, IsPlacing, AreWide, IsColumns, prefix_is_at, extended}
 use Rattle.placement.specs.Moves.{Sending, moves_of, rows_between, rows_given, all_given}
 
 -- no row goes to a worker twice
@@ -50,7 +50,8 @@ RowsAreGivenOnce =
 -- by cells, the candidates of what a worker is given are those whose meeting cell it is
 abbrev pub CellsListWhatTheyAreGiven : Type 0
 CellsListWhatTheyAreGiven =
-    (n seed : ℕ) (shares : List ℕ) (shape : Shape) (items : List PlacedRelation) → All (IsPlaced n) items → AreWide (widths_of shape) (rows_of items)
+    (n seed : ℕ) (shares : List ℕ) (shape : Shape) (items : List PlacedRelation)
+    → All (IsPlaced n) items → AreWide (widths_of shape) (rows_of items)
     → length items ≡ length shape.atoms → 0 < length shape.atoms → All (IsColumns shape) shape.variables
     → All (λ share. 1 ≤ share) shares → length shares ≡ length shape.variables → (w : ℕ)
     → SameBag (candidates_of shape (all_given (moves_of (by_cells seed shares shape items)) (length items) w))
@@ -59,7 +60,8 @@ CellsListWhatTheyAreGiven =
 -- two at a time, the candidates of what a worker is given in a step are those whose key has its home there
 abbrev pub StepsListWhatTheyAreGiven : Type 0
 StepsListWhatTheyAreGiven =
-    (n seed : ℕ) (shape : Shape) (items : List PlacedRelation) → 1 ≤ n → All (IsPlaced n) items → AreWide (widths_of shape) (rows_of items)
+    (n seed : ℕ) (shape : Shape) (items : List PlacedRelation) → 1 ≤ n
+    → All (IsPlaced n) items → AreWide (widths_of shape) (rows_of items)
     → (i : ℕ) → 0 < i → i < length items → (w : ℕ)
     → let moves = moves_of (by_keys n seed shape items i) in
     SameBag (extended shape i (rows_given moves 0 w) (rows_given moves 1 w))
@@ -69,11 +71,13 @@ StepsListWhatTheyAreGiven =
 -- own part and the whole others
 abbrev pub BroadcastsListWhatTheyAreGiven : Type 0
 BroadcastsListWhatTheyAreGiven =
-    (n : ℕ) (shape : Shape) (items : List PlacedRelation) → All (IsPlaced n) items → AreWide (widths_of shape) (rows_of items)
+    (n : ℕ) (shape : Shape) (items : List PlacedRelation)
+    → All (IsPlaced n) items → AreWide (widths_of shape) (rows_of items)
     → length items ≡ length shape.atoms → (w : ℕ) → w < n
     → let j = staying_atom shape (rows_of items) in
     let own = part (slice_index_or items j (placed_nothing n)) w in
-    SameBag (candidates_of shape (set (all_given (moves_of (by_broadcast n shape items)) (length items) w) j (kept_of shape j own)))
+    let given = all_given (moves_of (by_broadcast n shape items)) (length items) w in
+    SameBag (candidates_of shape (set given j (kept_of shape j own)))
     (candidates_of shape (set (rows_of items) j own))
 
 -- what worker w lists of what it is given in the last exchange of a join: of all atoms; of the candidates of the atoms before the
@@ -90,17 +94,12 @@ listed_at n seed Broadcast shape items w =
     let own = kept_of shape j (part (slice_index_or items j (placed_nothing n)) w) in
     listed_of shape (set (all_given (moves_of (by_broadcast n shape items)) (length items) w) j own)
 
--- by cells, there is a positive share for each variable
-abbrev pub IsShuffleOf : Shape → Shuffle → Type 0
-IsShuffleOf shape (ByCells shares) = All (λ share. 1 ≤ share) shares × (length shares ≡ length shape.variables)
-IsShuffleOf shape ByKeys = ⊤
-IsShuffleOf shape Broadcast = ⊤
-
 -- what a worker lists of what it is given is its part of the join
 abbrev pub PartsAreListed : Type 0
 PartsAreListed =
-    (n seed : ℕ) (shuffle : Shuffle) (shape : Shape) (items : List PlacedRelation) → 1 ≤ n → IsShuffleOf shape shuffle
-    → All (IsPlaced n) items → AreWide (widths_of shape) (rows_of items) → length items ≡ length shape.atoms → 2 ≤ length shape.atoms
+    (n seed : ℕ) (shuffle : Shuffle) (shape : Shape) (items : List PlacedRelation) → 1 ≤ n → IsSharing n shape shuffle
+    → All (IsPlaced n) items → AreWide (widths_of shape) (rows_of items)
+    → length items ≡ length shape.atoms → 2 ≤ length shape.atoms
     → All (IsColumns shape) shape.variables → (w : ℕ) → w < n
     → SameBag (listed_at n seed shuffle shape items w) (slice_index_or (join_parts n seed shuffle shape items) w [])
 
@@ -113,8 +112,9 @@ ListedRowsAreGrouped =
 -- the partial rows that a worker is given, merged, are the groups at home there
 abbrev pub GroupsAreMerged : Type 0
 GroupsAreMerged =
-    (p : Placing) (number : ℕ) (shape : Shape) (given : List PlacedRelation) (kinds : Kinds) → IsPlacing p → All (IsPlaced p.workers) given
-    → AreWide (widths_of shape) (rows_of given) → 1 ≤ length given → length kinds ≡ length shape.emits → (w : ℕ) → w < p.workers
+    (p : Placing) (number : ℕ) (shape : Shape) (given : List PlacedRelation) (kinds : Kinds) → IsPlacing p
+    → All (IsPlaced p.workers) given → AreWide (widths_of shape) (rows_of given) → 1 ≤ length given
+    → length kinds ≡ length shape.emits → (w : ℕ) → w < p.workers
     → let moves = moves_of (partial_sending p kinds (listed_parts p number shape given) ∷ []) in
     SameBag (merged kinds (rows_given moves 0 w))
     (slice_index_or (parts_by_key p kinds (groups kinds (listed_of shape (rows_of given)))) w [])
