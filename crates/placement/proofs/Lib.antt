@@ -3,6 +3,7 @@ pub mod StepLemmas
 pub mod WidthLemmas
 pub mod ScriptLemmas
 pub mod StoredLemmas
+pub mod ReadyLemmas
 pub mod UsualLemmas
 pub mod MeetingLemmas
 pub mod CellLemmas

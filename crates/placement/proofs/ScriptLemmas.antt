@@ -194,7 +194,7 @@ first-of : (a b c d e f g h i : Bool) → (a && b && c && d && e && f && g && h 
 first-of true b c d e f g h i k = refl
 first-of false b c d e f g h i k = k
 
-first-of-shape : (shape : Shape) → is_shape shape ≡ true → nat_lt 0 (length shape.atoms) ≡ true
+pub first-of-shape : (shape : Shape) → is_shape shape ≡ true → nat_lt 0 (length shape.atoms) ≡ true
 first-of-shape shape k =
     first-of (nat_lt 0 (length shape.atoms)) (nat_le (length shape.atoms) 8) (list_all is_atom shape.atoms)
     (nat_le (length shape.variables) 8) (list_all (is_variable shape) shape.variables)

@@ -5,6 +5,7 @@
 --   IsPlacing p                    there are workers, and each join has the candidates and the cells that it may have
 --   PartsHoldTheRows               whatever a checked script stores is placed
 --   PlacedAreStored                the relations that are placed are those that the script stores
+--   JoinsAreReady                  the items of a script's joins are placed, and as wide as their atoms
 --   UsualIsPlacing                 what settings say is a placing
 --   DestinationsAreCells           the destinations of a row are the cells that agree with it
 --   DestinationsAreWorkers         they are below the number of cells, and none stands twice
@@ -26,7 +27,8 @@ use Rattle.bag_laws.specs.Permuted.{SameTables}
 use Rattle.hash_partition.specs.Hashing.{home_of}
 use Rattle.share_chooser.specs.Load.{product, IsShareVector}
 use Rattle.algebra.specs.declared.settings.Settings.{Settings}
-use Rattle.algebra.specs.Trees.{Shape, CheckedTree}
+use Rattle.algebra.specs.declared.terms.Source.{Source}
+use Rattle.algebra.specs.Trees.{Shape, TermTree, Join, Group, StepTree, CheckedTree}
 use Rattle.algebra.specs.Shapes.{widths_of, tests_of, ties_of, candidates_of, kept_of, prefix_of}
 use Rattle.algebra.specs.Conditions.{is_of}
 use Rattle.algebra.specs.ShapeConditions.{all_different}
@@ -34,7 +36,7 @@ use Rattle.algebra.specs.Meanings.{stored_by}
 use Rattle.algebra.specs.Rewriting.{AreTyped}
 use Rattle.placement.specs.Destinations.{IsDestination, destinations, is_destination, meeting_cell}
 use Rattle.placement.specs.Exchanges.{PlacedExchange, exchanges_of}
-use Rattle.placement.specs.Layouts.{PlacedRelation, Placing, Shuffle, ByCells, ByKeys, Broadcast, together, join_parts, rows_of, placed_stores, prefix_key, item_key}
+use Rattle.placement.specs.Layouts.{PlacedRelation, Placing, Shuffle, ByCells, ByKeys, Broadcast, together, join_parts, rows_of, placed_source, placed_steps, placed_stores, prefix_key, item_key}
 use Rattle.placement.specs.Moves.{Move, sent, received}
 use Rattle.placement.specs.Plans.{usual_placing}
 
@@ -82,6 +84,30 @@ PlacedAreStored =
     (p : Placing) (files : List File) (c : CheckedTree)
     → map (λ (stored : Key × PlacedRelation). (stored.0, stored.1.relation)) (placed_stores p files c) ≡ stored_by files c
 
+-- a variable has a column, and its columns are in range
+abbrev pub IsColumns : Shape → List ℕ → Type 0
+IsColumns shape variable = (0 < length variable) × All (λ c. c < sum (widths_of shape)) variable
+
+-- what the laws of joins ask: an item for each atom, placed and as wide as its atom, and variables with columns in range
+pub record IsReady (n : ℕ) (shape : Shape) (given : List PlacedRelation) : Type 0 where
+  pub some_atom : 0 < length shape.atoms
+  pub as_many : length given ≡ length shape.atoms
+  pub placed : All (IsPlaced n) given
+  pub wide : AreWide (widths_of shape) (rows_of given)
+  pub columns : All (IsColumns shape) shape.variables
+
+-- so are the items of a term's join, and a grouping has a kind for each emitted column
+abbrev pub HasReadyItems : ℕ → (Source → PlacedRelation) → TermTree → Type 0
+HasReadyItems n value (Join shape sources) = IsReady n shape (map value sources)
+HasReadyItems n value (Group shape sources kinds) = IsReady n shape (map value sources) × (length kinds ≡ length shape.emits)
+HasReadyItems n value _ = ⊤
+
+-- in a checked script each join's items are as the laws of joins ask, whatever steps come later
+abbrev pub JoinsAreReady : Type 0
+JoinsAreReady =
+    (p : Placing) (files : List File) (c : CheckedTree) → IsPlacing p → IsTrue (is_of files c) → AreTyped files
+    → All (λ (s : StepTree). HasReadyItems p.workers (placed_source p files (placed_steps p files c.steps)) s.term) c.steps
+
 -- by settings, all rows are joined, and no join has more cells than there are workers
 abbrev pub UsualIsPlacing : Type 0
 UsualIsPlacing = (s : Settings) → 1 ≤ s.workers → IsPlacing (usual_placing s)
@@ -121,10 +147,6 @@ CandidatesMeetAtOneCell =
     → All (λ share. 1 ≤ share) shares → length shares ≡ length shape.variables → (w : ℕ)
     → ((j : ℕ) → j < length rows → is_destination seed shares shape w j (slice_index_or rows j []) ≡ true)
     ↔ (w ≡ meeting_cell seed shares shape (combined_row rows))
-
--- a variable has a column, and its columns are in range
-abbrev pub IsColumns : Shape → List ℕ → Type 0
-IsColumns shape variable = (0 < length variable) × All (λ c. c < sum (widths_of shape)) variable
 
 -- the candidates of the rows that go to a worker are the candidates whose meeting cell it is
 abbrev pub CellsListTheirCandidates : Type 0

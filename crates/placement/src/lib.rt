@@ -17,8 +17,8 @@ mod meeting;
 mod receiving;
 
 pub use layouts::{
-    exchanges_balance, moves_balance, parts_are_bags, parts_hold_the_rows, placed_are_stored,
-    usual_is_placing,
+    exchanges_balance, joins_are_ready, moves_balance, parts_are_bags, parts_hold_the_rows,
+    placed_are_stored, usual_is_placing,
 };
 pub use meeting::{
     candidates_are_kept, candidates_meet_at_one_cell, cells_list_their_candidates,
