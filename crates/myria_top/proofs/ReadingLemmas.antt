@@ -1,13 +1,24 @@
 -- What the first bytes of a file show of what the file comes to.
-use Rattle.std.proofs.Common.{◌≡◌, ℕ, ◌+◌, ◌<◌, ◌≤◌, min, Bool, false, cond, List, length, take, Option, Some, None, refl, sym, ◌∙◌, ap, subst, arith, nat_lt}
-use Rattle.std.specs.Option.{option_map_or}
+use Rattle.std.proofs.Common.{◌≡◌, ◌⊎◌, inl, inr, ℕ, ◌+◌, ◌<◌, ◌≤◌, min, Bool, false, cond, List, length, take, refl, sym, ◌∙◌, ap, subst, arith, nat_lt}
 use Rattle.std.proofs.lemmas.Bool.{lt-ltb, false_from_ne_true, ltb-true}
 use Rattle.std.proofs.lemmas.List.{take_all, length-take}
 use Rattle.rel_io.specs.Outside.{Content, IsGiven}
 use Rattle.rel_io.specs.Outside as outside
 use Rattle.myria_top.specs.declared.outcomes.Outcome.{Outcome}
+use Rattle.myria_top.specs.declared.outcomes.Outcome.TheVariants as outcome
 use Rattle.myria_top.specs.Reading.{file_step}
 use Rattle.myria_top.specs.Steps.{Step, refused, goes, IfTold}
+
+-- an answer, or want of memory in its place
+pub in_place : (P : Outcome → Type 0) (r answer : Outcome) → (r ≡ answer) ⊎ (r ≡ outcome.Memory) → P answer → P outcome.Memory → P r
+in_place P r answer (inl e) h m = subst P (sym e) h
+in_place P r answer (inr e) h m = subst P (sym e) m
+
+-- the same, where the answer comes under a condition
+pub in_place_if : (P : Outcome → Type 0) (r answer : Outcome) (Q : Type 0) → (Q × (r ≡ answer)) ⊎ (r ≡ outcome.Memory)
+    → (Q → P answer) → P outcome.Memory → P r
+in_place_if P r answer Q (inl h) f m = subst P (sym h.1) (f h.0)
+in_place_if P r answer Q (inr e) f m = subst P (sym e) m
 
 not_less : (a b : ℕ) → b ≤ a → nat_lt a b ≡ false
 not_less a b h = false_from_ne_true (nat_lt a b) (λ e. let less : a < b = ltb-true a b e in absurd (omega arith))
@@ -45,10 +56,3 @@ module _ {X : Type 0} (most : ℕ) (if_missing if_long : Outcome) (read : List �
   read_refuses outside.missing bytes answer given short e = absurd given
   read_refuses (outside.there file) bytes answer given short e =
       subst (λ (s : Step X). IfTold s (λ t. t ≡ refused answer)) (sym (whole file bytes given short ∙ e)) refl
-
--- what was found decides the step
-pub found : {X Y : Type 0} (f : X → Y) (d : Y) (o : Option X) (x : X) → o ≡ Some x → option_map_or f o d ≡ f x
-found f d o x e = ap (λ (p : Option _). option_map_or f p d) e
-
-pub found_none : {X Y : Type 0} (f : X → Y) (d : Y) (o : Option X) → o ≡ None → option_map_or f o d ≡ d
-found_none f d o e = ap (λ (p : Option _). option_map_or f p d) e

@@ -1,5 +1,5 @@
 -- What a script comes to over its files, and what the words and the files come to.
-use Rattle.std.proofs.Common.{◌≡◌, ℕ, Bool, true, false, cond, List, map, Option, Some, None, Ok, Err, Result, refl, sym, ◌∙◌, ap, subst, inl, inr, arith}
+use Rattle.std.proofs.Common.{◌≡◌, ℕ, Bool, true, false, cond, ◌&&◌, List, map, Option, Some, None, Ok, Err, Result, refl, sym, ◌∙◌, ap, subst, inl, inr, arith}
 use Rattle.std.specs.Prelude.{IfErr, OnOk, OnErr}
 use Rattle.std.specs.List.{flat_map}
 use Rattle.std.specs.Option.{option_map_or}
@@ -25,7 +25,7 @@ use Rattle.myria_top.specs.OutputText.{output_text, relation_text_in_order}
 use Rattle.myria_top.specs.Reading.{Agrees, AgreesBy, AgreesRefused, Counts, HasCause, Meets, ReadsBy, ReadsStep, RefusesBy, script_name}
 use Rattle.myria_top.specs.Scripts.{ScriptComesTo, TextComesTo, not_text, bad_token, bad_piece, not_built, built, not_told, no_script, too_long, short}
 use Rattle.myria_top.specs.Steps.{Step, untold, refused, goes, then_step, IfTold}
-use Rattle.myria_top.specs.Verdicts.{ComesTo, named, IsFileOf, files_step, printed_step, run_answer, run_step}
+use Rattle.myria_top.specs.Verdicts.{ComesTo, named, IsFileOf, files_step, printed_step, run_answer, run_step, types_fit}
 use Rattle.myria_top.proofs.OneAnswerLemmas.{comes_to_one}
 use Rattle.myria_top.proofs.OutputLemmas.{output_text-sorted}
 use Rattle.myria_top.proofs.StepLemmas.{LiesWithin, HasCause-part, met, met_further, goes_second, refused_first, refused_second}
@@ -43,14 +43,14 @@ module _ (script : List StatementTree) (files : List File) where
   printed s = then_step s (λ stored. goes (output_text stored))
 
   -- without a fault the text is printed
-  pub run_prints : (stored : List File) (text : List ℕ) → has_meaning files script ≡ true → run_fault Uncounted files script ≡ None
+  pub run_prints : (stored : List File) (text : List ℕ) → types_fit files script ≡ true → has_meaning files script ≡ true → run_fault Uncounted files script ≡ None
       → stored ≡ map in_order (stored_relations files script) → text ≡ flat_map (λ (file : File). relation_text_in_order file.0 file.1) stored
       → IfTold (printed (run_step script files)) (λ s. s ≡ goes text)
-  run_prints stored text meaning fault is texts =
+  run_prints stored text fits meaning fault is texts =
       let all : text ≡ output_text (stored_relations files script) =
       texts ∙ ap (flat_map (λ (file : File). relation_text_in_order file.0 file.1)) is ∙ output_text-sorted (stored_relations files script) in
       let step : printed (run_step script files) ≡ goes text =
-      ap (λ (b : Bool). printed (with_meaning b)) meaning ∙ ap (λ (o : Option RunFault). printed (verdict o)) fault ∙ ap goes (sym all) in
+      ap (λ (b : Bool). printed (with_meaning (b && has_meaning files script))) fits ∙ ap (λ (b : Bool). printed (with_meaning b)) meaning ∙ ap (λ (o : Option RunFault). printed (verdict o)) fault ∙ ap goes (sym all) in
       subst (λ (s : Step (List ℕ)). IfTold s (λ t. t ≡ goes text)) (sym step) refl
 
 -- ---- the files of a script, and then its run

@@ -2,6 +2,7 @@
 use Rattle.std.proofs.Common.{◌≡◌, ℕ, cond, true, false, List, [], ◌∷◌, Some, None, codes, refl}
 use Rattle.std.specs.Str.{bytes_eq}
 use Rattle.std.specs.Fmt.{digits}
+use Rattle.relation_csv.specs.declared.faults.RelFault.TheVariants as fault
 use Rattle.relation_csv.proofs.OnLiterals.{files_on_literals}
 use Rattle.rel_base.specs.declared.names.Key.{Key}
 use Rattle.rel_io.specs.Outside.{Content, missing, there}
@@ -44,9 +45,15 @@ printed-scan_and_store = refl
 pub printed-without_a_relation : printed_step (shelf_of (codes "public:adhoc:S.csv") []) scan_and_store ≡ refused (outcome.NoRelation (adhoc (codes "R")))
 printed-without_a_relation = refl
 
-pub printed-of_a_short_row : printed_step (shelf_of (codes "public:adhoc:R.csv") (codes "x:int,y:int\n1,2\n3\n")) scan_and_store ≡ refused (outcome.NotBuilt part.Relation)
+pub printed-of_a_short_row : printed_step (shelf_of (codes "public:adhoc:R.csv") (codes "x:int,y:int\n1,2\n3\n")) scan_and_store ≡ refused (outcome.BadRelation (adhoc (codes "R")) (fault.FieldCount 2))
 unfolding files_on_literals
 printed-of_a_short_row = refl
+
+-- a relation of strings and booleans is stored as it is
+pub printed-strings : printed_step (shelf_of (codes "public:adhoc:R.csv") (codes "name,ok:boolean\n\"b,\",TRUE\na,false\n")) scan_and_store
+    ≡ goes (codes "-- store public:adhoc:Out 2 rows\nname:string,ok:boolean\na,false\n\"b,\",true\n")
+unfolding files_on_literals
+printed-strings = refl
 
 -- ---- a relation joined with itself
 
@@ -75,6 +82,12 @@ pub printed-join_of_no_column : printed_step edges (join_with (codes "z")) ≡ r
 unfolding files_on_literals
 printed-join_of_no_column = refl
 
+-- a join looks at no types yet, so it needs ints alone
+pub printed-join_of_strings : printed_step (shelf_of (codes "public:adhoc:R.csv") (codes "x:int,y\n1,2\n")) (join_with (codes "y"))
+    ≡ refused (outcome.NotBuilt part.Relation)
+unfolding files_on_literals
+printed-join_of_strings = refl
+
 -- ---- what is built
 
 pub built-join : is_built (join_with (codes "y")) ≡ true
@@ -96,6 +109,14 @@ line-no_script = refl
 
 pub line-no_relation : line_of words (outcome.NoRelation (adhoc (codes "R"))) ≡ codes "myria: no relation public:adhoc:R\n"
 line-no_relation = refl
+
+pub line-too_long : line_of words (outcome.RelTooLong (adhoc (codes "R"))) ≡ codes "myria: relation public:adhoc:R: too long\n"
+line-too_long = refl
+
+pub line-bad_relation : line_of words (outcome.BadRelation (adhoc (codes "R")) (fault.FieldCount 2))
+    ≡ codes "myria: relation public:adhoc:R: record 2 has a wrong number of fields\n"
+unfolding digits
+line-bad_relation = refl
 
 pub line-lexical : line_of words (outcome.Lex 2 lexical.BadChar) ≡ codes "myria: line 2: unexpected character\n"
 unfolding digits

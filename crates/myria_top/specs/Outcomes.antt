@@ -3,8 +3,11 @@
 --   status_of a        the exit status
 --   line_of words a    the line on standard error; none after `Done`
 use Rattle.std.specs.Prelude.{ℕ, List, [], ◌∷◌, ◌++◌, codes}
+use Rattle.std.specs.Borrow.{Bor}
 use Rattle.std.specs.Fmt.{decimal}
 use Rattle.rel_base.specs.Keys.{key_text}
+use Rattle.rel_base.specs.declared.names.Key.{Key}
+use Rattle.relation_csv.specs.Faults.{fault_text}
 use Rattle.myrial_lexer.specs.declared.faults.LexWhat.{LexWhat}
 use Rattle.myrial_lexer.specs.declared.faults.LexWhat.TheVariants as lexical
 use Rattle.myrial_parser.specs.declared.faults.What.{What}
@@ -22,6 +25,8 @@ status_of (outcome.Lex line what) = 3
 status_of (outcome.Syntax statement) = 4
 status_of (outcome.TooMany statement what) = 4
 status_of (outcome.NoRelation key) = 6
+status_of (outcome.RelTooLong key) = 7
+status_of (outcome.BadRelation key fault) = 7
 status_of (outcome.TooManyRows statement) = 8
 status_of (outcome.Overflow statement) = 9
 status_of (outcome.AggregateOverflow statement) = 10
@@ -60,11 +65,22 @@ on_line line words = codes "line " ++ decimal line ++ codes ": " ++ words
 abbrev pub of_statement : ℕ → List ℕ → List ℕ
 of_statement statement words = codes "statement " ++ decimal statement ++ codes ": " ++ words
 
+-- the message of a fault of a relation's file
+abbrev pub of_relation : Key → List ℕ → List ℕ
+of_relation key words = codes "relation " ++ key_text key ++ codes ": " ++ words
+
 abbrev pub lexical_line : ℕ → List ℕ → List ℕ
 lexical_line line words = line_with (on_line line words)
 
 abbrev pub statement_line : ℕ → List ℕ → List ℕ
 statement_line statement words = line_with (of_statement statement words)
+
+-- words that are given in five pieces
+abbrev pub joined_words : Bor (List ℕ) × Bor (List ℕ) × Bor (List ℕ) × Bor (List ℕ) × Bor (List ℕ) → List ℕ
+joined_words words = words.0.now ++ words.1.now ++ words.2.now ++ words.3.now ++ words.4.now
+
+abbrev pub relation_line : Key → List ℕ → List ℕ
+relation_line key words = line_with (of_relation key words)
 
 -- what the answer says, in words
 abbrev pub message_of : List (List ℕ) → Outcome → List ℕ
@@ -76,6 +92,8 @@ message_of words (outcome.Lex line what) = on_line line (lexical_words what)
 message_of words (outcome.Syntax statement) = of_statement statement (codes "syntax error")
 message_of words (outcome.TooMany statement what) = of_statement statement (codes "too many " ++ many_words what)
 message_of words (outcome.NoRelation key) = codes "no relation " ++ key_text key
+message_of words (outcome.RelTooLong key) = of_relation key (codes "too long")
+message_of words (outcome.BadRelation key fault) = of_relation key (fault_text fault)
 message_of words (outcome.TooManyRows statement) = of_statement statement (codes "too many rows")
 message_of words (outcome.Overflow statement) = of_statement statement (codes "overflow")
 message_of words (outcome.AggregateOverflow statement) = of_statement statement (codes "aggregate overflow")

@@ -14,7 +14,7 @@ use Rattle.myrial_parser.specs.Pieces.{IsScript, IsFirstFault, PieceFault, Synta
 use Rattle.myria_top.specs.declared.outcomes.Outcome.{Outcome}
 use Rattle.myria_top.specs.declared.outcomes.Outcome.TheVariants as outcome
 use Rattle.myria_top.specs.declared.outcomes.Part.TheVariants as part
-use Rattle.myria_top.specs.declared.reading.TheConstants.{MOST_SCRIPT_BYTES}
+use Rattle.rel_base.specs.Limits.{most_script_bytes}
 use Rattle.myria_top.specs.Forms.{is_built}
 use Rattle.myria_top.specs.Steps.{Step, untold, refused, goes}
 
@@ -38,8 +38,8 @@ pub data TextComesTo (bytes : List ℕ) : Step (List StatementTree) → Type 0 w
 pub data ScriptComesTo : Content → Step (List StatementTree) → Type 0 where
   not_told : ScriptComesTo outside.untold untold
   no_script : ScriptComesTo outside.missing (refused outcome.NoScript)
-  too_long : (bytes : List ℕ) → MOST_SCRIPT_BYTES < length bytes → ScriptComesTo (outside.there bytes) (refused outcome.ScriptTooLong)
-  short : (bytes : List ℕ) (s : Step (List StatementTree)) → length bytes ≤ MOST_SCRIPT_BYTES → TextComesTo bytes s
+  too_long : (bytes : List ℕ) → most_script_bytes < length bytes → ScriptComesTo (outside.there bytes) (refused outcome.ScriptTooLong)
+  short : (bytes : List ℕ) (s : Step (List StatementTree)) → length bytes ≤ most_script_bytes → TextComesTo bytes s
       → ScriptComesTo (outside.there bytes) s
 
 -- what was read, with the trees of its statements

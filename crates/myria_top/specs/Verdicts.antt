@@ -5,10 +5,15 @@
 --   run_step script files            what the script comes to over its files: the stored relations
 --   printed_step content script      what it comes to: the text that is printed
 --   ComesTo words content step       what the words and the files come to
-use Rattle.std.specs.Prelude.{◌≡◌, ℕ, false, if◌then◌else◌, List, [], ◌∷◌, ◌++◌, fold, Contains, Some, None}
+use Rattle.std.specs.Prelude.{◌≡◌, ℕ, false, if◌then◌else◌, List, [], ◌∷◌, ◌++◌, fold, Contains, Some, None, Result, Ok, Err, Bool, true, ◌&&◌, ◌||◌, not}
+use Rattle.std.specs.List.{list_all, list_any}
 use Rattle.std.specs.Option.{option_map_or}
 use Rattle.rel_base.specs.Keys.{File, shelf_name_of}
-use Rattle.rel_base.specs.Relations.{RelationState}
+use Rattle.rel_base.specs.Limits.{most_relation_bytes}
+use Rattle.rel_base.specs.Relations.{RelationState, same_type}
+use Rattle.rel_base.specs.declared.relations.Column.{Column}
+use Rattle.rel_base.specs.declared.values.ColType.TheVariants as kind
+use Rattle.relation_csv.specs.declared.faults.RelFault.{RelFault}
 use Rattle.rel_base.specs.declared.faults.RunFault.{RunFault}
 use Rattle.rel_base.specs.declared.faults.RunFault.TheVariants as fault
 use Rattle.rel_base.specs.declared.names.Key.{Key}
@@ -16,6 +21,7 @@ use Rattle.rel_io.specs.Outside.{Content}
 use Rattle.relation_csv.specs.Files.{relation_of_bytes}
 use Rattle.myrial_ast.specs.Trees.{StatementTree}
 use Rattle.myrial_ast.specs.CandidateFaults.{Uncounted}
+use Rattle.myrial_ast.specs.Trees as tree
 use Rattle.myrial_meaning.specs.Faults.{run_fault}
 use Rattle.myrial_meaning.specs.Meaning.{stored_relations}
 use Rattle.myrial_meaning.specs.Runnable.{has_meaning}
@@ -23,19 +29,23 @@ use Rattle.myrial_meaning.specs.Scans.{scanned_keys}
 use Rattle.myria_top.specs.declared.outcomes.Outcome.{Outcome}
 use Rattle.myria_top.specs.declared.outcomes.Outcome.TheVariants as outcome
 use Rattle.myria_top.specs.declared.outcomes.Part.TheVariants as part
-use Rattle.myria_top.specs.declared.reading.TheConstants.{MOST_RELATION_BYTES}
 use Rattle.myria_top.specs.OutputText.{output_text}
 use Rattle.myria_top.specs.Reading.{file_step, script_name}
 use Rattle.myria_top.specs.Scripts.{ScriptComesTo}
 use Rattle.myria_top.specs.Steps.{Step, refused, goes, then_step}
 
+-- what the relation of a file, or its fault, comes to
+abbrev pub relation_answer : Key → Result RelationState RelFault → Step RelationState
+relation_answer key (Ok relation) = goes relation
+relation_answer key (Err fault) = refused (outcome.BadRelation key fault)
+
 -- what the bytes of a relation come to
-abbrev pub relation_of : List ℕ → Step RelationState
-relation_of bytes = option_map_or goes (relation_of_bytes bytes) (refused (outcome.NotBuilt part.Relation))
+abbrev pub relation_of : Key → List ℕ → Step RelationState
+relation_of key bytes = relation_answer key (relation_of_bytes bytes)
 
 -- what the file of a scanned relation comes to
 abbrev pub relation_step : Key → Content → Step RelationState
-relation_step key = file_step MOST_RELATION_BYTES (outcome.NoRelation key) (outcome.NotBuilt part.Relation) relation_of
+relation_step key = file_step most_relation_bytes (outcome.NoRelation key) (outcome.RelTooLong key) (relation_of key)
 
 -- the files so far and, where they are good, that of one key more
 abbrev pub one_file_more : (List ℕ → Content) → Step (List File) → Key → Step (List File)
@@ -60,10 +70,27 @@ run_answer (fault.Overflow statement) = outcome.Overflow statement
 run_answer (fault.AggregateOverflow statement) = outcome.AggregateOverflow statement
 run_answer fault.Memory = outcome.Memory
 
--- what the script comes to over its files: a column that it names has to be there, and the run has no fault
+-- whether a statement joins
+abbrev pub is_join : StatementTree → Bool
+is_join (tree.Assign name (tree.From items condition emits)) = true
+is_join _ = false
+
+-- whether a column is one of ints
+abbrev pub is_int_column : Column → Bool
+is_int_column column = same_type column.kind kind.Int
+
+-- whether each column of each file is one of ints
+abbrev pub has_ints_alone : List File → Bool
+has_ints_alone files = list_all (λ (file : File). list_all is_int_column file.1.schema) files
+
+-- whether the types of the files fit the script, so far as they are looked at yet: a join needs ints alone
+abbrev pub types_fit : List File → List StatementTree → Bool
+types_fit files script = not (list_any is_join script) || has_ints_alone files
+
+-- what the script comes to over its files: the types fit, a column that it names is there, and the run has no fault
 abbrev pub run_step : List StatementTree → List File → Step (List File)
 run_step script files =
-    if has_meaning files script
+    if types_fit files script && has_meaning files script
     then option_map_or (λ found. refused (run_answer found)) (run_fault Uncounted files script) (goes (stored_relations files script))
     else refused (outcome.NotBuilt part.Relation)
 

@@ -2,12 +2,9 @@
 ghost use Rattle.std.specs.Prelude.{◌≡◌, All, IfOk, vec_len};
 ghost use Rattle.rel_io.specs.Taps.{no_rows};
 
-use rel_base::Memory;
+use rel_base::{Memory, TAPS};
 use rel_io::CountTap;
 use std::alloc::Global;
-
-/// The taps of a run: two for each of the most workers.
-pub const TAPS: usize = 128;
 
 /// As many taps as a run takes, with nothing counted.
 pub fn fresh_taps(alloc: Global) -> Result<Vec<CountTap>, Memory>

@@ -21,8 +21,7 @@ mod scanning;
 #[cfg(test)]
 mod tests;
 
-pub use counted::{TAPS, fresh_taps};
+pub use counted::fresh_taps;
 pub use messages::tell;
 pub use outcomes::{Outcome, Part};
-pub use reading::{MOST_RELATION_BYTES, MOST_SCRIPT_BYTES};
 pub use run::run_words;

@@ -3,14 +3,16 @@ ghost use Rattle.std.specs.Prelude.{◌≡◌, ◌++◌, ◌≤◌, Err, OnOk, O
 ghost use Rattle.std.specs.Io.KnownBytes.{Appends};
 ghost use Rattle.std.specs.List.{flat_map};
 ghost use Rattle.rel_io.specs.Outside.{Rose, TakesPart};
+ghost use Rattle.relation_csv.specs.Faults.{fault_text};
 ghost use Rattle.myria_top.specs.Outcomes as outcomes;
 
 use crate::Outcome;
 use itoa::Buffer;
 use myrial_lexer::LexWhat;
 use myrial_parser::What;
-use rel_base::Text;
+use rel_base::{Key, Text};
 use rel_io::{Sink, SinkFault, offer};
+use relation_csv::RelFault;
 
 /// Writes the line of an answer, and nothing after `Done`. Takes no memory of the program's own.
 ///
@@ -42,6 +44,8 @@ pub fn tell<E: Sink>(err: &mut E, words: &[Text], answer: &Outcome) -> Result<()
                 &["myria: no relation ", user, ":", program, ":", name, "\n"],
             )
         }
+        Outcome::RelTooLong { key } => tell_relation(err, key, ("", "", "", "", "too long")),
+        Outcome::BadRelation { key, fault } => tell_fault(err, key, *fault),
         Outcome::TooManyRows { statement } => tell_statement(err, *statement, "too many rows", ""),
         Outcome::Overflow { statement } => tell_statement(err, *statement, "overflow", ""),
         Outcome::AggregateOverflow { statement } => {
@@ -87,6 +91,81 @@ fn tell_statement<E: Sink>(
     offer_all(
         err,
         &["myria: statement ", number, ": ", words, others, "\n"],
+    )
+}
+
+/// The line of a fault of a relation's file.
+fn tell_fault<E: Sink>(err: &mut E, key: &Key, fault: RelFault) -> Result<(), SinkFault>
+    ensures ok { OnOk result (Appends (E.taken err.old) (E.taken err.new) (outcomes.relation_line key.now (fault_text fault))) }
+    ensures err { OnErr result (TakesPart (E.taken err.old) (E.taken err.new) (outcomes.relation_line key.now (fault_text fault))) }
+    ensures failed { result ≡ Err SinkFault.Failed → Rose (E.faults err.old) (E.faults err.new) }
+    ensures memory { result ≡ Err SinkFault.Memory → Rose (E.wants err.old) (E.wants err.new) }
+{
+    let mut first = Buffer::new();
+    let mut second = Buffer::new();
+    let words = fault_words(fault, &mut first, &mut second);
+    tell_relation(err, key, words)
+}
+
+/// Words in five pieces, some of which may be empty.
+type Words<'a> = (&'a str, &'a str, &'a str, &'a str, &'a str);
+
+/// A fault of a relation's file in words, in pieces.
+fn fault_words<'a>(fault: RelFault, first: &'a mut Buffer, second: &'a mut Buffer) -> Words<'a>
+    ensures { outcomes.joined_words result ≡ fault_text fault }
+{
+    match fault {
+        RelFault::NoHeader => ("", "", "", "", "no header"),
+        RelFault::NotText { nth } => ("", "", "record ", first.format(nth), " is not UTF-8"),
+        RelFault::TooManyColumns => ("", "", "", "", "too many columns"),
+        RelFault::BadHeader { field } => ("", "", "", "bad header field ", first.format(field)),
+        RelFault::FieldCount { nth } => {
+            let count = " has a wrong number of fields";
+            ("", "", "record ", first.format(nth), count)
+        }
+        RelFault::BadInt { nth, column } => {
+            let (record, column) = (first.format(nth), second.format(column));
+            ("record ", record, " column ", column, " is not an int")
+        }
+        RelFault::BadBool { nth, column } => {
+            let (record, column) = (first.format(nth), second.format(column));
+            ("record ", record, " column ", column, " is not a boolean")
+        }
+        RelFault::TooManyRows => ("", "", "", "", "too many rows"),
+        RelFault::Memory => ("", "", "", "", "out of memory"),
+    }
+}
+
+/// The line of a relation, in five pieces of words.
+fn tell_relation<E: Sink>(err: &mut E, key: &Key, words: Words<'_>) -> Result<(), SinkFault>
+    ensures ok { OnOk result (Appends (E.taken err.old) (E.taken err.new)
+        (outcomes.relation_line key.now (outcomes.joined_words words.entry))) }
+    ensures err { OnErr result (TakesPart (E.taken err.old) (E.taken err.new)
+        (outcomes.relation_line key.now (outcomes.joined_words words.entry))) }
+    ensures failed { result ≡ Err SinkFault.Failed → Rose (E.faults err.old) (E.faults err.new) }
+    ensures memory { result ≡ Err SinkFault.Memory → Rose (E.wants err.old) (E.wants err.new) }
+{
+    let user = key.user.as_str();
+    let program = key.program.as_str();
+    let name = key.name.as_str();
+    let (first, second, third, fourth, fifth) = words;
+    offer_all(
+        err,
+        &[
+            "myria: relation ",
+            user,
+            ":",
+            program,
+            ":",
+            name,
+            ": ",
+            first,
+            second,
+            third,
+            fourth,
+            fifth,
+            "\n",
+        ],
     )
 }
 

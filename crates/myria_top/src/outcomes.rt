@@ -5,6 +5,7 @@ ghost use Rattle.myria_top.specs.Outcomes.{status_of};
 use myrial_lexer::LexWhat;
 use myrial_parser::What;
 use rel_base::{Key, Memory, RunFault, Text};
+use relation_csv::RelFault;
 
 /// The part of a request that this stage of the engine does not build yet.
 #[derive(Clone, Copy, Debug, PartialEq, Eq)]
@@ -13,7 +14,7 @@ pub enum Part {
     Words,
     /// The script.
     Script,
-    /// The file of a relation.
+    /// A relation: a script that joins needs columns of ints alone.
     Relation,
 }
 
@@ -51,6 +52,18 @@ pub enum Outcome {
     NoRelation {
         /// The key of the relation that is not there.
         key: Key,
+    },
+    /// The file of a relation is longer than the most bytes of one.
+    RelTooLong {
+        /// The key of the relation.
+        key: Key,
+    },
+    /// The file of a relation is no relation.
+    BadRelation {
+        /// The key of the relation.
+        key: Key,
+        /// The first fault of its file.
+        fault: RelFault,
     },
     /// A statement has more rows than a relation may have.
     TooManyRows {
@@ -100,6 +113,8 @@ impl Outcome {
                 what: _,
             } => 4,
             Outcome::NoRelation { key: _ } => 6,
+            Outcome::RelTooLong { key: _ } => 7,
+            Outcome::BadRelation { key: _, fault: _ } => 7,
             Outcome::TooManyRows { statement: _ } => 8,
             Outcome::Overflow { statement: _ } => 9,
             Outcome::AggregateOverflow { statement: _ } => 10,

@@ -14,16 +14,12 @@ use crate::{Outcome, Part};
 use myrial_ast::Script;
 use myrial_lexer::{LexFault, lex};
 use myrial_parser::{ParseFault, parse};
-use rel_base::{Duplicate, Files, Key, Keys, Memory, Relation, Text};
+use rel_base::{
+    Duplicate, Files, Key, Keys, MOST_RELATION_BYTES, MOST_SCRIPT_BYTES, Memory, Relation, Text,
+};
 use rel_io::{Shelf, ShelfFault};
 use relation_csv::{RelFault, read_relation};
 use std::alloc::Global;
-
-/// The most bytes of a script.
-pub const MOST_SCRIPT_BYTES: usize = 65_536;
-
-/// The most bytes of a relation's file.
-pub const MOST_RELATION_BYTES: usize = 67_108_864;
 
 /// The word that names the script: the words are two, and the second is no option.
 pub fn script_name(words: &[Text]) -> Option<&Text>
@@ -152,16 +148,34 @@ pub fn read_scanned<F: Shelf>(alloc: Global, shelf: &mut F, key: &Key) -> Result
         Err(ShelfFault::Memory) => return Err(Outcome::Memory),
     };
     if file.len() > MOST_RELATION_BYTES {
-        return Err(Outcome::NotBuilt {
-            part: Part::Relation,
-        });
+        return Err(too_long(alloc, key));
     }
     match read_relation(alloc, &file) {
         Ok(relation) => Ok(relation),
-        Err(RelFault::NotBuilt) => Err(Outcome::NotBuilt {
-            part: Part::Relation,
-        }),
-        Err(RelFault::Memory) => Err(Outcome::Memory),
+        Err(fault) => Err(bad_relation(alloc, key, fault)),
+    }
+}
+
+/// The answer to a file of a relation that is too long, or of memory where the key can't be kept.
+fn too_long(alloc: Global, key: &Key) -> Outcome
+    ensures { (result ≡ Outcome.RelTooLong key.now) ⊎ (result ≡ Outcome.Memory) }
+{
+    match key.copy(alloc) {
+        Ok(key) => Outcome::RelTooLong { key },
+        Err(_) => Outcome::Memory,
+    }
+}
+
+/// The answer to a file that is no relation, or of memory where it was refused or the key can't be kept.
+fn bad_relation(alloc: Global, key: &Key, fault: RelFault) -> Outcome
+    ensures { ((fault ≢ RelFault.Memory) × (result ≡ Outcome.BadRelation key.now fault)) ⊎ (result ≡ Outcome.Memory) }
+{
+    if fault == RelFault::Memory {
+        return Outcome::Memory;
+    }
+    match key.copy(alloc) {
+        Ok(key) => Outcome::BadRelation { key, fault },
+        Err(_) => Outcome::Memory,
     }
 }
 

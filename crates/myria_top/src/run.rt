@@ -1,6 +1,7 @@
 //! One run of the program, from its words to its exit.
 ghost use Rattle.std.specs.Prelude.{◌≡◌, ◌≢◌, ◌↔◌, true, map, All, None, Err, IfErr, vec_len};
-ghost use Rattle.myrial_ast.specs.Trees.{trees_of};
+ghost use Rattle.std.specs.List.{list_all, list_any};
+ghost use Rattle.myrial_ast.specs.Trees.{statement_tree_of, trees_of};
 ghost use Rattle.myrial_meaning.specs.Scans.{scanned_keys};
 ghost use Rattle.rel_io.specs.Taps.{no_rows};
 ghost use Rattle.myria_top.specs.Headline.{Headline, Explains, IsAskedOf};
@@ -9,16 +10,17 @@ ghost use Rattle.myria_top.specs.Forms.{is_built};
 ghost use Rattle.myria_top.specs.OutputText.{output_text};
 ghost use Rattle.myria_top.specs.Scripts.{IsOfTexts};
 ghost use Rattle.myria_top.specs.Steps.{then_step, goes};
+ghost use Rattle.myria_top.specs.Verdicts as verdicts;
 ghost use Rattle.myria_top.specs.Verdicts.{ComesTo, IsFileOf, printed_step, run_step};
 
 use crate::messages::tell;
 use crate::pieces::Pieces;
 use crate::reading::{read_files, read_script, script_name};
 use crate::scanning::keys_of;
-use crate::{Outcome, Part, TAPS};
-use myrial_ast::Script;
+use crate::{Outcome, Part};
+use myrial_ast::{RelExpr, Script, Stmt};
 use myrial_meaning::{evaluate, has_meaning};
-use rel_base::{Files, Text};
+use rel_base::{ColType, Column, Files, Key, Relation, TAPS, Text};
 use rel_io::{Shelf, Sink, SinkFault, Tap};
 use std::alloc::Global;
 use std::sync::Wait;
@@ -162,6 +164,11 @@ fn text_of_run(alloc: Global, script: &Script, files: &Files) -> Result<Pieces, 
     ensures agrees { read.Agrees (then_step (run_step (trees_of script.now) files.now) (λ stored. goes (output_text stored))) result }
     ensures kind { IfErr result IsOfTexts }
 {
+    if !types_fit(script, files) {
+        return Err(Outcome::NotBuilt {
+            part: Part::Relation,
+        });
+    }
     match has_meaning(alloc, script, files) {
         Ok(true) => {}
         Ok(false) => {
@@ -179,4 +186,46 @@ fn text_of_run(alloc: Global, script: &Script, files: &Files) -> Result<Pieces, 
         Ok(text) => Ok(text),
         Err(_) => Err(Outcome::Memory),
     }
+}
+
+/// Whether the types of the files fit the script, so far as they are looked at yet: a join needs ints alone.
+fn types_fit(script: &Script, files: &Files) -> bool
+    ensures { result ≡ verdicts.types_fit files.now (trees_of script.now) }
+{
+    !has_join(script.as_slice()) || have_ints_alone(files.as_slice())
+}
+
+/// Whether a statement joins.
+fn has_join(script: &[Stmt]) -> bool
+    ensures { result ≡ list_any verdicts.is_join (map statement_tree_of script.now) }
+{
+    match script {
+        [] => false,
+        [Stmt::Assign(_, RelExpr::From(_, _, _)), ..] => true,
+        [_, rest @ ..] => has_join(rest),
+    }
+}
+
+/// Whether each column of each file is one of ints.
+fn have_ints_alone(files: &[(Key, Relation)]) -> bool
+    ensures { result ≡ verdicts.has_ints_alone files.now }
+{
+    match files {
+        [] => true,
+        [(_, relation), rest @ ..] => has_ints_alone(relation) && have_ints_alone(rest),
+    }
+}
+
+/// Whether each column of the relation is one of ints.
+fn has_ints_alone(relation: &Relation) -> bool
+    ensures { result ≡ list_all verdicts.is_int_column relation.now.schema }
+{
+    relation.schema().as_slice().iter().all(is_int_column)
+}
+
+/// Whether a column is one of ints.
+fn is_int_column(column: &Column) -> bool
+    ensures { result ≡ verdicts.is_int_column column.now }
+{
+    column.kind == ColType::Int
 }

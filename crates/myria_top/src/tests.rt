@@ -192,11 +192,18 @@ fn what_is_not_built_is_said_so(rt: HostRuntime) -> Result<(), Fail> {
     compare_script(&rt, alloc, "A = scan(R); store(B, Out);", refused)?;
     compare_script(&rt, alloc, "A = distinct(scan(R)); store(A, Out);", refused)?;
     compare_script(&rt, alloc, ";;", refused)?;
-    let short = ("public:adhoc:R.csv", "x:int,y:int\n1,2\n3\n");
-    compare_run(&rt, alloc, &NAMED, SCRIPT, short, (0, 0, 0), refused)?;
     let no_column =
         "J = [from scan(R) as a, scan(R) as b where a.z = b.x emit a.x, b.y]; store(J, Out);";
     compare_script(&rt, alloc, no_column, refused)?;
+    Ok(())
+}
+
+#[test]
+fn a_bad_relation_is_told_with_its_place(rt: HostRuntime) -> Result<(), Fail> {
+    let alloc = rt.alloc();
+    let bad = ("public:adhoc:R.csv", "x:int,y:int\n1,2\n3,no\n");
+    let line = "myria: relation public:adhoc:R: record 2 column 2 is not an int\n";
+    compare_run(&rt, alloc, &NAMED, SCRIPT, bad, (0, 0, 0), (7, "", line))?;
     Ok(())
 }
 

@@ -1,6 +1,7 @@
 -- std's `rsplit_once` at a colon gives the two parts of a header field.
-use Rattle.std.proofs.Common.{◌≡◌, ◌≢◌, ◌∙◌, ℕ, suc, ◌+◌, ◌-◌, ◌<◌, true, false, not, eqb, Some, None, option_map, List, ◌∷◌, ◌++◌, length, get_or, take, drop, reverse, refl, sym, ap, arith, length-append, length-drop}
+use Rattle.std.proofs.Common.{◌≡◌, ◌≢◌, ◌∙◌, ℕ, suc, ◌+◌, ◌-◌, ◌<◌, true, false, not, eqb, Some, None, option_map, Ok, Err, List, ◌∷◌, ◌++◌, length, get_or, take, drop, reverse, refl, sym, ap, arith, length-append, length-drop}
 use Rattle.std.specs.List.{after_last, before_last, list_any, suffix_len}
+use Rattle.std.specs.Option.{ok_or}
 use Rattle.std.specs.Str.Pattern.{RFindsChar, SplitsAroundMatch}
 use Rattle.std.proofs.lemmas.Bool.{eq-eqb, false≢true, ne_eqb}
 use Rattle.std.proofs.Math.Seq.{drop-append-add, get_or-append-add, get_or-append_seam, take-append_seam}
@@ -9,8 +10,9 @@ use Rattle.std.proofs.lemmas.List.Folds.{list_any_at, list_any_none}
 use Rattle.std.proofs.lemmas.List.Sums.{prefix_len_is}
 use Rattle.std.proofs.lemmas.Str.Pattern.{NoCharPasses-char}
 use Rattle.rel_base.specs.declared.values.ColType.{ColType}
-use Rattle.rel_base.specs.declared.relations.Column.{Column}
-use Rattle.relation_csv.specs.Fields.{column_of_field, is_colon, type_of_name}
+use Rattle.rel_base.specs.declared.values.ColType.TheVariants as kind
+use Rattle.relation_csv.specs.declared.faults.RelFault.TheVariants as fault
+use Rattle.relation_csv.specs.Fields.{column_of, column_of_field, is_colon, type_of_name}
 
 -- behind the last colon stands as much as there is behind its place
 suffix_len-last : (s : List ℕ) (i : ℕ) → i < length s → get_or s i 0 ≡ 58
@@ -76,23 +78,24 @@ list_any-no_colon s clear =
     (λ e. NoCharPasses-char 58 s k clear (omega arith) low (get_or_default s k 0 d low ∙ e)))
 
 -- the column of a field whose last colon is known
-column_of_field-split : (s name type_name : List ℕ) → SplitsAtLastColon s name type_name
-    → column_of_field s
-    ≡ option_map (λ t. let column : Column = record { name = name; kind = t } in column) (type_of_name type_name)
-column_of_field-split s name type_name sp = rw (sp.colon, sp.before, sp.after) refl
+column_of_field-split : (number : ℕ) (s name type_name : List ℕ) → SplitsAtLastColon s name type_name
+    → column_of_field number s
+    ≡ ok_or (option_map (column_of name) (type_of_name type_name)) (fault.BadHeader number)
+column_of_field-split number s name type_name sp = rw (sp.colon, sp.before, sp.after) refl
 
 -- the three answers: a column, a type without a name of one, and no colon
-pub column_of_field-Some : (s name type_name : List ℕ) (t : ColType) → SplitsAtLastColon s name type_name
+pub column_of_field-Ok : (number : ℕ) (s name type_name : List ℕ) (t : ColType) → SplitsAtLastColon s name type_name
     → Some t ≡ type_of_name type_name
-    → column_of_field s ≡ Some (record { name = name; kind = t })
-column_of_field-Some s name type_name t sp e = column_of_field-split s name type_name sp ∙ rw (← e) refl
+    → column_of_field number s ≡ Ok (record { name = name; kind = t })
+column_of_field-Ok number s name type_name t sp e = column_of_field-split number s name type_name sp ∙ rw (← e) refl
 
-pub column_of_field-no_type : (s name type_name : List ℕ) → SplitsAtLastColon s name type_name
-    → None ≡ type_of_name type_name → column_of_field s ≡ None
-column_of_field-no_type s name type_name sp e = column_of_field-split s name type_name sp ∙ rw (← e) refl
+pub column_of_field-no_type : (number : ℕ) (s name type_name : List ℕ) → SplitsAtLastColon s name type_name
+    → None ≡ type_of_name type_name → column_of_field number s ≡ Err (fault.BadHeader number)
+column_of_field-no_type number s name type_name sp e = column_of_field-split number s name type_name sp ∙ rw (← e) refl
 
-pub column_of_field-no_colon : (s : List ℕ) → RFindsChar 58 s None → column_of_field s ≡ None
-column_of_field-no_colon s clear = rw (list_any-no_colon s clear) refl
+pub column_of_field-no_colon : (number : ℕ) (s : List ℕ) → RFindsChar 58 s None
+    → column_of_field number s ≡ Ok (record { name = s; kind = kind.Str })
+column_of_field-no_colon number s clear = rw (list_any-no_colon s clear) refl
 
 -- a name, a colon and a name of a type without one
 pub SplitsAtLastColon-written : (name type_name : List ℕ) → list_any is_colon type_name ≡ false

@@ -1,9 +1,10 @@
 pub mod OnLiterals
-pub mod WorkedRows
 pub mod RecordsLeftLemmas
 pub mod IntLemmas
 pub mod ColumnLemmas
 pub mod RecordIterLemmas
+pub mod NumberedLemmas
+pub mod NoMemoryLemmas
 pub mod ReadAsLemmas
 pub mod SchemaLemmas
 pub mod RowLemmas
@@ -14,3 +15,4 @@ pub mod TextLemmas
 pub mod DecimalLemmas
 pub mod MarkLemmas
 pub mod RoundTripLemmas
+pub mod WorkedRows

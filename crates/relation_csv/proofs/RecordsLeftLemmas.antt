@@ -1,5 +1,6 @@
 -- A record that the csv crate finds is the first of the records left, and where it finds none no record is left.
-use Rattle.std.proofs.Common.{◌≡◌, ℕ, zero, suc, ◌+◌, ◌<◌, ◌≤◌, Bool, true, false, cond, Option, Some, None, IsSome, List, [], ◌∷◌, length, refl, sym, ap, ◌∙◌, arith}
+use Rattle.std.proofs.Common.{◌≡◌, ℕ, zero, suc, ◌+◌, ◌<◌, ◌≤◌, Bool, true, false, cond, Option, Some, None, IsSome, List, [], ◌∷◌, length, drop, refl, sym, ap, ◌∙◌, arith}
+use Rattle.std.proofs.Math.Seq.{drop-nil}
 use Rattle.std.proofs.lemmas.Str.{IsUtf8-from_is_utf8, is_utf8-from_IsUtf8}
 use Rattle.std.specs.Borrow.{Bor}
 use Rattle.std.specs.Option.{option_map_or}
@@ -11,11 +12,9 @@ use Rattle.csv.specs.declared.parser.Config.{Config}
 use Rattle.csv.specs.declared.parser.State.{State}
 use Rattle.csv.specs.declared.parser.State.TheVariants as st
 use Rattle.csv.specs.declared.reader.Reader.{Reader}
-use Rattle.csv.specs.declared.error.ErrorKind.{ErrorKind}
 use Rattle.csv.specs.declared.error.ErrorKind.TheVariants as kind
-use Rattle.relation_csv.specs.declared.faults.RelFault.TheVariants as fault
 use Rattle.relation_csv.specs.Files.{Record, is_text}
-use Rattle.relation_csv.specs.RecordsLeft.{IsSteady, StartsWithNoText, bytes_in, fault_of_kind, records_after, records_left}
+use Rattle.relation_csv.specs.inner.RecordsLeft.{IsSteady, StartsWithNoText, bytes_in, records_after, records_left}
 
 -- what follows a record is shorter than what it was read from, if that had a byte
 next_record-shorter : (cfg : Config) (s : State) (fields : List (List ℕ)) (field : List ℕ) (c : ℕ) (rest : List ℕ)
@@ -124,7 +123,7 @@ read-none s s2 xs (Some ys) fields r = by (next_record default_config s [] [] xs
     by (Some p) e n = cc n.0
 
 -- a steady reader that finds a record gives the first of the records that it had left
-records_left-found : (old new : Reader (Bor (List ℕ))) (fields : Record) → IsSteady old
+pub records_left-found : (old new : Reader (Bor (List ℕ))) (fields : Record) → IsSteady old
     → ReadRecord bytes_in old new true fields
     → records_left old ≡ fields ∷ records_left new
 unfolding records_left
@@ -140,7 +139,7 @@ records_left-found old new fields steady r = by (source_of bytes_in old) refl st
         rw (e, r.1, known) next
 
 -- a steady reader that finds none had none left
-records_left-none : (old new : Reader (Bor (List ℕ))) (fields : Record) → IsSteady old
+pub records_left-none : (old new : Reader (Bor (List ℕ))) (fields : Record) → IsSteady old
     → ReadRecord bytes_in old new false fields
     → records_left old ≡ []
 unfolding records_left
@@ -151,13 +150,6 @@ records_left-none old new fields steady r = by (source_of bytes_in old) refl ste
     by None e some = cc
     by (Some xs) e some =
         rw e (read-none old.state new.state xs (pending_of (bytes_in new.rdr) new) fields (rw (steady.config, e) at r.0))
-
--- a steady reader gives the first of the records that it had left, or tells that none was left
-pub records_left-read : (found : Bool) (old new : Reader (Bor (List ℕ))) (fields : Record) → IsSteady old
-    → ReadRecord bytes_in old new found fields
-    → records_left old ≡ cond found (fields ∷ records_left new) []
-records_left-read true old new fields steady r = records_left-found old new fields steady r
-records_left-read false old new fields steady r = records_left-none old new fields steady r
 
 -- a steady reader that took a record had it left first
 records_left-took : (old new : Reader (Bor (List ℕ))) (fields : Record) → IsSteady old
@@ -196,17 +188,25 @@ is_text-not fields not_text = by (is_text fields) refl
     by true e = absurd (not_text (AllText-is_text fields e))
     by false e = refl
 
--- an error that is a fault of the file tells of a next record that is not text
-pub records_left-not_text : (old new : Reader (Bor (List ℕ))) (k : ErrorKind) → IsSteady old
-    → ExplainsRead bytes_in old new true k
-    → fault_of_kind k ≡ fault.NotBuilt → StartsWithNoText (records_left old)
-records_left-not_text old new (kind.Io e) steady x f = cc
-records_left-not_text old new kind.OutOfMemory steady x f = cc
-records_left-not_text old new (kind.UnequalLengths pos expected len)
-    steady x f = let a = x.0 in let b = steady.flexible in cc
-records_left-not_text old new (kind.Utf8 pos err) steady x f =
+-- an error that tells of text that is not UTF-8 tells of a next record that is not text
+pub records_left-not_text : (old new : Reader (Bor (List ℕ))) (pos : _) (err : _) → IsSteady old
+    → ExplainsRead bytes_in old new true (kind.Utf8 pos err)
+    → StartsWithNoText (records_left old)
+records_left-not_text old new pos err steady x =
     let (reads_text, fields, took, not_text) = x in
     let (rest, left) = records_left-took old new fields steady took in
     (fields, rest, left, is_text-not fields not_text)
-records_left-not_text old new (kind.Serialize why) steady x f = absurd x
-records_left-not_text old new (kind.Deserialize pos err) steady x f = absurd x
+
+-- one record passed over, and then others
+pub drop-records_left : (n m : ℕ) (old new : Reader (Bor (List ℕ))) (fields : Record) → m ≡ n + 1 → IsSteady old
+    → ReadRecord bytes_in old new true fields
+    → drop m (records_left old) ≡ drop n (records_left new)
+drop-records_left n m old new fields more steady r =
+    let one : m ≡ suc n = omega arith in
+    rw (records_left-found old new fields steady r, one) refl
+
+-- nothing is left where the reader finds nothing
+pub drop-records_left-none : (n : ℕ) (old new : Reader (Bor (List ℕ))) (fields : Record) → IsSteady old
+    → ReadRecord bytes_in old new false fields
+    → drop n (records_left old) ≡ []
+drop-records_left-none n old new fields steady r = rw (records_left-none old new fields steady r) (drop-nil n)

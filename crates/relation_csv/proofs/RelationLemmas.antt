@@ -1,34 +1,39 @@
 -- The relation of a file, by its header and its rows.
-use Rattle.std.proofs.Common.{◌≡◌, ℕ, Some, None, List, [], ◌∷◌, refl}
+use Rattle.std.proofs.Common.{◌≡◌, ℕ, false, Result, Ok, Err, List, [], ◌∷◌, drop, refl, ap}
 use Rattle.rel_base.specs.declared.relations.Column.{Column}
 use Rattle.rel_base.specs.declared.values.Value.{Value}
-use Rattle.relation_csv.specs.Files.{Record, records_of_bytes, relation_of_bytes, rows_of_records, schema_of_record}
-use Rattle.relation_csv.specs.RecordsLeft.{StartsWithNoText}
+use Rattle.relation_csv.specs.declared.faults.RelFault.{RelFault}
+use Rattle.relation_csv.specs.declared.faults.RelFault.TheVariants as fault
+use Rattle.relation_csv.specs.Files.{Record, is_text, records_of_bytes, relation_of_bytes, relation_of_rows, relation_with, rows_of_records, schema_of_record}
 
 module _ (bytes : List ℕ) where
-  pub relation_of_bytes-no_record : records_of_bytes bytes ≡ [] → relation_of_bytes bytes ≡ None
+  pub relation_of_bytes-no_record : records_of_bytes bytes ≡ [] → relation_of_bytes bytes ≡ Err fault.NoHeader
   unfolding relation_of_bytes
   relation_of_bytes-no_record none = rw none refl
 
-  pub relation_of_bytes-no_schema : (header : Record) (others : List Record)
-      → records_of_bytes bytes ≡ header ∷ others → schema_of_record header ≡ None
-      → relation_of_bytes bytes ≡ None
+  pub relation_of_bytes-no_schema : (header : Record) (others : List Record) (why : RelFault)
+      → records_of_bytes bytes ≡ header ∷ others → schema_of_record header ≡ Err why
+      → relation_of_bytes bytes ≡ Err why
   unfolding relation_of_bytes
-  relation_of_bytes-no_schema header others all none = rw (all, none) refl
+  relation_of_bytes-no_schema header others why all none = rw (all, none) refl
 
-  pub relation_of_bytes-no_text : StartsWithNoText (records_of_bytes bytes) → relation_of_bytes bytes ≡ None
-  relation_of_bytes-no_text (header, others, all, no_text) = relation_of_bytes-no_schema header others all
-      (rw no_text refl)
-
-  pub relation_of_bytes-no_rows : (header : Record) (others : List Record) (schema : List Column)
-      → records_of_bytes bytes ≡ header ∷ others
-      → schema_of_record header ≡ Some schema → rows_of_records schema others ≡ None → relation_of_bytes bytes ≡ None
+  pub relation_of_bytes-rows : (header : Record) (others : List Record) (schema : List Column)
+      → records_of_bytes bytes ≡ header ∷ others → schema_of_record header ≡ Ok schema
+      → relation_of_bytes bytes ≡ relation_of_rows schema (rows_of_records schema others)
   unfolding relation_of_bytes
-  relation_of_bytes-no_rows header others schema all named none = rw (all, named, none) refl
+  relation_of_bytes-rows header others schema all named = rw (all, named) refl
 
-  pub relation_of_bytes-Some : (header : Record) (others : List Record) (schema : List Column)
-      (rows : List (List Value)) → records_of_bytes bytes ≡ header ∷ others
-      → schema_of_record header ≡ Some schema → rows_of_records schema others ≡ Some rows
-      → relation_of_bytes bytes ≡ Some (record { schema = schema; rows = rows })
-  unfolding relation_of_bytes
-  relation_of_bytes-Some header others schema rows all named read = rw (all, named, read) refl
+  pub relation_with-rows : (schema : List Column) (skip : ℕ) (left : List Record)
+      → drop skip (records_of_bytes bytes) ≡ left
+      → relation_with bytes schema skip ≡ relation_of_rows schema (rows_of_records schema left)
+  unfolding relation_with
+  relation_with-rows schema skip left e = rw e refl
+
+-- the rows decide the relation
+pub relation_of_rows-Ok : (schema : List Column) (rows : List (List Value)) (r : Result (List (List Value)) RelFault)
+    → r ≡ Ok rows → relation_of_rows schema r ≡ Ok (record { schema = schema; rows = rows })
+relation_of_rows-Ok schema rows r e = rw e refl
+
+pub relation_of_rows-Err : (schema : List Column) (why : RelFault) (r : Result (List (List Value)) RelFault)
+    → r ≡ Err why → relation_of_rows schema r ≡ Err why
+relation_of_rows-Err schema why r e = rw e refl

@@ -1,10 +1,10 @@
--- What is written of a relation of ints is read back.
-use Rattle.std.proofs.Common.{◌≡◌, ◌∙◌, ℕ, suc, ◌^◌, ◌<◌, true, ℤ, pos, negsuc, neg_ℤ, codes, Some, option_map, List, [], ◌∷◌, ◌++◌, length, map, zip, refl, ap, append_assoc, arith}
+-- What is written of a relation is read back.
+use Rattle.std.proofs.Common.{◌≡◌, ◌∙◌, ℕ, suc, ◌+◌, ◌^◌, ◌<◌, ◌≤◌, Bool, true, false, ℤ, pos, negsuc, neg_ℤ, codes, Some, Ok, List, [], ◌∷◌, ◌++◌, length, map, zip, refl, ap, append_assoc, arith}
 use Rattle.std.specs.Prelude.{All, flat_map, if◌then◌else◌}
 use Rattle.std.specs.Fmt.{decimal, signed_decimal}
-use Rattle.std.specs.List.{list_all}
+use Rattle.std.specs.List.{list_all, list_any}
 use Rattle.std.specs.Str.{all_ascii_digits, is_utf8}
-use Rattle.std.proofs.lemmas.Bool.{and_parts, le-leb, ltb-true, ne_eqb}
+use Rattle.std.proofs.lemmas.Bool.{and_parts, ltb-true, ne_eqb}
 use Rattle.std.proofs.lemmas.Fmt.{IsAscii-decimal, decimal_nonempty, digits_decimal, digits_value-decimal}
 use Rattle.std.proofs.lemmas.List.{length-map}
 use Rattle.std.proofs.lemmas.Str.{IsUtf8-append, IsUtf8-from_ascii, IsUtf8-from_is_utf8, is_utf8-from_IsUtf8}
@@ -21,21 +21,21 @@ use Rattle.rel_base.specs.declared.values.ColType.{ColType}
 use Rattle.rel_base.specs.declared.values.ColType.TheVariants as kind
 use Rattle.rel_base.specs.declared.relations.Column.{Column}
 use Rattle.rel_base.specs.Relations.{HasTypes, RelationState, fits_schema, same_type, type_of}
-use Rattle.relation_csv.specs.declared.files.TheConstants.{MOST_ROWS}
-use Rattle.relation_csv.specs.Fields.{column_of_field, int_of_field, signed_number, value_of_field}
+use Rattle.rel_base.specs.Limits.{most_rows}
+use Rattle.relation_csv.specs.Fields.{bool_of_field, column_of_field, int_of_field, is_colon, signed_number, type_of_name, value_of_field}
 use Rattle.rel_base.specs.Values.{in_64_bits}
-use Rattle.rel_base.specs.Each.{each_or_none}
+use Rattle.relation_csv.specs.Numbered.{each_numbered}
 use Rattle.relation_csv.specs.Files.{Record, is_text, records_of_bytes, relation_of_bytes, row_of_record, value_under}
-use Rattle.relation_csv.specs.RecordsLeft.{records_after}
+use Rattle.relation_csv.specs.inner.RecordsLeft.{records_after}
 use Rattle.relation_csv.specs.RecordTexts.{header_field, header_record, row_record, type_name, value_field}
-use Rattle.relation_csv.specs.RoundTrip.{IsIntRelation, file_text, is_held, is_int_column}
-use Rattle.relation_csv.proofs.ColumnLemmas.{SplitsAtLastColon-written, column_of_field-Some}
+use Rattle.relation_csv.specs.RoundTrip.{FitsFile, file_text, has_text_name, is_held}
+use Rattle.relation_csv.proofs.ColumnLemmas.{SplitsAtLastColon-written, column_of_field-Ok}
 use Rattle.relation_csv.proofs.DecimalLemmas.{numerals}
 use Rattle.relation_csv.proofs.MarkLemmas.{strip_bom-field}
 use Rattle.relation_csv.proofs.OnLiterals.{files_on_literals}
-use Rattle.relation_csv.proofs.RelationLemmas.{relation_of_bytes-Some}
-use Rattle.relation_csv.proofs.RowLemmas.{row_of_record-Some}
-use Rattle.relation_csv.proofs.SchemaLemmas.{schema_of_record-Some}
+use Rattle.relation_csv.proofs.RelationLemmas.{relation_of_bytes-rows, relation_of_rows-Ok}
+use Rattle.relation_csv.proofs.RowLemmas.{row_of_record-values}
+use Rattle.relation_csv.proofs.SchemaLemmas.{schema_of_record-columns}
 use Rattle.relation_csv.proofs.RecordsLeftLemmas.{records_after-Some, records_after-None}
 
 -- ---- ints
@@ -83,80 +83,104 @@ colon_is_text : is_utf8 (codes ":") ≡ true
 unfolding files_on_literals
 colon_is_text = refl
 
-int_is_text : is_utf8 (codes "int") ≡ true
+type_is_text : (k : ColType) → is_utf8 (type_name k) ≡ true
 unfolding files_on_literals
-int_is_text = refl
+type_is_text kind.Int = refl
+type_is_text kind.Str = refl
+type_is_text kind.Bool = refl
+
+truth_is_text : (b : Bool) → is_utf8 (if b then codes "true" else codes "false") ≡ true
+unfolding files_on_literals
+truth_is_text true = refl
+truth_is_text false = refl
 
 is_utf8-append : (xs ys : List ℕ) → is_utf8 xs ≡ true → is_utf8 ys ≡ true → is_utf8 (xs ++ ys) ≡ true
 is_utf8-append xs ys a b = is_utf8-from_IsUtf8 (xs ++ ys)
     (IsUtf8-append xs ys (IsUtf8-from_is_utf8 xs a) (IsUtf8-from_is_utf8 ys b))
 
--- the field of an int column is read as that column, and is text
-int_column-written : (name : List ℕ) (k : ColType) → same_type k kind.Int ≡ true → is_utf8 name ≡ true
-    → (column_of_field (header_field (record { name = name; kind = k })) ≡ Some (record { name = name; kind = k }))
-    × (is_utf8 (header_field (record { name = name; kind = k })) ≡ true)
-int_column-written name kind.Int same text =
-    let whole : (name ++ codes ":") ++ codes "int" ≡ name ++ 58 ∷ codes "int" = append_assoc name (codes ":")
-    (codes "int") in (
-      ap column_of_field whole ∙ column_of_field-Some (name ++ 58 ∷ codes "int") name (codes "int") kind.Int
-          (SplitsAtLastColon-written name (codes "int") refl) refl,
-      is_utf8-append (name ++ codes ":") (codes "int") (is_utf8-append name (codes ":") text colon_is_text) int_is_text,
-    )
-int_column-written name kind.Str same text = cc
-int_column-written name kind.Bool same text = cc
+-- the name of a type has no colon, and names that type
+type_name_is_clear : (k : ColType) → list_any is_colon (type_name k) ≡ false
+type_name_is_clear kind.Int = refl
+type_name_is_clear kind.Str = refl
+type_name_is_clear kind.Bool = refl
 
-header_written : (schema : List Column) → list_all is_int_column schema ≡ true
-    → (each_or_none column_of_field (map header_field schema) ≡ Some schema) × (is_text (map header_field schema) ≡ true)
-header_written [] all = (refl, refl)
-header_written (c ∷ cs) all =
-    let (mine, others) = and_parts (is_int_column c) (list_all is_int_column cs) all in
-    let (same, text) = and_parts (same_type c.kind kind.Int) (is_utf8 c.name) mine in
-    let (column, utf8) = int_column-written c.name c.kind same text in
-    let (columns, texts) = header_written cs others in
+type_of_name-type_name : (k : ColType) → Some k ≡ type_of_name (type_name k)
+unfolding files_on_literals
+type_of_name-type_name kind.Int = refl
+type_of_name-type_name kind.Str = refl
+type_of_name-type_name kind.Bool = refl
+
+-- a column's field is read as that column, and is text
+column_written : (number : ℕ) (c : Column) → is_utf8 c.name ≡ true
+    → (column_of_field number (header_field c) ≡ Ok c) × (is_utf8 (header_field c) ≡ true)
+column_written number c text =
+    let name = c.name in
+    let k = c.kind in
+    let whole : (name ++ codes ":") ++ type_name k ≡ name ++ 58 ∷ type_name k = append_assoc name (codes ":") (type_name k) in (
+      ap (column_of_field number) whole ∙ column_of_field-Ok number (name ++ 58 ∷ type_name k) name (type_name k) k
+          (SplitsAtLastColon-written name (type_name k) (type_name_is_clear k)) (type_of_name-type_name k),
+      is_utf8-append (name ++ codes ":") (type_name k) (is_utf8-append name (codes ":") text colon_is_text) (type_is_text k),
+    )
+
+header_written : (n : ℕ) (schema : List Column) → list_all has_text_name schema ≡ true
+    → (each_numbered column_of_field n (map header_field schema) ≡ Ok schema) × (is_text (map header_field schema) ≡ true)
+header_written n [] all = (refl, refl)
+header_written n (c ∷ cs) all =
+    let (text, others) = and_parts (is_utf8 c.name) (list_all has_text_name cs) all in
+    let (column, utf8) = column_written n c text in
+    let (columns, texts) = header_written (n + 1) cs others in
     (rw (column, columns) refl, rw (utf8, texts) refl)
 
 -- ---- the rows
 
--- the field of a value is read as that value under a column of ints, and is text
-value_written : (k : ColType) (v : Value) → same_type k kind.Int ≡ true → same_type k (type_of v) ≡ true
-    → is_held v ≡ true
-    → (value_of_field k (value_field v) ≡ Some v) × (is_utf8 (value_field v) ≡ true)
-value_written kind.Int (variant.Int n) int same
-    held = (ap (option_map variant.Int) (int_of_field-signed_decimal n held), is_utf8-signed_decimal n held)
-value_written kind.Int (variant.Str s) int same held = cc
-value_written kind.Int (variant.Bool b) int same held = cc
-value_written kind.Str v int same held = cc
-value_written kind.Bool v int same held = cc
+bool_of_field-written : (b : Bool) → bool_of_field (if b then codes "true" else codes "false") ≡ Some b
+unfolding files_on_literals
+bool_of_field-written true = refl
+bool_of_field-written false = refl
+
+-- the field of a value is read as that value under a column of its type, and is text
+value_written : (nth column : ℕ) (k : ColType) (v : Value) → same_type k (type_of v) ≡ true → is_held v ≡ true
+    → (value_of_field nth column k (value_field v) ≡ Ok v) × (is_utf8 (value_field v) ≡ true)
+value_written nth column kind.Int (variant.Int n) same held =
+    (rw (int_of_field-signed_decimal n held) refl, is_utf8-signed_decimal n held)
+value_written nth column kind.Int (variant.Str s) same held = cc
+value_written nth column kind.Int (variant.Bool b) same held = cc
+value_written nth column kind.Str (variant.Int n) same held = cc
+value_written nth column kind.Str (variant.Str s) same held = (refl, held)
+value_written nth column kind.Str (variant.Bool b) same held = cc
+value_written nth column kind.Bool (variant.Int n) same held = cc
+value_written nth column kind.Bool (variant.Str s) same held = cc
+value_written nth column kind.Bool (variant.Bool b) same held = (rw (bool_of_field-written b) refl, truth_is_text b)
 
 -- the fields of a row
-record IsWritten (schema : List Column) (row : List Value) : Type 0 where
-  values : each_or_none value_under (zip schema (map value_field row)) ≡ Some row
+record IsWritten (nth column : ℕ) (schema : List Column) (row : List Value) : Type 0 where
+  values : each_numbered (value_under nth) column (zip schema (map value_field row)) ≡ Ok row
   text : is_text (map value_field row) ≡ true
   size : length (map value_field row) ≡ length schema
 
-row_fields_written : (schema : List Column) (row : List Value) → list_all is_int_column schema ≡ true
-    → fits_schema schema row ≡ true → list_all is_held row ≡ true → IsWritten schema row
-row_fields_written [] [] ints typed held = record { values = refl; text = refl; size = refl }
-row_fields_written [] (v ∷ vs) ints typed held = cc
-row_fields_written (c ∷ cs) [] ints typed held = cc
-row_fields_written (c ∷ cs) (v ∷ vs) ints typed held =
-    let (int, others) = and_parts (is_int_column c) (list_all is_int_column cs) ints in
+row_fields_written : (nth column : ℕ) (schema : List Column) (row : List Value)
+    → fits_schema schema row ≡ true → list_all is_held row ≡ true → IsWritten nth column schema row
+row_fields_written nth column [] [] typed held = record { values = refl; text = refl; size = refl }
+row_fields_written nth column [] (v ∷ vs) typed held = cc
+row_fields_written nth column (c ∷ cs) [] typed held = cc
+row_fields_written nth column (c ∷ cs) (v ∷ vs) typed held =
     let (same, types) = and_parts (same_type c.kind (type_of v)) (fits_schema cs vs) typed in
     let (mine, rest) = and_parts (is_held v) (list_all is_held vs) held in
-    let (value, utf8) = value_written c.kind v (and_parts (same_type c.kind kind.Int) (is_utf8 c.name) int).0 same mine in
-    let more = row_fields_written cs vs others types rest in
+    let (value, utf8) = value_written nth column c.kind v same mine in
+    let more = row_fields_written nth (column + 1) cs vs types rest in
     record { values = rw (value, more.values) refl; text = rw (utf8, more.text) refl; size = ap suc more.size }
 
-rows_written : (schema : List Column) (rows : List (List Value)) → list_all is_int_column schema ≡ true
+rows_written : (n : ℕ) (schema : List Column) (rows : List (List Value)) → n + length rows ≤ most_rows + 1
     → All (HasTypes schema) rows → list_all (list_all is_held) rows ≡ true
-    → each_or_none (row_of_record schema) (map (map value_field) rows) ≡ Some rows
-rows_written schema [] ints typed held = refl
-rows_written schema (row ∷ rows) ints typed held =
+    → each_numbered (row_of_record schema) n (map (map value_field) rows) ≡ Ok rows
+rows_written n schema [] few typed held = refl
+rows_written n schema (row ∷ rows) few typed held =
     let (mine, others) = and_parts (list_all is_held row) (list_all (list_all is_held) rows) held in
-    let written = row_fields_written schema row ints (typed 0 row (omega arith)) mine in
+    let written = row_fields_written n 1 schema row (typed 0 row (omega arith)) mine in
     rw (
-      row_of_record-Some schema (map value_field row) row written.text written.size written.values,
-      rows_written schema rows ints (λ k d low. typed (suc k) d (omega arith)) others,
+      row_of_record-values schema n (map value_field row) (omega arith) written.text written.size,
+      written.values,
+      rows_written (n + 1) schema rows (omega arith) (λ k d low. typed (suc k) d (omega arith)) others,
     ) refl
 
 -- ---- the records
@@ -221,24 +245,22 @@ records_of_bytes-file_text c cs rows unmarked typed =
 
 -- what is written of columns and rows is read back
 relation_of_bytes-written : (schema : List Column) (rows : List (List Value))
-    → IsIntRelation (record { schema = schema; rows = rows })
-    → relation_of_bytes (file_text (record { schema = schema; rows = rows })) ≡ Some
+    → FitsFile (record { schema = schema; rows = rows })
+    → relation_of_bytes (file_text (record { schema = schema; rows = rows })) ≡ Ok
     (record { schema = schema; rows = rows })
 relation_of_bytes-written [] rows h = let some = h.some_column in absurd (omega arith)
 relation_of_bytes-written (c ∷ cs) rows h =
-    let (columns, text) = header_written (c ∷ cs) h.int_columns in
+    let (columns, text) = header_written 1 (c ∷ cs) h.text_names in
     let columns_size = length-map (c ∷ cs) header_field in
-    let rows_size = length-map rows (map value_field) in
     let few_columns = h.few_columns in
     let few_rows = h.few_rows in
-    relation_of_bytes-Some (file_text (record { schema = c ∷ cs; rows = rows })) (map header_field (c ∷ cs))
-    (map (map value_field) rows) (c ∷ cs) rows
+    relation_of_bytes-rows (file_text (record { schema = c ∷ cs; rows = rows })) (map header_field (c ∷ cs))
+    (map (map value_field) rows) (c ∷ cs)
     (records_of_bytes-file_text c cs rows h.unmarked h.typed)
-    (schema_of_record-Some (map header_field (c ∷ cs)) (c ∷ cs) text (omega arith) columns)
-    (rw (le-leb (length (map (map value_field) rows)) MOST_ROWS (omega arith))
-    (rows_written (c ∷ cs) rows h.int_columns h.typed h.held))
+    (schema_of_record-columns (map header_field (c ∷ cs)) text (omega arith) ∙ columns)
+    ∙ relation_of_rows-Ok (c ∷ cs) rows _ (rows_written 1 (c ∷ cs) rows (omega arith) h.typed h.held)
 
 -- the same of a relation
-pub relation_of_bytes-file_text : (relation : RelationState) → IsIntRelation relation
-    → relation_of_bytes (file_text relation) ≡ Some relation
+pub relation_of_bytes-file_text : (relation : RelationState) → FitsFile relation
+    → relation_of_bytes (file_text relation) ≡ Ok relation
 relation_of_bytes-file_text relation h = relation_of_bytes-written relation.schema relation.rows h

@@ -1,22 +1,26 @@
--- The row of a record, and when there is none.
-use Rattle.std.proofs.Common.{◌≡◌, ◌&&◌, ◌≢◌, eqb, true, Some, None, List, length, zip, refl}
-use Rattle.std.proofs.lemmas.Bool.{eq-eqb, ne_eqb}
+-- The row of a record, or its fault.
+use Rattle.std.proofs.Common.{◌≡◌, ◌≢◌, ℕ, ◌<◌, ◌≤◌, true, false, Err, List, length, zip, refl}
+use Rattle.std.proofs.lemmas.Bool.{eq-eqb, ne_eqb, le-ltb, lt-ltb}
+use Rattle.rel_base.specs.Limits.{most_rows}
 use Rattle.rel_base.specs.declared.relations.Column.{Column}
-use Rattle.rel_base.specs.declared.values.Value.{Value}
-use Rattle.rel_base.specs.Each.{each_or_none}
+use Rattle.relation_csv.specs.declared.faults.RelFault.TheVariants as fault
 use Rattle.relation_csv.specs.Files.{Record, is_text, row_of_record, value_under}
-use Rattle.relation_csv.proofs.SchemaLemmas.{cond-None}
+use Rattle.relation_csv.specs.Numbered.{each_numbered}
 
-pub row_of_record-fault : (schema : List Column) (fields : Record)
-    → each_or_none value_under (zip schema fields) ≡ None → row_of_record schema fields ≡ None
-row_of_record-fault schema fields e = cond-None (is_text fields && eqb (length fields) (length schema))
-    (each_or_none value_under (zip schema fields)) e
+module _ (schema : List Column) (nth : ℕ) (fields : Record) where
+  pub row_of_record-too_many : most_rows < nth → row_of_record schema nth fields ≡ Err fault.TooManyRows
+  row_of_record-too_many many = rw (lt-ltb most_rows nth many) refl
 
-pub row_of_record-other_length : (schema : List Column) (fields : Record) → is_text fields ≡ true
-    → length fields ≢ length schema → row_of_record schema fields ≡ None
-row_of_record-other_length schema fields text other = rw (text, ne_eqb (length fields) (length schema) other) refl
+  pub row_of_record-not_text : nth ≤ most_rows → is_text fields ≡ false
+      → row_of_record schema nth fields ≡ Err (fault.NotText nth)
+  row_of_record-not_text few not_text = rw (le-ltb most_rows nth few, not_text) refl
 
-pub row_of_record-Some : (schema : List Column) (fields : Record) (row : List Value) → is_text fields ≡ true
-    → length fields ≡ length schema
-    → each_or_none value_under (zip schema fields) ≡ Some row → row_of_record schema fields ≡ Some row
-row_of_record-Some schema fields row text same e = rw (text, eq-eqb (length fields) (length schema) same) e
+  pub row_of_record-field_count : nth ≤ most_rows → is_text fields ≡ true → length fields ≢ length schema
+      → row_of_record schema nth fields ≡ Err (fault.FieldCount nth)
+  row_of_record-field_count few text other =
+      rw (le-ltb most_rows nth few, text, ne_eqb (length fields) (length schema) other) refl
+
+  pub row_of_record-values : nth ≤ most_rows → is_text fields ≡ true → length fields ≡ length schema
+      → row_of_record schema nth fields ≡ each_numbered (value_under nth) 1 (zip schema fields)
+  row_of_record-values few text same =
+      rw (le-ltb most_rows nth few, text, eq-eqb (length fields) (length schema) same) refl

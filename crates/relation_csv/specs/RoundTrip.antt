@@ -1,17 +1,16 @@
 -- What is written of a relation is read back.
 --
 --   file_text r         the file of relation r: its header, and then its rows
---   IsIntRelation r     a file of ints can hold relation r
-use Rattle.std.specs.Prelude.{◌≡◌, ◌<◌, ◌≤◌, ℕ, Bool, true, ◌&&◌, All, IsTrue, List, [], ◌∷◌, ◌++◌, length, flat_map}
+--   FitsFile r          a file can hold relation r
+use Rattle.std.specs.Prelude.{◌≡◌, ◌<◌, ◌≤◌, ℕ, Bool, true, All, IsTrue, List, [], ◌∷◌, ◌++◌, length, flat_map}
 use Rattle.std.specs.List.{list_all}
 use Rattle.std.specs.Str.{is_utf8}
 use Rattle.csv.specs.Reading.{strip_bom}
 use Rattle.rel_base.specs.declared.values.Value.{Value}
 use Rattle.rel_base.specs.declared.values.Value.TheVariants as variant
-use Rattle.rel_base.specs.declared.values.ColType.TheVariants as kind
 use Rattle.rel_base.specs.declared.relations.Column.{Column}
-use Rattle.rel_base.specs.Relations.{HasTypes, RelationState, same_type}
-use Rattle.relation_csv.specs.declared.files.TheConstants.{MOST_COLUMNS, MOST_ROWS}
+use Rattle.rel_base.specs.Relations.{HasTypes, RelationState}
+use Rattle.rel_base.specs.Limits.{most_columns, most_rows}
 use Rattle.rel_base.specs.Values.{in_64_bits}
 use Rattle.relation_csv.specs.RecordTexts.{header_record, row_record}
 
@@ -19,9 +18,9 @@ use Rattle.relation_csv.specs.RecordTexts.{header_record, row_record}
 abbrev pub file_text : RelationState → List ℕ
 file_text relation = header_record relation.schema ++ flat_map row_record relation.rows
 
--- whether a column is one of ints, with a name that is text
-abbrev pub is_int_column : Column → Bool
-is_int_column column = same_type column.kind kind.Int && is_utf8 column.name
+-- whether the name of a column is text
+abbrev pub has_text_name : Column → Bool
+has_text_name column = is_utf8 column.name
 
 -- whether a program holds such a value: a number in 64 bits, text, or a truth value
 abbrev pub is_held : Value → Bool
@@ -34,12 +33,12 @@ abbrev pub StartsUnmarked : List Column → Type 0
 StartsUnmarked [] = Unit {0}
 StartsUnmarked (first ∷ rest) = strip_bom first.name ≡ first.name
 
--- a relation of ints that is within the limits of a file
-pub record IsIntRelation (relation : RelationState) : Type 0 where
+-- a relation that is within the limits of a file
+pub record FitsFile (relation : RelationState) : Type 0 where
   pub some_column : 0 < length relation.schema
-  pub few_columns : length relation.schema ≤ MOST_COLUMNS
-  pub few_rows : length relation.rows ≤ MOST_ROWS
-  pub int_columns : IsTrue (list_all is_int_column relation.schema)
+  pub few_columns : length relation.schema ≤ most_columns
+  pub few_rows : length relation.rows ≤ most_rows
+  pub text_names : IsTrue (list_all has_text_name relation.schema)
   pub typed : All (HasTypes relation.schema) relation.rows
   pub held : IsTrue (list_all (list_all is_held) relation.rows)
   pub unmarked : StartsUnmarked relation.schema

@@ -1,12 +1,13 @@
 //! Fields: reads the columns of a header and the values of a row.
-ghost use Rattle.std.specs.Prelude.{◌≡◌, true};
+ghost use Rattle.std.specs.Prelude.{◌≡◌, ◌≤◌, true};
+ghost use Rattle.rel_base.specs.Limits.{most_rows};
 ghost use Rattle.csv.specs.Records.{fields_of};
-ghost use Rattle.relation_csv.specs.Fields.{column_of_field, int_of_field, type_of_name, value_of_field};
+ghost use Rattle.relation_csv.specs.Fields.{bool_of_field, column_of_field, int_of_field, type_of_name, value_of_field};
 ghost use Rattle.relation_csv.specs.Files.{IsReadAs, is_text, row_of_record, schema_of_record};
 
-use crate::{MOST_COLUMNS, RelFault};
+use crate::RelFault;
 use csv::StringRecord;
-use rel_base::{ColType, Column, Row, Schema, Text, Value};
+use rel_base::{ColType, Column, MOST_COLUMNS, Row, Schema, Text, Value};
 use std::alloc::Global;
 
 /// The columns that a header names.
@@ -14,69 +15,99 @@ pub(crate) fn schema_of(alloc: Global, header: &StringRecord) -> Result<Schema, 
     requires { is_text (fields_of header.now) ≡ true }
     ensures { IsReadAs result (schema_of_record (fields_of header.now)) }
 {
-    if header.len() > MOST_COLUMNS {
-        return Err(RelFault::NotBuilt);
+    if header.len() > MOST_COLUMNS as usize {
+        return Err(RelFault::TooManyColumns);
     }
     let mut schema = Schema::new(alloc);
     for field in header {
-        let column = column_of(alloc, field)?;
+        let column = column_of(alloc, field, schema.len() + 1)?;
         schema.push(column)?;
     }
     Ok(schema)
 }
 
-/// The row that the fields of a record write.
-pub(crate) fn row_of(alloc: Global, schema: &Schema, fields: &StringRecord) -> Result<Row, RelFault>
-    requires { is_text (fields_of fields.now) ≡ true }
-    ensures { IsReadAs result (row_of_record schema.now (fields_of fields.now)) }
+/// The row that the fields of record number `nth` write.
+pub(crate) fn row_of(
+    alloc: Global,
+    schema: &Schema,
+    nth: u32,
+    fields: &StringRecord,
+) -> Result<Row, RelFault>
+    requires nth { nth ≤ most_rows }
+    requires text { is_text (fields_of fields.now) ≡ true }
+    ensures { IsReadAs result (row_of_record schema.now nth (fields_of fields.now)) }
 {
     if fields.len() != schema.len() as usize {
-        return Err(RelFault::NotBuilt);
+        return Err(RelFault::FieldCount { nth });
     }
     let mut row = Row::new(alloc);
     for (column, field) in schema.as_slice().iter().zip(fields) {
-        let value = value_of(column.kind, field)?;
+        let value = value_of(alloc, column.kind, field, nth, row.len() + 1)?;
         row.push(value)?;
     }
     Ok(row)
 }
 
-/// The column that a header field names.
-fn column_of(alloc: Global, field: &str) -> Result<Column, RelFault>
-    ensures { IsReadAs result (column_of_field field.now) }
+/// The column that header field number `number` names.
+fn column_of(alloc: Global, field: &str, number: u32) -> Result<Column, RelFault>
+    ensures { IsReadAs result (column_of_field number field.now) }
 {
     let Some((name, type_name)) = field.rsplit_once(':') else {
-        return Err(RelFault::NotBuilt);
+        let name = Text::of(alloc, field)?;
+        return Ok(Column {
+            name,
+            kind: ColType::Str,
+        });
     };
     let Some(kind) = type_of(type_name) else {
-        return Err(RelFault::NotBuilt);
+        return Err(RelFault::BadHeader { field: number });
     };
     let name = Text::of(alloc, name)?;
     Ok(Column { name, kind })
 }
 
-/// The type of this name. Only ints are read yet.
+/// The type of this name, in any case.
 fn type_of(name: &str) -> Option<ColType>
     ensures { result ≡ type_of_name name.now }
 {
-    match name {
-        "int" => Some(ColType::Int),
-        _ => None,
+    if name.eq_ignore_ascii_case("int") || name.eq_ignore_ascii_case("long") {
+        Some(ColType::Int)
+    } else if name.eq_ignore_ascii_case("string") {
+        Some(ColType::Str)
+    } else if name.eq_ignore_ascii_case("boolean") {
+        Some(ColType::Bool)
+    } else {
+        None
     }
 }
 
-/// The value of this type that a field writes. Only ints are read yet.
-fn value_of(kind: ColType, field: &str) -> Result<Value, RelFault>
-    ensures { IsReadAs result (value_of_field kind field.now) }
+/// The value of this type that a field writes, which stands in this record and column.
+fn value_of(
+    alloc: Global,
+    kind: ColType,
+    field: &str,
+    nth: u32,
+    column: u32,
+) -> Result<Value, RelFault>
+    ensures { IsReadAs result (value_of_field nth column kind field.now) }
 {
     match kind {
         ColType::Int => {
             let Some(number) = int_of(field) else {
-                return Err(RelFault::NotBuilt);
+                return Err(RelFault::BadInt { nth, column });
             };
             Ok(Value::Int(number))
         }
-        ColType::Str | ColType::Bool => Err(RelFault::NotBuilt),
+        ColType::Str => {
+            let text = Text::of(alloc, field)?;
+            Ok(Value::Str(text))
+        }
+        ColType::Bool => {
+            let Some(truth) = bool_of(field) else {
+                return Err(RelFault::BadBool { nth, column });
+            };
+            Ok(Value::Bool(truth))
+        }
     }
 }
 
@@ -85,4 +116,17 @@ fn int_of(field: &str) -> Option<i64>
     ensures { result ≡ int_of_field field.now }
 {
     field.parse::<i64>().ok()
+}
+
+/// The truth value that a boolean field writes, in any case.
+fn bool_of(field: &str) -> Option<bool>
+    ensures { result ≡ bool_of_field field.now }
+{
+    if field.eq_ignore_ascii_case("true") {
+        Some(true)
+    } else if field.eq_ignore_ascii_case("false") {
+        Some(false)
+    } else {
+        None
+    }
 }

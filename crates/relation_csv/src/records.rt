@@ -1,13 +1,23 @@
 //! Records: reads the records of a file one by one.
-ghost use Rattle.std.specs.Prelude.{◌≡◌, ◌∷◌, [], IfOk, OnOk, Err, true, if◌then◌else◌};
-ghost use Rattle.csv.specs.Reading.{error_kind};
+ghost use Rattle.std.specs.Prelude.{◌≡◌, IfOk, OnOk, drop, true, if◌then◌else◌, []};
 ghost use Rattle.csv.specs.Records.{fields_of};
-ghost use Rattle.relation_csv.specs.Files.{is_text, records_of_bytes};
-ghost use Rattle.relation_csv.specs.RecordsLeft.{IsSteady, StartsWithNoText, fault_of_kind, records_left};
+ghost use Rattle.relation_csv.specs.Files.{records_of_bytes};
+ghost use Rattle.relation_csv.specs.inner.RecordsLeft.{IsNext, IsSteady, records_left};
 
-use crate::RelFault;
-use csv::{Error, ErrorKind, Reader, ReaderBuilder, StringRecord};
+use csv::{ByteRecord, ErrorKind, Reader, ReaderBuilder, StringRecord};
+use rel_base::Memory;
 use std::alloc::Global;
+
+/// What a reader finds next.
+#[derive(Clone, Copy, PartialEq, Eq)]
+pub(crate) enum Next {
+    /// A record of text.
+    Record,
+    /// A record that is not text.
+    NotText,
+    /// No record is left.
+    End,
+}
 
 /// A reader of all records of a file, which may have any lengths.
 pub(crate) fn reader_of(alloc: Global, bytes: &[u8]) -> Reader<&[u8]>
@@ -20,33 +30,46 @@ pub(crate) fn reader_of(alloc: Global, bytes: &[u8]) -> Reader<&[u8]>
         .from_reader(alloc, bytes)
 }
 
-/// Reads the next record, and says whether there was one. A record that is not text is `NotBuilt`.
+/// Reads the next record into `fields`.
+///
+/// A slice is read without fail and records of any lengths are taken, so want of memory is the one other error.
 pub(crate) fn read_next(
     reader: &mut Reader<&[u8]>,
     fields: &mut StringRecord,
-) -> Result<bool, RelFault>
+) -> Result<Next, Memory>
     requires { IsSteady reader.old }
     ensures steady { OnOk result (IsSteady reader.new) }
-    ensures next { IfOk result (λ found. records_left reader.old
-        ≡ (if found then fields_of fields.new ∷ records_left reader.new else [])) }
-    ensures text { OnOk result (is_text (fields_of fields.new) ≡ true) }
-    ensures not_text { (result ≡ Err RelFault.NotBuilt) → StartsWithNoText (records_left reader.old) }
+    ensures next { IfOk result (λ next. IsNext next (records_left reader.old)
+        (fields_of fields.new) (records_left reader.new)) }
 {
     match reader.read_record(fields) {
-        Ok(found) => Ok(found),
-        Err(error) => Err(fault_of(&error)),
+        Ok(true) => Ok(Next::Record),
+        Ok(false) => Ok(Next::End),
+        Err(error) => match error.kind() {
+            ErrorKind::Utf8 { .. } => Ok(Next::NotText),
+            _ => Err(Memory),
+        },
     }
 }
 
-/// What an error of a reader means for the file. A slice is read without fail, so `Io` does not come of one.
-fn fault_of(error: &Error) -> RelFault
-    ensures { result ≡ fault_of_kind (error_kind error.now) }
+/// Passes over so many records, whatever they hold, and says whether all of them were there.
+pub(crate) fn skip_records(
+    alloc: Global,
+    reader: &mut Reader<&[u8]>,
+    count: u64,
+) -> Result<bool, Memory>
+    requires { IsSteady reader.old }
+    ensures steady { IfOk result (λ all. all ≡ true → IsSteady reader.new) }
+    ensures left { IfOk result (λ all. drop count (records_left reader.old)
+        ≡ (if all then records_left reader.new else [])) }
 {
-    match error.kind() {
-        ErrorKind::Io(_) | ErrorKind::OutOfMemory => RelFault::Memory,
-        ErrorKind::Utf8 { .. }
-        | ErrorKind::UnequalLengths { .. }
-        | ErrorKind::Serialize(_)
-        | ErrorKind::Deserialize { .. } => RelFault::NotBuilt,
+    let mut record = ByteRecord::new(alloc);
+    'records: for _ in 0..count {
+        match reader.read_byte_record(&mut record) {
+            Ok(true) => {}
+            Ok(false) => return Ok(false),
+            Err(_) => return Err(Memory),
+        }
     }
+    Ok(true)
 }

@@ -1,45 +1,71 @@
-use Rattle.std.proofs.Common.{◌≡◌, ◌∙◌, sym, ap, arith, None}
+use Rattle.std.proofs.Common.{◌≡◌, ◌≢◌, ◌∙◌, sym, ap, arith}
+use Rattle.relation_csv.specs.declared.faults.RelFault.TheVariants as why
 use Rattle.relation_csv.specs.Files.{relation_of_bytes}
 use Rattle.myria_top.specs.declared.outcomes.Outcome.TheVariants as outcome
-use Rattle.myria_top.specs.declared.outcomes.Part.TheVariants as part
-use Rattle.myria_top.specs.Steps.{goes, refused}
-use Rattle.myria_top.specs.Verdicts.{relation_of}
-use Rattle.myria_top.proofs.ReadingLemmas.{too_long, read_goes, read_refuses, found, found_none}
+use Rattle.rel_base.specs.Keys.{shelf_name_of}
+use Rattle.myria_top.specs.Reading.{AgreesRefused, Counts, HasCause}
+use Rattle.myria_top.specs.Verdicts.{relation_answer, relation_of, relation_step}
+use Rattle.myria_top.proofs.ReadingLemmas.{in_place, in_place_if, too_long, read_goes, read_refuses}
 use Rattle.myria_top.proofs.reading.read_scanned.Goals as goal
-
-pub returns-then-len-gt-MOST_RELATION_BYTES-clause-read : goal.returns-then-len-gt-MOST_RELATION_BYTES-clause-read
-returns-then-len-gt-MOST_RELATION_BYTES-clause-read g c = record {
-  agrees =
-      too_long 67108864 (outcome.NoRelation c.args.key.now) (outcome.NotBuilt part.Relation) relation_of _ _
-      (rw c.in-Ok.ensures at c.in-Ok-fetched.ensures.ok) (omega arith);
-  cause = tt;
-  faults_kept = c.fetched.ensures.faults;
-  misses_kept = c.fetched.ensures.misses;
-}
 
 pub returns-in-Ok-read_relation-clause-read : goal.returns-in-Ok-read_relation-clause-read
 returns-in-Ok-read_relation-clause-read g c = record {
   agrees =
-      read_goes 67108864 (outcome.NoRelation c.args.key.now) (outcome.NotBuilt part.Relation) relation_of _ _ _
+      read_goes 67108864 (outcome.NoRelation c.args.key.now) (outcome.RelTooLong c.args.key.now) (relation_of c.args.key.now) _ _ _
       (rw c.in-Ok.ensures at c.in-Ok-fetched.ensures.ok) (omega arith)
-      (found goes (refused (outcome.NotBuilt part.Relation)) (relation_of_bytes c.in-Ok-fetched.file.items) c.in-Ok-read_relation.relation
-      (sym (ap relation_of_bytes c.deref.ensures.value) ∙ c.in-Ok-read_relation.ensures.relation));
+      (ap (relation_answer c.args.key.now)
+      (sym (ap relation_of_bytes c.deref.ensures.value) ∙ c.in-Ok-read_relation.ensures (λ e. cc)));
   cause = tt;
   faults_kept = c.fetched.ensures.faults;
   misses_kept = c.fetched.ensures.misses;
 }
 
-pub returns-in-Err-NotBuilt-clause-read : goal.returns-in-Err-NotBuilt-clause-read
-returns-in-Err-NotBuilt-clause-read g c =
-    let is = c.in-Err-NotBuilt.field-0-is in
-    let none : relation_of_bytes c.deref.result.now ≡ None = (c.in-Err-NotBuilt.ensures.not_built_exactly (λ e. cc)).0 (cc) in
+pub returns-then-len-gt-MOST_RELATION_BYTES-clause-read : goal.returns-then-len-gt-MOST_RELATION_BYTES-clause-read
+returns-then-len-gt-MOST_RELATION_BYTES-clause-read g c =
+    let key = c.args.key.now in
+    let name = shelf_name_of key in
+    let content = g.F.Shelf.content c.args.shelf.now name in
+    let counts : Counts = record {
+      faults_before = g.F.Shelf.faults c.args.shelf.now;
+      faults_after = g.F.Shelf.faults c.fetched.new.shelf;
+      misses_before = g.F.Shelf.misses c.args.shelf.now;
+      misses_after = g.F.Shelf.misses c.fetched.new.shelf;
+    } in
     record {
       agrees =
-          read_refuses 67108864 (outcome.NoRelation c.args.key.now) (outcome.NotBuilt part.Relation) relation_of _ _ _
+          in_place (AgreesRefused (relation_step key content)) c.too_long.result (outcome.RelTooLong key) c.too_long.ensures
+          (too_long 67108864 (outcome.NoRelation key) (outcome.RelTooLong key) (relation_of key) _ _
+          (rw c.in-Ok.ensures at c.in-Ok-fetched.ensures.ok) (omega arith)) tt;
+      cause =
+          in_place (HasCause counts (λ asked. asked ≡ name)) c.too_long.result (outcome.RelTooLong key) c.too_long.ensures
+          tt tt;
+      faults_kept = c.fetched.ensures.faults;
+      misses_kept = c.fetched.ensures.misses;
+    }
+
+pub returns-clause-read : goal.returns-clause-read
+returns-clause-read g c =
+    let key = c.args.key.now in
+    let name = shelf_name_of key in
+    let fault = c.in-Err-read_relation.fault in
+    let content = g.F.Shelf.content c.args.shelf.now name in
+    let counts : Counts = record {
+      faults_before = g.F.Shelf.faults c.args.shelf.now;
+      faults_after = g.F.Shelf.faults c.fetched.new.shelf;
+      misses_before = g.F.Shelf.misses c.args.shelf.now;
+      misses_after = g.F.Shelf.misses c.fetched.new.shelf;
+    } in
+    record {
+      agrees =
+          in_place_if (AgreesRefused (relation_step key content)) c.bad_relation.result (outcome.BadRelation key fault)
+          (fault ≢ why.Memory) c.bad_relation.ensures
+          (λ other. read_refuses 67108864 (outcome.NoRelation key) (outcome.RelTooLong key) (relation_of key) _ _ _
           (rw c.in-Ok.ensures at c.in-Ok-fetched.ensures.ok) (omega arith)
-          (found_none goes (refused (outcome.NotBuilt part.Relation)) (relation_of_bytes c.in-Ok-fetched.file.items)
-          (sym (ap relation_of_bytes c.deref.ensures.value) ∙ none));
-      cause = tt;
+          (ap (relation_answer key)
+          (sym (ap relation_of_bytes c.deref.ensures.value) ∙ c.in-Err-read_relation.ensures (λ e. other (cc))))) tt;
+      cause =
+          in_place_if (HasCause counts (λ asked. asked ≡ name)) c.bad_relation.result (outcome.BadRelation key fault)
+          (fault ≢ why.Memory) c.bad_relation.ensures (λ other. tt) tt;
       faults_kept = c.fetched.ensures.faults;
       misses_kept = c.fetched.ensures.misses;
     }

@@ -1,49 +1,43 @@
-use Rattle.std.proofs.Common.{Ok, Err, ap}
-use Rattle.relation_csv.specs.Files.{relation_of_bytes}
-use Rattle.relation_csv.proofs.ReadAsLemmas.{IsReadAs-error, IsReadAs-exactly, IsReadAs-part}
-use Rattle.relation_csv.proofs.RelationLemmas.{relation_of_bytes-Some, relation_of_bytes-no_record, relation_of_bytes-no_rows, relation_of_bytes-no_schema, relation_of_bytes-no_text}
+use Rattle.std.proofs.Common.{◌∙◌}
+use Rattle.relation_csv.proofs.ReadAsLemmas.{IsReadAs-Ok, IsReadAs-part}
+use Rattle.relation_csv.proofs.RelationLemmas.{relation_of_bytes-no_record, relation_of_bytes-no_schema, relation_of_bytes-rows, relation_of_rows-Err, relation_of_rows-Ok}
+use Rattle.relation_csv.proofs.SchemaLemmas.{schema_of_record-not_text}
 use Rattle.relation_csv.proofs.TypeLemmas.{HasTypes-rows_of_records}
 use Rattle.relation_csv.proofs.files.read_relation.Goals as goal
 
-pub returns-in_err-read_next-clause-not_built_exactly : goal.returns-in_err-read_next-clause-not_built_exactly
-returns-in_err-read_next-clause-not_built_exactly c =
-    IsReadAs-exactly _ _ (IsReadAs-error _ c.in_err-read_next.field-0.0 (relation_of_bytes c.args.bytes.now)
-    c.from_residual.ensures.1
-    (λ e. relation_of_bytes-no_text c.args.bytes.now
-    (rw c.reader_of-reader.ensures.left at (c.in_err-read_next.ensures.not_text (ap Err e)))))
+pub returns-in-End : goal.returns-in-End
+returns-in-End c = λ short.
+    let none = rw (c.in-End.is, c.reader_of-reader.ensures.left) at c.in_ok-read_next.ensures.next in
+    relation_of_bytes-no_record c.args.bytes.now none
 
-pub returns-then-not-branch-clause-not_built_exactly : goal.returns-then-not-branch-clause-not_built_exactly
-returns-then-not-branch-clause-not_built_exactly c =
-    let none = rw (c.if-not-branch.true, c.reader_of-reader.ensures.left) at c.in_ok-read_next.ensures.next in
-    IsReadAs-exactly _ _ (relation_of_bytes-no_record c.args.bytes.now none)
+pub returns-in-NotText : goal.returns-in-NotText
+returns-in-NotText c = λ short.
+    let (header, others, all, not_text) = rw (c.in-NotText.is, c.reader_of-reader.ensures.left) at
+    c.in_ok-read_next.ensures.next in
+    relation_of_bytes-no_schema c.args.bytes.now header others _ all (schema_of_record-not_text header not_text)
 
-pub returns-in_err-schema-clause-not_built_exactly : goal.returns-in_err-schema-clause-not_built_exactly
-returns-in_err-schema-clause-not_built_exactly c =
-    let all = rw (c.if-not-branch.false, c.reader_of-reader.ensures.left) at c.in_ok-read_next.ensures.next in
-    IsReadAs-exactly _ _ (IsReadAs-part _ c.in_err-schema.field-0.0 _ (relation_of_bytes c.args.bytes.now)
-    c.from_residual-in_err-schema.ensures.1 c.in_err-schema.ensures
-    (λ e. relation_of_bytes-no_schema c.args.bytes.now _ _ all e))
+pub returns-in_err-schema : goal.returns-in_err-schema
+returns-in_err-schema c =
+    let (all, text) = rw (c.in-Record.is, c.reader_of-reader.ensures.left) at c.in_ok-read_next.ensures.next in
+    IsReadAs-part _ c.in_err-schema.field-0.0 _ _ c.from_residual-in_err-schema.ensures.1 c.in_err-schema.ensures
+    (λ e. relation_of_bytes-no_schema c.args.bytes.now _ _ _ all e)
 
-pub returns-in_err-rows-clause-not_built_exactly : goal.returns-in_err-rows-clause-not_built_exactly
-returns-in_err-rows-clause-not_built_exactly c =
-    let all = rw (c.if-not-branch.false, c.reader_of-reader.ensures.left) at c.in_ok-read_next.ensures.next in
-    IsReadAs-exactly _ _ (IsReadAs-part _ c.in_err-rows.field-0.0 _ (relation_of_bytes c.args.bytes.now)
-    c.from_residual-in_err-rows.ensures.1 c.in_err-rows.ensures
-    (λ e. relation_of_bytes-no_rows c.args.bytes.now _ _ c.in_ok-schema.schema all c.in_ok-schema.ensures e))
+pub returns-in_err-rows : goal.returns-in_err-rows
+returns-in_err-rows c =
+    let (all, text) = rw (c.in-Record.is, c.reader_of-reader.ensures.left) at c.in_ok-read_next.ensures.next in
+    IsReadAs-part _ c.in_err-rows.field-0.0 _ _ c.from_residual-in_err-rows.ensures.1 c.in_err-rows.ensures
+    (λ e. relation_of_bytes-rows c.args.bytes.now _ _ c.in_ok-schema.schema all
+    (IsReadAs-Ok _ _ c.in_ok-schema.ensures)
+    ∙ relation_of_rows-Err c.in_ok-schema.schema _ _ e)
 
 pub new-requires : goal.new-requires
-new-requires c = HasTypes-rows_of_records c.in_ok-schema.schema _ c.in_ok-rows.rows c.in_ok-rows.ensures
+new-requires c =
+    HasTypes-rows_of_records c.in_ok-schema.schema _ c.in_ok-rows.rows (IsReadAs-Ok _ _ c.in_ok-rows.ensures)
 
-pub returns-clause-relation : goal.returns-clause-relation
-returns-clause-relation c =
-    let all = rw (c.if-not-branch.false, c.reader_of-reader.ensures.left) at c.in_ok-read_next.ensures.next in
+pub returns : goal.returns
+returns c = λ short.
+    let (all, text) = rw (c.in-Record.is, c.reader_of-reader.ensures.left) at c.in_ok-read_next.ensures.next in
     rw (c.new.ensures.schema, c.new.ensures.rows)
-    (relation_of_bytes-Some c.args.bytes.now _ _ c.in_ok-schema.schema c.in_ok-rows.rows all
-    c.in_ok-schema.ensures c.in_ok-rows.ensures)
-
-pub returns-clause-not_built_exactly : goal.returns-clause-not_built_exactly
-returns-clause-not_built_exactly c =
-    let all = rw (c.if-not-branch.false, c.reader_of-reader.ensures.left) at c.in_ok-read_next.ensures.next in
-    let read = relation_of_bytes-Some c.args.bytes.now _ _ c.in_ok-schema.schema c.in_ok-rows.rows all
-    c.in_ok-schema.ensures c.in_ok-rows.ensures in
-    IsReadAs-exactly (Ok c.new.result) _ (rw (c.new.ensures.schema, c.new.ensures.rows) read)
+    (relation_of_bytes-rows c.args.bytes.now _ _ c.in_ok-schema.schema all
+    (IsReadAs-Ok _ _ c.in_ok-schema.ensures)
+    ∙ relation_of_rows-Ok c.in_ok-schema.schema c.in_ok-rows.rows _ (IsReadAs-Ok _ _ c.in_ok-rows.ensures))

@@ -1,6 +1,6 @@
 -- the rows so far are those of the records that are no longer left
 use Rattle.std.proofs.Common.{length}
-use Rattle.relation_csv.specs.RecordsLeft.{IsSteady, records_left}
+use Rattle.relation_csv.specs.inner.RecordsLeft.{IsSteady, records_left}
 use Rattle.relation_csv.proofs.RowsLemmas.{HasRows}
 use Rattle.relation_csv.proofs.files.rows_of.Given as goal
 

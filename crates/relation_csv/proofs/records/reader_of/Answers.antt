@@ -1,5 +1,5 @@
 use Rattle.std.proofs.Common.{refl}
-use Rattle.relation_csv.specs.RecordsLeft.{records_left}
+use Rattle.relation_csv.specs.inner.RecordsLeft.{records_left}
 use Rattle.relation_csv.proofs.records.reader_of.Goals as goal
 
 pub returns-clause-left : goal.returns-clause-left

@@ -2,8 +2,7 @@
 --
 --   records_left r        the records that reader r has not read yet
 --   IsSteady r            reader r is set up as `records_of_bytes` says, and has not failed
---   fault_of_kind k       what an error of the csv crate means for a file
---   StartsWithNoText rs   the next record is not text
+--   IsNext next rs ..     what a read finds is the first of the records left
 use Rattle.std.specs.Prelude.{◌≡◌, ℕ, ◌+◌, true, false, Option, Some, IsSome, List, [], ◌∷◌, length}
 use Rattle.std.specs.Borrow.{Bor}
 use Rattle.std.specs.Option.{option_map_or}
@@ -11,10 +10,8 @@ use Rattle.csv.specs.Reading.{Ready, default_config, is_flexible, reader_config,
 use Rattle.csv.specs.declared.parser.State.{State}
 use Rattle.csv.specs.declared.reader.Reader.{Reader}
 use Rattle.csv.specs.declared.reader.Trim.TheVariants as trim
-use Rattle.csv.specs.declared.error.ErrorKind.{ErrorKind}
-use Rattle.csv.specs.declared.error.ErrorKind.TheVariants as kind
-use Rattle.relation_csv.specs.declared.faults.RelFault.{RelFault}
-use Rattle.relation_csv.specs.declared.faults.RelFault.TheVariants as fault
+use Rattle.relation_csv.specs.declared.records.Next.{Next}
+use Rattle.relation_csv.specs.declared.records.Next.TheVariants as next
 use Rattle.relation_csv.specs.Files.{Record, is_text}
 
 -- the bytes that a slice has left are its own
@@ -38,16 +35,13 @@ pub record IsSteady (reader : Reader (Bor (List ℕ))) : Type 0 where
   pub ready : Ready reader
   pub source_known : IsSome (source_of bytes_in reader)
 
--- what an error of the csv crate means for a file: want of memory, or a fault of the file
-abbrev pub fault_of_kind : ErrorKind → RelFault
-fault_of_kind (kind.Io e) = fault.Memory
-fault_of_kind kind.OutOfMemory = fault.Memory
-fault_of_kind (kind.Utf8 pos err) = fault.NotBuilt
-fault_of_kind (kind.UnequalLengths pos expected len) = fault.NotBuilt
-fault_of_kind (kind.Serialize why) = fault.NotBuilt
-fault_of_kind (kind.Deserialize pos err) = fault.NotBuilt
-
 -- there is a next record, and it is not text
 abbrev pub StartsWithNoText : List Record → Type 0
 StartsWithNoText left =
     (fields : Record) × (rest : List Record) × (left ≡ fields ∷ rest) × (is_text fields ≡ false)
+
+-- what was found is the first of the records left, with its fields and those behind it, or that none is left
+abbrev pub IsNext : Next → List Record → Record → List Record → Type 0
+IsNext next.Record left fields rest = (left ≡ fields ∷ rest) × (is_text fields ≡ true)
+IsNext next.NotText left fields rest = StartsWithNoText left
+IsNext next.End left fields rest = left ≡ []
