@@ -1,17 +1,18 @@
 -- Worked cases of placement, traffic and plans, computed: a wrong definition does not check. The numbers are those of a program
 -- that was written apart from these definitions. The hash seed is 0.
-use Rattle.std.proofs.Common.{◌≡◌, ℕ, ◌==◌, true, List, [], ◌∷◌, map, length, codes, cond, refl, Some, None}
-use Rattle.std.specs.Prelude.{pos, negsuc}
+use Rattle.std.proofs.Common.{◌≡◌, ℕ, ◌==◌, true, List, [], ◌∷◌, map, filter, length, codes, cond, refl, Some, None}
+use Rattle.std.specs.Prelude.{pos, negsuc, nat_lt}
 use Rattle.rel_base.specs.declared.names.Key.{Key}
 use Rattle.rel_base.specs.declared.relations.Column.{Column}
 use Rattle.rel_base.specs.declared.values.ColType.{ColType}
 use Rattle.rel_base.specs.declared.values.ColType.TheVariants as kind
 use Rattle.rel_base.specs.declared.values.Value.{Value}
 use Rattle.rel_base.specs.declared.values.Value.TheVariants as value
+use Rattle.rel_base.specs.Codes.{code_of}
 use Rattle.rel_base.specs.Keys.{File}
 use Rattle.myrial_ast.specs.declared.operators.AggOp.TheVariants as agg
 use Rattle.myrial_ast.specs.declared.operators.BinOp.TheVariants as op
-use Rattle.myrial_ast.specs.Scalars.{Scalar, Lit, At, Bin}
+use Rattle.myrial_ast.specs.Scalars.{Scalar, Lit, At, Bin, value_at}
 use Rattle.myrial_ast.specs.Combinations.{Row, Rows}
 use Rattle.share_chooser.specs.Load as load
 use Rattle.algebra.specs.declared.notes.Exchange.{Exchange}
@@ -461,3 +462,68 @@ by_statement = record {
 pub traffic-by_statement : traffic_of by_statement fours joined_twice
     ≡ noted 1 exchange.Hc (2 ∷ 6 ∷ []) (1 ∷ 3 ∷ []) ∷ noted 2 exchange.Br (4 ∷ 4 ∷ []) (1 ∷ 3 ∷ []) ∷ []
 traffic-by_statement = refl
+
+-- ---- an arithmetic test cuts what is listed, and not what is sent: .. where r.x = s.x and r.x + s.x > 2
+
+abbrev join_large : CheckedTree
+join_large =
+    alone one_int
+    (Join (joined ((kind.Int ∷ []) ∷ (kind.Int ∷ []) ∷ []) (equal 0 1 ∷ Bin op.Gt (Bin op.Add (At 0) (At 1)) (Lit (value.Int (pos 2))) ∷ []) (At 0 ∷ []))
+    (first_file ∷ second_file ∷ []))
+
+pub traffic-large_by_keys : traffic shuffle_kind.Rs 2 fours join_large ≡ noted 1 (exchange.Rs 2) (4 ∷ 4 ∷ []) (1 ∷ 1 ∷ []) ∷ []
+traffic-large_by_keys = refl
+
+pub parts-large_by_keys : parts shuffle_kind.Rs 2 fours join_large ≡ (singles (3 ∷ []) ∷ singles (2 ∷ []) ∷ []) ∷ []
+parts-large_by_keys = refl
+
+-- ---- a join and then groups: [from D as d, E as e where d.k = e.k emit d.d, sum(d.k * e.v) as s, max(e.v) as m]
+
+abbrev named : List File
+named =
+    file (codes "D") (column (codes "d") kind.Str ∷ column (codes "k") kind.Int ∷ [])
+    ((text (codes "a") ∷ numbers (1 ∷ [])) ∷ (text (codes "b") ∷ numbers (2 ∷ [])) ∷ (text (codes "a") ∷ numbers (2 ∷ [])) ∷ [])
+    ∷ file (codes "E") two_ints (pairs ((1, 10) ∷ (2, 20) ∷ (1, 30) ∷ (2, 40) ∷ (3, 50) ∷ [])) ∷ []
+
+abbrev join_and_group : CheckedTree
+join_and_group =
+    alone (column (codes "d") kind.Str ∷ column (codes "s") kind.Int ∷ column (codes "m") kind.Int ∷ [])
+    (Group (joined ((kind.Str ∷ kind.Int ∷ []) ∷ (kind.Int ∷ kind.Int ∷ []) ∷ []) (equal 1 2 ∷ []) (At 0 ∷ Bin op.Mul (At 1) (At 3) ∷ At 3 ∷ []))
+    (first_file ∷ second_file ∷ []) (None ∷ Some agg.Sum ∷ Some agg.Max ∷ []))
+
+pub traffic-join_and_group : traffic shuffle_kind.Hc 2 named join_and_group
+    ≡ noted 1 exchange.Hc (3 ∷ 5 ∷ []) (2 ∷ 4 ∷ []) ∷ noted 1 exchange.Group (2 ∷ 1 ∷ []) (1 ∷ 1 ∷ []) ∷ []
+unfolding load.comes_before load.load_of
+traffic-join_and_group = refl
+
+-- ---- fewer rows are joined: R = 0, 1, 2, 3 and S = 2, 3, each cut to its rows above 1, which have all candidates
+
+abbrev some_match : List File
+some_match = file (codes "R") one_int (singles (0 ∷ 1 ∷ 2 ∷ 3 ∷ [])) ∷ file (codes "S") one_int (singles (2 ∷ 3 ∷ [])) ∷ []
+
+abbrev above_1 : Rows → Rows
+above_1 rows = filter (λ row. nat_lt 1 (code_of (value_at row 0))) rows
+
+abbrev cut_item : PlacedRelation → PlacedRelation
+cut_item p = record {
+  relation = record { schema = p.relation.schema; rows = above_1 p.relation.rows };
+  parts = map above_1 p.parts;
+}
+
+abbrev cutting : Placing
+cutting = record { workers = 2; seed = 0; joined = λ shape given. map cut_item given; shuffle = λ number. usual_shuffle shuffle_kind.Hc 2 }
+
+pub traffic-cut : traffic_of cutting some_match join_fours ≡ noted 1 exchange.Hc (0 ∷ 4 ∷ []) (0 ∷ 2 ∷ []) ∷ []
+unfolding load.comes_before load.load_of
+traffic-cut = refl
+
+pub traffic-uncut : traffic shuffle_kind.Hc 2 some_match join_fours ≡ noted 1 exchange.Hc (1 ∷ 5 ∷ []) (0 ∷ 2 ∷ []) ∷ []
+unfolding load.comes_before load.load_of
+traffic-uncut = refl
+
+-- the lines of items tell all rows and all kept rows, and the load those that are joined
+pub plan-cut : plan_of cutting local.Tj some_match join_fours
+    ≡ note.Statement 1 plan.From 2 ∷ note.Item 1 4 0 4 ∷ note.Item 2 2 0 2
+    ∷ note.Variable 1 ((1, 0) ∷ (2, 0) ∷ []) (Some 2) ∷ note.Hc local.Tj 2 4 2 ∷ []
+unfolding load.comes_before load.load_of
+plan-cut = refl
