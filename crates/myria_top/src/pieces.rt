@@ -4,7 +4,7 @@ ghost use Rattle.std.specs.Io.KnownBytes.{Appends};
 ghost use Rattle.std.specs.List.{flat_map};
 ghost use Rattle.rel_io.specs.Outside.{Rose, TakesPart};
 
-use rel_base::{Key, Memory, Relation, Row, Schema, Stored};
+use rel_base::{Key, Memory, Relation, Rows, Schema, Stored};
 use rel_io::{Sink, SinkFault, offer};
 use relation_csv::{header_text, row_text};
 use std::alloc::Global;
@@ -49,15 +49,15 @@ impl Pieces {
     fn add_relation(&mut self, alloc: Global, key: &Key, relation: &Relation) -> Result<(), Memory>
         ensures { OnOk result (self.new ≡ self.old ++ relation_text_in_order key.now relation.now) }
     {
-        let rows = relation.rows().as_slice();
-        self.lengths.reserve(rows.len().saturating_add(2))?;
+        let rows = relation.rows();
+        self.lengths.reserve(rows.len() as usize + 2)?;
         self.add_line(alloc, key, rows.len())?;
         self.add_header(relation.schema())?;
         self.add_rows(rows)
     }
 
     /// Adds the line over a stored relation of so many rows.
-    fn add_line(&mut self, alloc: Global, key: &Key, rows: usize) -> Result<(), Memory>
+    fn add_line(&mut self, alloc: Global, key: &Key, rows: u32) -> Result<(), Memory>
         ensures { OnOk result (self.new ≡ self.old ++ store_line key.now rows) }
     {
         let line = format!(in alloc; "-- store {key} {rows} rows\n")?;
@@ -77,7 +77,7 @@ impl Pieces {
     }
 
     /// Adds rows as they stand.
-    fn add_rows(&mut self, rows: &[Row]) -> Result<(), Memory>
+    fn add_rows(&mut self, rows: &Rows) -> Result<(), Memory>
         ensures { OnOk result (self.new ≡ self.old ++ flat_map row_record rows.now) }
     {
         for row in rows {

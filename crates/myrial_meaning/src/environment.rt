@@ -172,7 +172,7 @@ impl<'a> Names<'a> {
         drop(assigned);
         let mut ordered = Stored::new(alloc);
         for (key, mut relation) in stored {
-            relation.sort();
+            relation.sort(alloc)?;
             ordered.push((key, relation))?;
         }
         Ok(ordered)

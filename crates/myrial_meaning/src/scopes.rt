@@ -5,7 +5,7 @@ ghost use Rattle.myrial_meaning.specs.Meaning.{items_of};
 ghost use Rattle.myrial_meaning.specs.Looking.{is_wanted, HasTypedRows};
 
 use myrial_ast::ColRef;
-use rel_base::{ColType, Column, Memory, Relation, Row, Schema, Text};
+use rel_base::{ColType, Column, Memory, Relation, Rows, Schema, Text};
 use std::alloc::Global;
 use std::marker::Model;
 
@@ -14,7 +14,7 @@ use std::marker::Model;
 pub struct Source<'a> {
     alias: &'a Text,
     schema: &'a Schema,
-    rows: &'a [Row],
+    rows: &'a Rows,
 }
 
 impl<'a> Model for Source<'a> {
@@ -38,12 +38,12 @@ impl<'a> Source<'a> {
         Source {
             alias,
             schema: relation.schema(),
-            rows: relation.rows().as_slice(),
+            rows: relation.rows(),
         }
     }
 
     /// The rows, in the order in which they stand.
-    pub fn rows(&self) -> &'a [Row]
+    pub fn rows(&self) -> &'a Rows
         ensures { result.now ≡ self.now.table.rows }
     {
         self.rows

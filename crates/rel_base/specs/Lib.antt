@@ -5,6 +5,8 @@ pub mod Values
 pub mod ValueLaws
 pub mod Codes
 pub mod Bags
+pub mod Picks
 pub mod Relations
 pub mod Keys
 pub mod Faults
+pub mod inner

@@ -8,7 +8,7 @@ use Rattle.std.specs.FinMap.{IsAntisymmetric, int_cmp-IsAntisymmetric, nat_cmp-I
 use Rattle.std.specs.Ordering.{bool_cmp, ordering_then}
 use Rattle.std.proofs.Common.{ap}
 use Rattle.rel_base.specs.declared.values.Value.TheVariants as variant
-use Rattle.rel_base.specs.Values.{value_order, row_order, type_rank, number_of, bytes_of, truth_of}
+use Rattle.rel_base.specs.Values.{value_order, row_order, rows_order, type_rank, number_of, bytes_of, truth_of}
 
 pub value_order_total : IsTotalOrder value_order
 value_order_total =
@@ -18,6 +18,9 @@ value_order_total =
 
 pub row_order_total : IsTotalOrder row_order
 row_order_total = lists_total value_order_total
+
+pub rows_order_total : IsTotalOrder rows_order
+rows_order_total = lists_total row_order_total
 
 bool_cmp-IsAntisymmetric : IsAntisymmetric bool_cmp
 bool_cmp-IsAntisymmetric true true e = refl

@@ -2,6 +2,7 @@
 --
 --   value_order a b    how two values compare
 --   row_order r s      how two rows compare: column by column, and then by their lengths
+--   rows_order rs ss   how two lists of rows compare: row by row, and then by their lengths
 --   in_64_bits n       whether a number is one that an int can hold
 use Rattle.std.specs.Prelude.{ℕ, ◌^◌, ℤ, pos, negsuc, Bool, false, nat_lt, List, []}
 use Rattle.std.specs.declared.cmp.Ordering.{Ordering}
@@ -43,6 +44,10 @@ value_order =
 -- rows compare column by column; a row comes before each longer row that begins with it
 abbrev pub row_order : List Value → List Value → Ordering
 row_order = slice_cmp value_order
+
+-- lists of rows compare row by row; a list comes before each longer list that begins with it
+abbrev pub rows_order : List (List Value) → List (List Value) → Ordering
+rows_order = slice_cmp row_order
 
 -- whether a number lies in 64 bits, signed
 abbrev pub in_64_bits : ℤ → Bool

@@ -11,6 +11,7 @@
 //! Read `specs/Values.antt`, `specs/Bags.antt` and `specs/Relations.antt`, then `list.rt`.
 #![tactic(auto)]
 
+mod blocks;
 mod codes;
 mod copying;
 mod counting;
@@ -20,6 +21,10 @@ mod limits;
 mod list;
 mod names;
 mod relations;
+mod row_iter;
+mod rows;
+mod shared_rows;
+mod stretches;
 #[cfg(test)]
 mod tests;
 mod texts;
@@ -38,7 +43,9 @@ pub use limits::{
 };
 pub use list::{Items, Places};
 pub use names::{Files, Key, Keys, Stored};
-pub use relations::{Column, Parts, Relation, Rows, Schema, Spread, sorted_permutation_is_unique};
+pub use relations::{Column, Parts, Relation, Schema, Spread, sorted_permutation_is_unique};
+pub use row_iter::RowIter;
+pub use rows::Rows;
 pub use texts::Text;
 pub use tuples::Row;
 pub use values::{ColType, Value};

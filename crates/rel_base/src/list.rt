@@ -121,7 +121,7 @@ impl<T: Duplicate + Drop> Duplicate for Items<T> {
 }
 
 /// The items' copies, in order.
-fn copies_of<T: Duplicate + Drop>(alloc: Global, items: &[T]) -> Result<Vec<T>, Memory>
+pub(crate) fn copies_of<T: Duplicate + Drop>(alloc: Global, items: &[T]) -> Result<Vec<T>, Memory>
     ensures { IfOk result (λ made. made.items ≡ items.now) }
 {
     let mut copies = Vec::with_capacity(alloc, items.len())?;

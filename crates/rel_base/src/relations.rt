@@ -1,8 +1,8 @@
 //! Relations: a schema and rows of its types.
-ghost use Rattle.std.specs.Prelude.{◌≡◌, ◌↔◌, IfOk, All};
+ghost use Rattle.std.specs.Prelude.{◌≡◌, ◌↔◌, IfOk, OnOk, OnErr, All};
 ghost use Rattle.rel_base.specs.Bags.{sorted, IsSortedPermutation};
 
-use crate::{ColType, Duplicate, Items, Memory, Row, Text};
+use crate::{ColType, Duplicate, Items, Memory, Row, Rows, Text};
 use std::alloc::Global;
 use std::marker::Model;
 
@@ -17,9 +17,6 @@ pub struct Column {
 
 /// The columns of a relation, in order.
 pub type Schema = Items<Column>;
-
-/// Rows, in the order in which they stand; the same row may stand more than once.
-pub type Rows = Items<Row>;
 
 /// A list of rows for each worker, in the order of the workers.
 pub type Spread = Items<Rows>;
@@ -92,12 +89,14 @@ impl Relation {
         (schema, rows)
     }
 
-    /// Puts the rows in ascending order.
-    pub fn sort(&mut self)
+    /// Puts the rows in ascending order. After `Memory` the relation is as it was.
+    pub fn sort(&mut self, alloc: Global) -> Result<(), Memory>
         ensures schema { self.new.schema ≡ self.old.schema }
-        ensures rows { self.new.rows ≡ sorted self.old.rows }
+        ensures ok { OnOk result (self.new.rows ≡ sorted self.old.rows) }
+        ensures err { OnErr result (self.new.rows ≡ self.old.rows) }
     {
-        self.rows.sort();
+        self.rows.sort(alloc)?;
+        Ok(())
     }
 }
 

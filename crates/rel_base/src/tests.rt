@@ -112,7 +112,7 @@ fn relations_are_kept_under_their_keys(rt: HostRuntime) -> Result<(), Fail> {
     assert_eq!(rt; key.shelf_name(alloc)?.as_str(), "public:adhoc:R.csv");
     assert_eq!(rt; key.copy(alloc)?, key);
     let mut relation = Relation::new(Schema::new(alloc), Rows::new(alloc));
-    relation.sort();
+    relation.sort(alloc)?;
     let copy = relation.copy(alloc)?;
     assert_eq!(rt; copy.rows().len(), 0);
     let mut files = Files::new(alloc);

@@ -51,7 +51,7 @@ pub fn read_with(
     Ok(Relation::new(schema, rows))
 }
 
-/// Reads the rows of all records that are left.
+/// Reads the rows of all records that are left. They are shared from the start.
 fn rows_of(alloc: Global, schema: &Schema, reader: &mut Reader<&[u8]>) -> Result<Rows, RelFault>
     requires { IsSteady reader.old }
     ensures { IsReadAs result (rows_of_records schema.now (records_left reader.old)) }
@@ -61,7 +61,10 @@ fn rows_of(alloc: Global, schema: &Schema, reader: &mut Reader<&[u8]>) -> Result
     'rows: loop {
         let nth = rows.len() + 1;
         match read_next(reader, &mut fields)? {
-            Next::End => return Ok(rows),
+            Next::End => {
+                rows.freeze(alloc)?;
+                return Ok(rows);
+            }
             Next::NotText if nth <= MOST_ROWS => return Err(RelFault::NotText { nth }),
             Next::Record if nth <= MOST_ROWS => {
                 let row = row_of(alloc, schema, nth, &fields)?;

@@ -7,7 +7,7 @@ use std::test::Fail;
 fn file_text(alloc: Global, relation: &Relation) -> Result<Vec<u8>, Memory> {
     let mut text = Vec::new(alloc);
     header_text(relation.schema(), &mut text)?;
-    for row in relation.rows().as_slice() {
+    for row in relation.rows() {
         row_text(row, &mut text)?;
     }
     Ok(text)

@@ -24,7 +24,7 @@ pub(crate) fn strings_of_parts<'a>(
 fn add_strings_of_rows<'a>(strings: &mut Vec<Keyed<'a>>, rows: &'a Rows) -> Result<(), Memory>
     ensures { OnOk result (strings.new.items ≡ strings.old.items ++ strings_of_rows rows.now) }
 {
-    for row in rows.as_slice() {
+    for row in rows {
         add_strings_of_row(strings, row)?;
     }
     Ok(())

@@ -1,0 +1,17 @@
+use Rattle.std.proofs.Common.{◌≡◌, sym, ap, rules, arith, ◌+◌, ◌*◌, ◌<◌, ◌≤◌, ◌^◌, length}
+use Rattle.rel_base.proofs.PickLemmas.{length-stepped, stepped_within}
+use Rattle.rel_base.proofs.StrideLemmas.{every_nth-stepped}
+use Rattle.rel_base.proofs.stretches.Stretch.every_nth.Goals as goal
+
+pub invariant_of-result : goal.invariant_of-result
+invariant_of-result c =
+    let n = c.steps_below-len.result in
+    let few : n < 2 ^ 32 = search rules in (
+      stepped_within c.args.start c.args.step n (length c.args.block) (λ i low. omega (arith, c.steps_below-len.ensures.inside i low, c.len.ensures)),
+      omega (arith, few, length-stepped c.args.start c.args.step n),
+    )
+
+pub returns : goal.returns
+returns c =
+    sym (every_nth-stepped c.args.block c.args.step c.args.start c.steps_below-len.result c.requires
+    (omega (arith, c.steps_below-len.ensures.enough, c.len.ensures)))

@@ -1,0 +1,5 @@
+-- Words of private functions.
+pub mod Strides
+pub mod Selections
+pub mod Starts
+pub mod Fronts

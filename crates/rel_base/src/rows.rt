@@ -1,0 +1,356 @@
+//! Rows that are shared, not copied.
+ghost use Rattle.std.specs.Prelude.{◌≡◌, ◌+◌, ◌-◌, ◌^◌, ◌<◌, ◌≤◌, ◌==◌, ◌↔◌, [], ◌∷◌, ◌++◌, length, take, map, IsSome, IfOk, OnOk, OnErr, All, slice_index_or};
+ghost use Rattle.std.specs.Option.{option_to_list};
+ghost use Rattle.rel_base.specs.Bags.{IsSortedPermutation};
+ghost use Rattle.rel_base.specs.Picks.{items_at, every_nth, joined};
+
+use crate::blocks::Block;
+use crate::list::copies_of;
+use crate::row_iter::RowIter;
+use crate::shared_rows::{SharedRows, run_length};
+use crate::stretches::Stretch;
+use crate::{Duplicate, Memory, Row};
+use std::alloc::Global;
+use std::cmp::Ordering;
+use std::marker::Model;
+use std::{fmt, mem};
+
+/// Rows, in the order in which they stand; the same row may stand more than once. Contracts see the list of the rows.
+///
+/// A list shares most of its rows with others: behind the rows of shared blocks stand rows of its own, as they were pushed.
+/// What copies, views and puts together copies no row that is shared; `freeze` shares the list's own rows by a move.
+#[derive(Drop)]
+pub struct Rows {
+    shared: SharedRows,
+    own: Vec<Row>,
+}
+
+impl Model for Rows {
+    ghost use Rattle.std.specs.Prelude.{List, ◌++◌, ◌^◌, ◌<◌, length};
+    ghost use Rattle.rel_base.specs.declared.values.Value.{Value as Datum};
+
+    ghost Value = { List (List Datum) };
+
+    ghost view = { λ r. r.shared ++ r.own.items };
+
+    ghost invariant = { λ r. length (r.shared ++ r.own.items) < 2 ^ 32 };
+}
+
+impl Rows {
+    /// The most rows that a list holds.
+    pub const MOST: u32 = u32::MAX;
+
+    /// No rows, which takes no memory until the first row comes.
+    pub fn new(alloc: Global) -> Rows
+        ensures { result ≡ [] }
+    {
+        Rows {
+            shared: SharedRows::new(alloc),
+            own: Vec::new(alloc),
+        }
+    }
+
+    /// No rows, with room for so many.
+    pub fn with_capacity(alloc: Global, room: u32) -> Result<Rows, Memory>
+        ensures { IfOk result (λ made. made ≡ []) }
+    {
+        let own = Vec::with_capacity(alloc, room as usize)?;
+        Ok(Rows {
+            shared: SharedRows::new(alloc),
+            own,
+        })
+    }
+
+    /// The rows of a stretch, none of which is copied.
+    fn of_stretch(alloc: Global, stretch: Stretch) -> Result<Rows, Memory>
+        requires { length stretch < 2 ^ 32 }
+        ensures { IfOk result (λ made. made ≡ stretch) }
+    {
+        let mut rows = Rows::new(alloc);
+        rows.shared.push(stretch)?;
+        Ok(rows)
+    }
+
+    /// The number of rows.
+    pub fn len(&self) -> u32
+        ensures { result ≡ length self.now }
+    {
+        self.shared.len() + self.own.len() as u32
+    }
+
+    /// Whether there is no row.
+    pub fn is_empty(&self) -> bool
+        ensures { result ≡ (length self.now == 0) }
+    {
+        self.len() == 0
+    }
+
+    /// Row number `i`, from 0. To go over all rows take `iter`, which searches none.
+    pub fn get(&self, i: u32) -> &Row
+        requires { i < length self.now }
+        ensures { result.now ≡ slice_index_or self.now i result.now }
+    {
+        let shared = self.shared.len();
+        if i >= shared {
+            return &self.own[(i - shared) as usize];
+        }
+        self.shared.get(i)
+    }
+
+    /// The rows, one by one.
+    pub fn iter(&self) -> RowIter<'_>
+        ensures value { result ≡ self.now }
+        ensures bound { length self.now < 2 ^ 32 }
+    {
+        RowIter::of(self.shared.as_slice(), self.own.as_slice())
+    }
+
+    /// Adds a row at the end. After `Memory` the list is as it was, and the row is let go.
+    pub fn push(&mut self, row: Row) -> Result<(), Memory>
+        requires { length self.old < 2 ^ 32 - 1 }
+        ensures ok { OnOk result (self.new ≡ self.old ++ row ∷ []) }
+        ensures err { OnErr result (self.new ≡ self.old) }
+    {
+        self.own.push(row)?;
+        Ok(())
+    }
+
+    /// Puts the rows in ascending order. No value is copied: rows of the list's own change their places, and of shared rows
+    /// their order is kept. After `Memory` the list is as it was.
+    pub fn sort(&mut self, alloc: Global) -> Result<(), Memory>
+        ensures ok { OnOk result (IsSortedPermutation self.old self.new) }
+        ensures err { OnErr result (self.new ≡ self.old) }
+    {
+        if self.shared.len() == 0 {
+            self.own.sort_unstable();
+            return Ok(());
+        }
+        let mut own = copied_rows(alloc, self)?;
+        own.sort_unstable();
+        *self = Rows {
+            shared: SharedRows::new(alloc),
+            own,
+        };
+        Ok(())
+    }
+
+    /// Takes the last row; `None` where the list is empty. Where the last row is shared, its stretch is copied first.
+    /// After `Memory` the list is as it was.
+    pub fn pop(&mut self, alloc: Global) -> Result<Option<Row>, Memory>
+        ensures items { IfOk result (λ last. self.old ≡ self.new ++ option_to_list last) }
+        ensures some { IfOk result (λ last. IsSome last ↔ (0 < length self.old)) }
+        ensures err { OnErr result (self.new ≡ self.old) }
+    {
+        if self.own.is_empty() {
+            self.own = self.shared.take_last(alloc)?;
+        }
+        Ok(self.own.pop())
+    }
+
+    /// Makes all rows shared: none is copied. After `Memory` too the list is as it was.
+    pub fn freeze(&mut self, alloc: Global) -> Result<(), Memory>
+        ensures { self.new ≡ self.old }
+    {
+        share(alloc, &mut self.shared, &mut self.own)
+    }
+
+    /// The rows at these places, from 0. No row that is shared is copied.
+    pub fn at_places(&self, alloc: Global, places: &[u32]) -> Result<Rows, Memory>
+        requires within { All (λ p. p < length self.now) places.now }
+        requires room { length places.now < 2 ^ 32 }
+        ensures { IfOk result (λ made. made ≡ items_at self.now places.now) }
+    {
+        let mut picked = SharedRows::new(alloc);
+        let mut done = 0;
+        while done < places.len() {
+            let run = self.run_at(alloc, &places[done..])?;
+            done += run.len() as usize;
+            picked.push(run)?;
+        }
+        Ok(Rows {
+            shared: picked,
+            own: Vec::new(alloc),
+        })
+    }
+
+    /// The rows at the first places, as many as stand in one stretch.
+    fn run_at(&self, alloc: Global, places: &[u32]) -> Result<Stretch, Memory>
+        requires within { All (λ p. p < length self.now) places.now }
+        requires some { 0 < length places.now }
+        requires room { length places.now < 2 ^ 32 }
+        ensures run { IfOk result (λ run. run ≡ items_at self.now (take (length run) places.now)) }
+        ensures some { IfOk result (λ run. 0 < length run) }
+        ensures bound { IfOk result (λ run. length run ≤ length places.now) }
+    {
+        let first = self.shared.len();
+        if places[0] < first {
+            let run = self.shared.run_at(alloc, places)?;
+            return Ok(run);
+        }
+        let count = run_length(places, first, self.own.len() as u32);
+        let copies = copies_at(alloc, self.own.as_slice(), first, &places[..count])?;
+        let block = Block::of(alloc, copies)?;
+        Ok(Stretch::whole(block))
+    }
+
+    /// Puts other rows behind these. No row is copied or moved. After `Memory` the list is as it was.
+    pub fn append(&mut self, alloc: Global, other: Rows) -> Result<(), Memory>
+        requires { length self.old + length other < 2 ^ 32 }
+        ensures ok { OnOk result (self.new ≡ self.old ++ other) }
+        ensures err { OnErr result (self.new ≡ self.old) }
+    {
+        let Rows { shared, own } = other;
+        share(alloc, &mut self.shared, &mut self.own)?;
+        self.shared.append(shared)?;
+        self.own = own;
+        Ok(())
+    }
+}
+
+/// The same rows. Shared rows stay shared; each row of the list's own is copied.
+impl Duplicate for Rows {
+    fn copy(&self, alloc: Global) -> Result<Rows, Memory> {
+        let shared = self.shared.copy(alloc)?;
+        let own = copies_of(alloc, self.own.as_slice())?;
+        Ok(Rows { shared, own })
+    }
+}
+
+impl<'a> IntoIterator for &'a Rows {
+    type Item = &'a Row;
+
+    type IntoIter = RowIter<'a>;
+
+    ghost into_iter_gives = { λ rows it. it ≡ rows.now };
+
+    fn into_iter(self) -> RowIter<'a> {
+        self.iter()
+    }
+}
+
+/// Copies of the rows.
+fn copied_rows(alloc: Global, rows: &Rows) -> Result<Vec<Row>, Memory>
+    ensures { IfOk result (λ made. made.items ≡ rows.now) }
+{
+    let mut copies = Vec::with_capacity(alloc, rows.len() as usize)?;
+    for row in rows {
+        let copy = row.copy(alloc)?;
+        copies.push(copy)?;
+    }
+    Ok(copies)
+}
+
+/// Shares the own rows, behind the others. After `Memory` all is as it was.
+fn share(alloc: Global, shared: &mut SharedRows, own: &mut Vec<Row>) -> Result<(), Memory>
+    requires { length shared.old + length own.old.items < 2 ^ 32 }
+    ensures ok { OnOk result ((shared.new ≡ shared.old ++ own.old.items) × (own.new.items ≡ [])) }
+    ensures err { OnErr result ((shared.new ≡ shared.old) × (own.new.items ≡ own.old.items)) }
+{
+    let rows = mem::replace(own, Vec::new(alloc));
+    match shared.push_rows(alloc, rows) {
+        Ok(()) => Ok(()),
+        Err(rows) => {
+            *own = rows;
+            Err(Memory)
+        }
+    }
+}
+
+/// Copies of the rows with these numbers, where the first row has the number `first`.
+fn copies_at(alloc: Global, rows: &[Row], first: u32, numbers: &[u32]) -> Result<Vec<Row>, Memory>
+    requires low { All (λ n. first ≤ n) numbers.now }
+    requires high { All (λ n. n < first + length rows.now) numbers.now }
+    ensures { IfOk result (λ made. made.items ≡ items_at rows.now (map (λ n. n - first) numbers.now)) }
+{
+    let mut copies = Vec::with_capacity(alloc, numbers.len())?;
+    for number in numbers {
+        let copy = rows[(*number - first) as usize].copy(alloc)?;
+        copies.push(copy)?;
+    }
+    Ok(copies)
+}
+
+impl Rows {
+    ghost use Rattle.rel_base.specs.Values.{rows_order};
+
+    /// How the lists compare, row by row.
+    fn compared(&self, other: &Rows) -> Ordering
+        ensures { result ≡ rows_order self.now other.now }
+    {
+        let mut others = other.iter();
+        for row in self {
+            let Some(other) = others.next() else {
+                return Ordering::Greater;
+            };
+            let order = row.cmp(other);
+            if order.is_ne() {
+                return order;
+            }
+        }
+        match others.next() {
+            Some(_) => Ordering::Less,
+            None => Ordering::Equal,
+        }
+    }
+}
+
+impl PartialEq for Rows {
+    ghost use Rattle.std.specs.Cmp.{eq_by_cmp_equiv, partial_equiv_from_equiv};
+    ghost use Rattle.std.specs.Ordering.{eq_by_cmp};
+    ghost use Rattle.rel_base.specs.Values.{rows_order};
+    ghost use Rattle.rel_base.specs.ValueLaws.{rows_order_total};
+
+    ghost eq = { eq_by_cmp rows_order };
+
+    ghost laws = { partial_equiv_from_equiv (eq_by_cmp_equiv rows_order_total) };
+
+    fn eq(&self, other: &Rows) -> bool {
+        self.compared(other).is_eq()
+    }
+}
+
+impl Eq for Rows {
+    ghost use Rattle.std.specs.Cmp.{eq_by_cmp_equiv};
+    ghost use Rattle.rel_base.specs.ValueLaws.{rows_order_total};
+
+    ghost laws = { eq_by_cmp_equiv rows_order_total };
+}
+
+impl PartialOrd for Rows {
+    ghost use Rattle.std.specs.Cmp.{partial_order_from_total};
+    ghost use Rattle.std.specs.Ordering.{as_partial_cmp};
+    ghost use Rattle.rel_base.specs.Values.{rows_order};
+    ghost use Rattle.rel_base.specs.ValueLaws.{rows_order_total};
+
+    ghost partial_cmp = { as_partial_cmp rows_order };
+
+    ghost laws = { partial_order_from_total rows_order_total };
+
+    fn partial_cmp(&self, other: &Rows) -> Option<Ordering> {
+        Some(self.compared(other))
+    }
+}
+
+impl Ord for Rows {
+    ghost use Rattle.std.specs.Prelude.{refl};
+    ghost use Rattle.rel_base.specs.Values.{rows_order};
+    ghost use Rattle.rel_base.specs.ValueLaws.{rows_order_total};
+
+    ghost cmp = { rows_order };
+
+    ghost total = { rows_order_total };
+
+    ghost matches_partial_cmp = { λ r s. refl };
+
+    ghost matches_eq = { λ r s. refl };
+
+    fn cmp(&self, other: &Rows) -> Ordering {
+        self.compared(other)
+    }
+}
+
+impl fmt::Debug for Rows {
+    fn fmt<W: fmt::Write>(&self, f: &mut fmt::Formatter<W>) -> fmt::Result {
+        f.debug_list().entries(self).finish()
+    }
+}

@@ -1,0 +1,241 @@
+//! Stretches of shared rows, one after another.
+ghost use Rattle.std.specs.Prelude.{◌≡◌, ◌+◌, ◌-◌, ◌^◌, ◌<◌, ◌≤◌, ◌++◌, [], length, take, map, IfOk, IfErr, OnOk, OnErr, All, slice_index_or};
+ghost use Rattle.rel_base.specs.Picks.{items_at, joined};
+ghost use Rattle.rel_base.specs.inner.Starts.{AreStarts};
+
+use crate::blocks::Block;
+use crate::list::copies_of;
+use crate::stretches::Stretch;
+use crate::{Duplicate, Memory, Row};
+use std::alloc::Global;
+use std::marker::Model;
+
+/// Shared rows, seen as the list of the rows. Each stretch has a row at least, and `starts` has the number of its first.
+#[derive(Drop)]
+pub struct SharedRows {
+    stretches: Vec<Stretch>,
+    starts: Vec<u32>,
+    len: u32,
+}
+
+impl Model for SharedRows {
+    ghost use Rattle.std.specs.Prelude.{List, ◌≡◌, ◌<◌, length, All};
+    ghost use Rattle.rel_base.specs.declared.values.Value.{Value as Datum};
+    ghost use Rattle.rel_base.specs.Picks.{joined};
+    ghost use Rattle.rel_base.specs.inner.Starts.{AreStarts};
+
+    ghost Value = { List (List Datum) };
+
+    ghost view = { λ s. joined s.stretches.items };
+
+    ghost invariant = { λ s. (s.len ≡ length (joined s.stretches.items)) × AreStarts s.stretches.items s.starts.items × All (λ rows. 0 < length rows) s.stretches.items };
+}
+
+impl SharedRows {
+    /// No rows.
+    pub fn new(alloc: Global) -> SharedRows
+        ensures { result ≡ [] }
+    {
+        SharedRows {
+            stretches: Vec::new(alloc),
+            starts: Vec::new(alloc),
+            len: 0,
+        }
+    }
+
+    /// The number of rows.
+    pub fn len(&self) -> u32
+        ensures { result ≡ length self.now }
+    {
+        self.len
+    }
+
+    /// The stretches, in order.
+    pub fn as_slice(&self) -> &[Stretch]
+        ensures rows { joined result.now ≡ self.now }
+        ensures some { All (λ rows. 0 < length rows) result.now }
+    {
+        self.stretches.as_slice()
+    }
+
+    /// Row number `i`, from 0.
+    pub fn get(&self, i: u32) -> &Row
+        requires { i < length self.now }
+        ensures { result.now ≡ slice_index_or self.now i result.now }
+    {
+        let stretches = self.stretches.as_slice();
+        let starts = self.starts.as_slice();
+        let k = stretch_of(stretches, starts, i);
+        stretches[k].get(i - starts[k])
+    }
+
+    /// Puts a stretch behind the rows. After `Memory` they are as they were.
+    pub fn push(&mut self, stretch: Stretch) -> Result<(), Memory>
+        requires { length self.old + length stretch < 2 ^ 32 }
+        ensures ok { OnOk result (self.new ≡ self.old ++ stretch) }
+        ensures err { OnErr result (self.new ≡ self.old) }
+    {
+        let more = stretch.len();
+        if more == 0 {
+            return Ok(());
+        }
+        self.starts.truncate(self.stretches.len());
+        self.starts.push(self.len)?;
+        self.stretches.push(stretch)?;
+        self.len += more;
+        Ok(())
+    }
+
+    /// Shares rows, behind the others. None is copied; after a refusal they come back and all is as it was.
+    pub fn push_rows(&mut self, alloc: Global, rows: Vec<Row>) -> Result<(), Vec<Row>>
+        requires { length self.old + length rows.items < 2 ^ 32 }
+        ensures ok { OnOk result (self.new ≡ self.old ++ rows.items) }
+        ensures err { OnErr result (self.new ≡ self.old) }
+        ensures back { IfErr result (λ back. back.items ≡ rows.items) }
+    {
+        if rows.is_empty() {
+            return Ok(());
+        }
+        self.starts.truncate(self.stretches.len());
+        if self.starts.push(self.len).is_err() || self.stretches.reserve(1).is_err() {
+            return Err(rows);
+        }
+        let more = rows.len() as u32;
+        match Block::of(alloc, rows) {
+            Ok(block) => {
+                if self.stretches.push(Stretch::whole(block)).is_err() {
+                    unreachable!()
+                }
+                self.len += more;
+                Ok(())
+            }
+            Err(refused) => Err(refused.value),
+        }
+    }
+
+    /// Puts other rows behind these. After `Memory` they are as they were.
+    pub fn append(&mut self, other: SharedRows) -> Result<(), Memory>
+        requires { length self.old + length other < 2 ^ 32 }
+        ensures ok { OnOk result (self.new ≡ self.old ++ other) }
+        ensures err { OnErr result (self.new ≡ self.old) }
+    {
+        let SharedRows {
+            mut stretches,
+            starts,
+            len,
+        } = other;
+        self.starts.truncate(self.stretches.len());
+        push_later(&mut self.starts, &starts[..stretches.len()], self.len)?;
+        self.stretches.append(&mut stretches)?;
+        self.len += len;
+        Ok(())
+    }
+
+    /// The rows at the first places, as many as stand in one stretch.
+    pub fn run_at(&self, alloc: Global, places: &[u32]) -> Result<Stretch, Memory>
+        requires some { 0 < length places.now }
+        requires first { slice_index_or places.now 0 0 < length self.now }
+        requires room { length places.now < 2 ^ 32 }
+        ensures run { IfOk result (λ run. run ≡ items_at self.now (take (length run) places.now)) }
+        ensures some { IfOk result (λ run. 0 < length run) }
+        ensures bound { IfOk result (λ run. length run ≤ length places.now) }
+        ensures within { IfOk result (λ run. All (λ p. p < length self.now) (take (length run) places.now)) }
+    {
+        let stretches = self.stretches.as_slice();
+        let starts = self.starts.as_slice();
+        let k = stretch_of(stretches, starts, places[0]);
+        let stretch = &stretches[k];
+        let start = starts[k];
+        let count = run_length(places, start, stretch.len());
+        let run = stretch.at_numbers(alloc, start, &places[..count])?;
+        Ok(run)
+    }
+
+    /// Takes the rows of the last stretch, each copied. After `Memory` all is as it was.
+    pub fn take_last(&mut self, alloc: Global) -> Result<Vec<Row>, Memory>
+        ensures ok { IfOk result (λ rows. self.old ≡ self.new ++ rows.items) }
+        ensures some { IfOk result (λ rows. 0 < length self.old → 0 < length rows.items) }
+        ensures err { OnErr result (self.new ≡ self.old) }
+    {
+        let rows = take_last_of(alloc, &mut self.stretches)?;
+        self.len -= rows.len() as u32;
+        Ok(rows)
+    }
+}
+
+/// The same rows: none is copied.
+impl Duplicate for SharedRows {
+    fn copy(&self, alloc: Global) -> Result<SharedRows, Memory> {
+        let stretches = copies_of(alloc, self.stretches.as_slice())?;
+        let starts = Vec::from_slice(alloc, self.starts.as_slice())?;
+        Ok(SharedRows {
+            stretches,
+            starts,
+            len: self.len,
+        })
+    }
+}
+
+/// The number of the stretch that has row number `i`, found by halving.
+fn stretch_of(stretches: &[Stretch], starts: &[u32], i: u32) -> usize
+    requires starts { AreStarts stretches.now starts.now }
+    requires low { i < length (joined stretches.now) }
+    ensures inside { result < length stretches.now }
+    ensures begins { slice_index_or starts.now result 0 ≤ i }
+    ensures ends { i < slice_index_or starts.now result 0 + length (slice_index_or stretches.now result []) }
+{
+    let mut low = 0;
+    let mut high = stretches.len();
+    while high - low > 1 {
+        let middle = low + (high - low) / 2;
+        if starts[middle] <= i {
+            low = middle;
+        } else {
+            high = middle;
+        }
+    }
+    low
+}
+
+/// Adds these numbers at the end, each this much later. After `Memory` some may be added.
+fn push_later(starts: &mut Vec<u32>, more: &[u32], by: u32) -> Result<(), Memory>
+    requires { All (λ start. by + start < 2 ^ 32) more.now }
+    ensures ok { OnOk result (starts.new.items ≡ starts.old.items ++ map (λ start. by + start) more.now) }
+    ensures kept { take (length starts.old.items) starts.new.items ≡ starts.old.items }
+{
+    for start in more {
+        starts.push(by + *start)?;
+    }
+    Ok(())
+}
+
+/// Takes the rows of the last stretch, each copied. After `Memory` all is as it was.
+fn take_last_of(alloc: Global, stretches: &mut Vec<Stretch>) -> Result<Vec<Row>, Memory>
+    ensures ok { IfOk result (λ rows. joined stretches.old.items ≡ joined stretches.new.items ++ rows.items) }
+    ensures some { All (λ rows. 0 < length rows) stretches.old.items
+        → IfOk result (λ rows. 0 < length (joined stretches.old.items) → 0 < length rows.items) }
+    ensures rest { IfOk result (λ rows. stretches.new.items ≡ take (length stretches.old.items - 1) stretches.old.items) }
+    ensures err { OnErr result (stretches.new.items ≡ stretches.old.items) }
+{
+    let Some(last) = stretches.last() else {
+        return Ok(Vec::new(alloc));
+    };
+    let rows = last.copied_rows(alloc)?;
+    drop(stretches.pop());
+    Ok(rows)
+}
+
+/// How many places at the front are among so many from a start on.
+pub fn run_length(places: &[u32], start: u32, len: u32) -> usize
+    ensures bound { result ≤ length places.now }
+    ensures low { All (λ p. start ≤ p) (take result places.now) }
+    ensures high { All (λ p. p < start + len) (take result places.now) }
+    ensures some { 0 < length places.now → start ≤ slice_index_or places.now 0 0
+        → slice_index_or places.now 0 0 < start + len → 0 < result }
+{
+    let mut count = 0;
+    while count < places.len() && start <= places[count] && places[count] - start < len {
+        count += 1;
+    }
+    count
+}

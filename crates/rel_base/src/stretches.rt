@@ -1,0 +1,182 @@
+//! Rows of one shared block, by their places in it.
+ghost use Rattle.std.specs.Prelude.{◌≡◌, ℕ, ◌+◌, ◌-◌, ◌*◌, ◌^◌, ◌<◌, ◌≤◌, length, map, IfOk, IfSome, All, slice_index_or};
+ghost use Rattle.rel_base.specs.Picks.{items_at, every_nth};
+
+use crate::blocks::Block;
+use crate::row_iter::StretchIter;
+use crate::{Duplicate, Memory, Row};
+use std::alloc::Global;
+use std::marker::Model;
+
+/// Rows of one shared block. A row may stand more than once.
+#[derive(Drop)]
+pub struct Stretch {
+    block: Block,
+    selection: Selection,
+}
+
+/// Places in a block.
+#[derive(Drop)]
+pub enum Selection {
+    /// So many places, a step apart.
+    Every { start: u32, step: u32, len: u32 },
+    /// These places.
+    At { places: Vec<u32> },
+}
+
+impl Model for Stretch {
+    ghost use Rattle.std.specs.Prelude.{List, ◌^◌, ◌<◌, length, All};
+    ghost use Rattle.rel_base.specs.declared.values.Value.{Value as Datum};
+    ghost use Rattle.rel_base.specs.Picks.{items_at};
+    ghost use Rattle.rel_base.specs.inner.Selections.{places_of};
+
+    ghost Value = { List (List Datum) };
+
+    ghost view = { λ s. items_at s.block (places_of s.selection) };
+
+    ghost invariant = { λ s. All (λ p. p < length s.block) (places_of s.selection) × (length (places_of s.selection) < 2 ^ 32) };
+}
+
+impl Stretch {
+    /// All rows of a block.
+    pub fn whole(block: Block) -> Stretch
+        ensures { result ≡ block }
+    {
+        let len = block.len();
+        Stretch {
+            block,
+            selection: Selection::Every {
+                start: 0,
+                step: 1,
+                len,
+            },
+        }
+    }
+
+    /// The rows of a block whose place leaves the remainder `start` by the step.
+    pub fn every_nth(block: Block, step: u32, start: u32) -> Stretch
+        requires { start < step }
+        ensures { result ≡ every_nth block step start }
+    {
+        let len = steps_below(block.len(), step, start);
+        Stretch {
+            block,
+            selection: Selection::Every { start, step, len },
+        }
+    }
+
+    /// The block, where these are all of its rows in its order.
+    pub fn as_block(&self) -> Option<&Block>
+        ensures { IfSome result (λ block. block.now ≡ self.now) }
+    {
+        match &self.selection {
+            Selection::Every { start, step, len }
+                if *start == 0 && *step == 1 && *len == self.block.len() => { Some(&self.block) }
+            _ => None,
+        }
+    }
+
+    /// The number of rows.
+    pub fn len(&self) -> u32
+        ensures { result ≡ length self.now }
+    {
+        match &self.selection {
+            Selection::Every { len, .. } => *len,
+            Selection::At { places } => places.len() as u32,
+        }
+    }
+
+    /// Row number `i`, from 0.
+    pub fn get(&self, i: u32) -> &Row
+        requires { i < length self.now }
+        ensures { result.now ≡ slice_index_or self.now i result.now }
+    {
+        let rows = self.block.as_slice();
+        match &self.selection {
+            Selection::Every { start, step, .. } => &rows[(*start + *step * i) as usize],
+            Selection::At { places } => &rows[places[i as usize] as usize],
+        }
+    }
+
+    /// The rows with these numbers, where the first row has the number `first`. No row is copied.
+    pub fn at_numbers(&self, alloc: Global, first: u32, numbers: &[u32]) -> Result<Stretch, Memory>
+        requires low { All (λ n. first ≤ n) numbers.now }
+        requires high { All (λ n. n < first + length self.now) numbers.now }
+        requires room { length numbers.now < 2 ^ 32 }
+        ensures { IfOk result (λ made. made ≡ items_at self.now (map (λ n. n - first) numbers.now)) }
+    {
+        let block = self.block.copy(alloc)?;
+        let len = block.len();
+        let mut places = Vec::with_capacity(alloc, numbers.len())?;
+        for number in numbers {
+            places.push(self.selection.place(len, *number - first))?;
+        }
+        Ok(Stretch {
+            block,
+            selection: Selection::At { places },
+        })
+    }
+
+    /// A copy of each row.
+    pub fn copied_rows(&self, alloc: Global) -> Result<Vec<Row>, Memory>
+        ensures { IfOk result (λ made. made.items ≡ self.now) }
+    {
+        let mut copies = Vec::with_capacity(alloc, self.len() as usize)?;
+        for row in self.iter() {
+            let copy = row.copy(alloc)?;
+            copies.push(copy)?;
+        }
+        Ok(copies)
+    }
+
+    /// The rows, one by one.
+    pub fn iter(&self) -> StretchIter<'_>
+        ensures { result ≡ self.now }
+    {
+        StretchIter::of(self)
+    }
+}
+
+/// How many places below a length leave the remainder `start` by the step.
+pub fn steps_below(len: u32, step: u32, start: u32) -> u32
+    requires { 0 < step }
+    ensures enough { len ≤ start + step * result }
+    ensures inside { (i : ℕ) → i < result → start + step * i < len }
+{
+    len.saturating_sub(start).div_ceil(step)
+}
+
+impl Selection {
+    ghost use Rattle.rel_base.specs.inner.Selections.{places_of};
+
+    /// The place of row number `i` in a block of this length.
+    fn place(&self, len: u32, i: u32) -> u32
+        requires within { All (λ p. p < len) (places_of self.now) }
+        requires low { i < length (places_of self.now) }
+        ensures value { result ≡ slice_index_or (places_of self.now) i 0 }
+        ensures inside { result < len }
+    {
+        match self {
+            Selection::Every { start, step, .. } => *start + *step * i,
+            Selection::At { places } => places[i as usize],
+        }
+    }
+}
+
+/// The same rows, shared: none is copied.
+impl Duplicate for Stretch {
+    fn copy(&self, alloc: Global) -> Result<Stretch, Memory> {
+        let block = self.block.copy(alloc)?;
+        let selection = match &self.selection {
+            Selection::Every { start, step, len } => Selection::Every {
+                start: *start,
+                step: *step,
+                len: *len,
+            },
+            Selection::At { places } => Selection::At {
+                places: Vec::from_slice(alloc, places.as_slice())?,
+            },
+        };
+        Ok(Stretch { block, selection })
+    }
+}
