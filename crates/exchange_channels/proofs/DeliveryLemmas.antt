@@ -14,7 +14,7 @@ use Rattle.exchange_channels.specs.inner.Keeps.{IsSettled, keeper_with_all, keep
 use Rattle.exchange_channels.proofs.PortLemmas.{map_same, map-map}
 
 -- some element of a list that has one
-element : {X : Type 0} (xs : List X) (k : ℕ) → k < length xs → X
+pub element : {X : Type 0} (xs : List X) (k : ℕ) → k < length xs → X
 element [] k below = absurd (omega arith)
 element (x ∷ xs) k below = x
 

@@ -6,3 +6,4 @@ pub mod WiringLemmas
 pub mod DeliveryLemmas
 pub mod NumberedLemmas
 pub mod WorkedRows
+pub mod SendingLemmas

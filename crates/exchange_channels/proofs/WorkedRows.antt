@@ -1,16 +1,16 @@
 -- One cell, two senders, and an inbox in which eight messages may wait. Sender 0 sends the batches a and b and ends, sender 1
 -- sends c and ends, and then the cell takes all.
-use Rattle.std.proofs.Common.{◌≡◌, ℕ, List, [], ◌∷◌, Option, Some, None, pos, refl}
+use Rattle.std.proofs.Common.{◌≡◌, ℕ, lit<, arith, List, [], ◌∷◌, Option, Some, None, pos, refl}
 use Rattle.std.specs.Prelude.{fold}
 use Rattle.rel_base.specs.declared.values.Value.TheVariants.{Int}
 use Rattle.shuffle_core.specs.declared.posts.Post.{Post}
 use Rattle.shuffle_core.specs.Inbox.{InboxState, new_inbox, of_sender, with_sent, with_taken}
 use Rattle.exchange_channels.specs.declared.messages.Batch.{Batch}
 use Rattle.exchange_channels.specs.declared.messages.Message.{Message}
-use Rattle.exchange_channels.specs.Messages.{sender_of, batch_of, end_of, drained_of, rows_of}
+use Rattle.exchange_channels.specs.Messages.{sender_of, batch_of, end_of, drained_of, rows_of, rows_of_atom, drained_rows}
 use Rattle.exchange_channels.specs.Numbered.{numbered_after, numbered_inbox}
 use Rattle.exchange_channels.specs.Ports.{Place}
-use Rattle.exchange_channels.specs.Wirings.{WiringState, OutletState, new_outlet, with_sent_to, with_ends, sent_to, receipt_of}
+use Rattle.exchange_channels.specs.Wirings.{WiringState, OutletState, AreNumbered, new_outlet, with_sent_to, with_ends, sent_to, all_sent_to, receipt_of}
 
 -- a batch of atom 0 of two rows, of one row, and of none
 abbrev a : Batch
@@ -60,6 +60,23 @@ drained_of-other_way = refl
 pub rows_of-two_senders : rows_of messages ≡ 3
 rows_of-two_senders = refl
 
+-- batches of two atoms, of which the second's row stands between the rows of the first
+abbrev two_atoms : List Batch
+two_atoms = a ∷ record { atom = 1; rows = (Int (pos 5) ∷ []) ∷ [] } ∷ b ∷ []
+
+pub rows_of_atom-first : rows_of_atom 0 two_atoms ≡ (Int (pos 7) ∷ []) ∷ (Int (pos 8) ∷ []) ∷ (Int (pos 7) ∷ []) ∷ []
+rows_of_atom-first = refl
+
+pub rows_of_atom-second : rows_of_atom 1 two_atoms ≡ (Int (pos 5) ∷ []) ∷ []
+rows_of_atom-second = refl
+
+pub drained_rows-two_senders : drained_rows 0 (drained_of messages) ≡ (Int (pos 7) ∷ []) ∷ (Int (pos 8) ∷ []) ∷ (Int (pos 7) ∷ []) ∷ []
+drained_rows-two_senders = refl
+
+-- a list that begins with number 1 is not numbered in order
+pub AreNumbered-from_one : AreNumbered (λ (n : ℕ). n) (1 ∷ 2 ∷ []) → ⊥
+AreNumbered-from_one numbered = omega (arith, numbered 0 0 (lit< tt))
+
 abbrev post : ℕ → Option ℕ → Post
 post sender label = record { sender = sender; label = label }
 
@@ -92,6 +109,9 @@ module _ (first second : Place) where
 
   pub sent_to-second_cell : sent_to outlet_0 1 ≡ end_of 0 ∷ []
   sent_to-second_cell = refl
+
+  pub all_sent_to-first_cell : all_sent_to (outlet_0 ∷ outlet_1 ∷ []) 0 ≡ messages
+  all_sent_to-first_cell = refl
 
   pub receipt_of-two_cells : receipt_of wiring (outlet_0 ∷ outlet_1 ∷ []) ≡ record {
     capacity = 8;

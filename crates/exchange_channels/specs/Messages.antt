@@ -5,7 +5,11 @@
 --   batches_of messages               the batches, in order
 --   drained_of messages               the batches, each with its sender, in order
 --   rows_of messages                  how many rows the batches have in all
-use Rattle.std.specs.Prelude.{ℕ, Bool, List, length, is_none, Option, Some, None, filter_map, option_map, sum_by}
+--   rows_of_atom atom batches         the rows of an atom in batches, in order
+--   drained_rows atom drained         the rows of an atom in what was drained, in order
+use Rattle.std.specs.Prelude.{ℕ, Bool, List, [], ◌==◌, if◌then◌else◌, length, is_none, Option, Some, None, filter_map, option_map, sum_by}
+use Rattle.std.specs.List.{flat_map}
+use Rattle.rel_base.specs.declared.values.Value.{Value}
 use Rattle.exchange_channels.specs.declared.messages.Batch.{Batch}
 use Rattle.exchange_channels.specs.declared.messages.Message.{Message}
 
@@ -41,3 +45,15 @@ row_count (Some batch) = length batch.rows
 -- how many rows the messages have in all
 abbrev pub rows_of : List Message → ℕ
 rows_of messages = sum_by (λ message. row_count message.batch) messages
+
+-- the rows of a batch, where it is of this atom
+abbrev pub batch_rows : ℕ → Batch → List (List Value)
+batch_rows atom batch = if batch.atom == atom then batch.rows else []
+
+-- the rows of an atom in the batches, in order
+abbrev pub rows_of_atom : ℕ → List Batch → List (List Value)
+rows_of_atom atom batches = flat_map (batch_rows atom) batches
+
+-- the rows of an atom in what was drained, in order
+abbrev pub drained_rows : ℕ → List (ℕ × Batch) → List (List Value)
+drained_rows atom drained = flat_map (λ taken. batch_rows atom taken.1) drained

@@ -9,8 +9,9 @@
 --   HasEachEnd senders got             the end mark of each sender was taken
 --   ReceiptState, receipt_of           what a receipt shows
 --   IsDelivered outs taken             a cell took of each sender what it sent there, in its order, and nothing else
-use Rattle.std.specs.Prelude.{◌≡◌, ℕ, ◌<◌, IsTrue, List, [], ◌∷◌, ◌++◌, length, map, replicate, All, Some, slice_get, slice_index_or, slice_set}
-use Rattle.std.specs.List.{list_any, range_with_len}
+--   all_sent_to outs cell              what all outlets sent to a cell, one sender's messages after another's
+use Rattle.std.specs.Prelude.{◌≡◌, ℕ, ◌<◌, IsTrue, List, [], ◌∷◌, ◌++◌, length, map, replicate, All, IsPermutation, Some, slice_get, slice_index_or, slice_set}
+use Rattle.std.specs.List.{flat_map, list_any, range_with_len}
 use Rattle.shuffle_core.specs.Inbox.{of_sender}
 use Rattle.exchange_channels.specs.declared.messages.Batch.{Batch}
 use Rattle.exchange_channels.specs.declared.messages.Message.{Message}
@@ -119,6 +120,14 @@ receipt_of wiring outs = record {
 pub record IsDelivered (outs : List OutletState) (taken : IntakeState) : Type 0 where
   pub all_taken : (s : ℕ) (d : OutletState) → s < length outs → of_sender sender_of s taken.got ≡ sent_to (slice_index_or outs s d) taken.cell
   pub no_stranger : All (λ message. message.sender < length outs) taken.got
+
+-- what all outlets sent to a cell, one sender's messages after another's
+abbrev pub all_sent_to : List OutletState → ℕ → List Message
+all_sent_to outs cell = flat_map (λ out. sent_to out cell) outs
+
+-- what a cell took is, in some order, what all outlets sent there
+abbrev pub TookAllSent : List OutletState → IntakeState → Type 0
+TookAllSent outs taken = IsDelivered outs taken → IsPermutation taken.got (all_sent_to outs taken.cell)
 
 -- a wiring was made of so many cells and senders and of this capacity: an outlet for each sender and an intake for each cell, in order
 pub record IsWired (keep : WiringState) (outlets : List OutletState) (intakes : List IntakeState) (cells senders capacity : ℕ) : Type 0 where

@@ -34,7 +34,10 @@ mod wiring;
 pub use closing::{Receipt, Receipts, close};
 pub use ends::{Ends, IntakeEnds, OutletEnds};
 pub use intakes::{Intake, IntakeEnd};
-pub use laws::{a_send_is_a_send, a_take_is_a_take, numbered_inbox_is_an_inbox};
+pub use laws::{
+    a_send_is_a_send, a_take_is_a_take, drained_rows_are_those_of_the_batches,
+    numbered_inbox_is_an_inbox, what_a_cell_took_is_what_was_sent,
+};
 pub use messages::{Batch, Drained, Message};
 pub use outlets::{Outlet, OutletEnd};
 pub use wiring::{Intakes, Keep, Outlets, Wiring, wire};

@@ -2,6 +2,7 @@
 use Rattle.std.proofs.Common.{◌≡◌, ℕ, inl, inr, lit<, arith, true, false, List, [], ◌∷◌, Some, Ok, Err, refl}
 use Rattle.std.specs.Prelude.{codes}
 use Rattle.rel_io.specs.Outside.{Rose, missing, there, IsGiven, MayBeMissing, TakesPart, capped_sum}
+use Rattle.rel_io.specs.Taps.{with_sent, with_got}
 use Rattle.rel_io.specs.InMemory.{NamedBytes, MemoryShelf, MemorySink, distinct_names, content_among, fetch_fails, shelf_after, write_fails, sink_after}
 use Rattle.rel_io.specs.declared.sinks.SinkFault.TheVariants as refusal
 
@@ -22,6 +23,14 @@ capped_sum-small = refl
 
 pub capped_sum-at_the_last_value : capped_sum 18446744073709551615 1 ≡ 18446744073709551615
 capped_sum-at_the_last_value = refl
+
+-- ---- taps
+
+pub with_got-three : with_got (record { sent = 1; got = 40; listed = 2 }) 3 ≡ record { sent = 1; got = 43; listed = 2 }
+with_got-three = refl
+
+pub with_sent-at_the_last_value : with_sent (record { sent = 18446744073709551615; got = 4; listed = 2 }) 1 ≡ record { sent = 18446744073709551615; got = 4; listed = 2 }
+with_sent-at_the_last_value = refl
 
 -- ---- content
 
