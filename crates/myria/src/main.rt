@@ -8,7 +8,7 @@ use myria_top::{Outcome, fresh_taps, run_words, tell};
 use rel_base::{Memory, Text};
 use rel_io::{FolderShelf, StdSink};
 use std::env;
-use std::io::Write;
+use std::io::{ErrorKind, Write};
 use std::process::ExitCode;
 use std::rt::{Env, Files};
 use std::sync::Wait;
@@ -58,8 +58,10 @@ where
 fn words<R: AllocGlobal + Env>(rt: &R) -> Result<Vec<Text>, Memory> {
     let alloc = rt.alloc();
     let mut words = Vec::new(alloc);
-    let Ok(args) = env::args(rt) else {
-        return Ok(words);
+    let args = match env::args(rt) {
+        Ok(args) => args,
+        Err(error) if error.kind() == ErrorKind::OutOfMemory => return Err(Memory),
+        Err(_) => return Ok(words),
     };
     for arg in args {
         let word = Text::of(alloc, arg.as_str())?;

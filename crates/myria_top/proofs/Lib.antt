@@ -1,6 +1,6 @@
 mod PieceLemmas
 mod ReadingLemmas
-mod StepLemmas
+mod VerdictLemmas
 mod OutputLemmas
 mod OneAnswerLemmas
 mod ScriptLemmas

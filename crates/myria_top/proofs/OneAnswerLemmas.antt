@@ -11,8 +11,8 @@ use Rattle.myrial_parser.proofs.StatementLemmas.{statement-unique}
 use Rattle.myria_top.specs.declared.outcomes.Outcome.TheVariants as outcome
 use Rattle.myria_top.specs.Forms.{is_built}
 use Rattle.myria_top.specs.Scripts.{TextComesTo, not_text, bad_token, bad_piece, not_built, built, ScriptComesTo, not_told, no_script, too_long, short, fault_answer}
-use Rattle.myria_top.specs.Steps.{Step, refused, goes, then_step}
-use Rattle.myria_top.specs.Verdicts.{ComesTo, unnamed, named, printed_step}
+use Rattle.myria_top.specs.Verdicts.{Verdict, refused, passes, and_then}
+use Rattle.myria_top.specs.Runs.{ComesTo, unnamed, named, printed_verdict}
 
 abbrev Statements : Type 0
 Statements = List StatementTree
@@ -42,7 +42,7 @@ tokens_without_fault text tokens line what x y = cut_or_failed (sym x.are ∙ y.
 
 -- ---- texts
 
-text_one : (bytes : List ℕ) (s t : Step Statements) → TextComesTo bytes s → TextComesTo bytes t → s ≡ t
+text_one : (bytes : List ℕ) (s t : Verdict Statements) → TextComesTo bytes s → TextComesTo bytes t → s ≡ t
 text_one bytes s t (not_text n) (not_text m) = refl
 text_one bytes s t (not_text n) (bad_token line what h) = absurd (n h.is_text)
 text_one bytes s t (not_text n) (bad_piece tokens number fault a f) = absurd (n a.is_text)
@@ -85,11 +85,11 @@ text_one bytes s t (built tokens script a r b) (not_built tokens' script' a' r' 
     let same = one_script bytes tokens script script' r (subst (λ ts. IsScript bytes ts script') (same_tokens bytes tokens' tokens a' a) r') in
     let both : true ≡ false = sym b ∙ ap is_built same ∙ b' in cc
 text_one bytes s t (built tokens script a r b) (built tokens' script' a' r' b') =
-    ap goes (one_script bytes tokens script script' r (subst (λ ts. IsScript bytes ts script') (same_tokens bytes tokens' tokens a' a) r'))
+    ap passes (one_script bytes tokens script script' r (subst (λ ts. IsScript bytes ts script') (same_tokens bytes tokens' tokens a' a) r'))
 
 -- ---- files and words
 
-pub script_one : (content : Content) (s t : Step Statements) → ScriptComesTo content s → ScriptComesTo content t → s ≡ t
+pub script_one : (content : Content) (s t : Verdict Statements) → ScriptComesTo content s → ScriptComesTo content t → s ≡ t
 script_one content s t not_told not_told = refl
 script_one content s t no_script no_script = refl
 script_one content s t (too_long bytes h) (too_long bytes' g) = refl
@@ -98,12 +98,12 @@ script_one content s t (short bytes s' h r) (too_long bytes' g) = absurd (omega 
 script_one content s t (short bytes s' h r) (short bytes' t' g q) = text_one bytes s' t' r q
 
 -- the words and the files come to one step
-pub comes_to_one : (words : List (List ℕ)) (content : List ℕ → Content) (s t : Step (List ℕ)) → ComesTo words content s → ComesTo words content t → s ≡ t
+pub comes_to_one : (words : List (List ℕ)) (content : List ℕ → Content) (s t : Verdict (List ℕ)) → ComesTo words content s → ComesTo words content t → s ≡ t
 comes_to_one words content s t (unnamed e) (unnamed d) = refl
 comes_to_one words content s t (unnamed e) (named name r d h) = let both : None ≡ Some name = sym e ∙ d in cc
 comes_to_one words content s t (named name r e h) (unnamed d) = let both : None ≡ Some name = sym d ∙ e in cc
 comes_to_one words content s t (named name r e h) (named name' r' d g) =
     let both : Some name ≡ Some name' = sym e ∙ d in
     let same : name' ≡ name = cc in
-    ap (λ (x : Step Statements). then_step x (printed_step content))
+    ap (λ (x : Verdict Statements). and_then x (printed_verdict content))
     (script_one (content name) r r' h (subst (λ n. ScriptComesTo (content n) r') same g))

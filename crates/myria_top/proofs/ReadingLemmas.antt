@@ -6,8 +6,8 @@ use Rattle.rel_io.specs.Outside.{Content, IsGiven}
 use Rattle.rel_io.specs.Outside as outside
 use Rattle.myria_top.specs.declared.outcomes.Outcome.{Outcome}
 use Rattle.myria_top.specs.declared.outcomes.Outcome.TheVariants as outcome
-use Rattle.myria_top.specs.Reading.{file_step}
-use Rattle.myria_top.specs.Steps.{Step, refused, goes, IfTold}
+use Rattle.myria_top.specs.Reading.{file_verdict}
+use Rattle.myria_top.specs.Verdicts.{Verdict, refused, passes, IfTold}
 
 -- an answer, or want of memory in its place
 pub in_place : (P : Outcome → Type 0) (r answer : Outcome) → (r ≡ answer) ⊎ (r ≡ outcome.Memory) → P answer → P outcome.Memory → P r
@@ -23,9 +23,9 @@ in_place_if P r answer Q (inr e) f m = subst P (sym e) m
 not_less : (a b : ℕ) → b ≤ a → nat_lt a b ≡ false
 not_less a b h = false_from_ne_true (nat_lt a b) (λ e. let less : a < b = ltb-true a b e in absurd (omega arith))
 
-module _ {X : Type 0} (most : ℕ) (if_missing if_long : Outcome) (read : List ℕ → Step X) where
-  abbrev step : Content → Step X
-  step = file_step most if_missing if_long read
+module _ {X : Type 0} (most : ℕ) (if_missing if_long : Outcome) (read : List ℕ → Verdict X) where
+  abbrev step : Content → Verdict X
+  step = file_verdict most if_missing if_long read
 
   -- more than `most` bytes came, so the file is too long
   pub too_long : (content : Content) (bytes : List ℕ) → IsGiven content (most + 1) bytes → most < length bytes → IfTold (step content) (λ s. s ≡ refused if_long)
@@ -35,7 +35,7 @@ module _ {X : Type 0} (most : ℕ) (if_missing if_long : Outcome) (read : List �
       let size : length bytes ≡ min (most + 1) (length file) = ap length given ∙ length-take (most + 1) file in
       let more : most < length file = omega arith in
       let is : step (outside.there file) ≡ refused if_long = ap (λ (t : Bool). cond t (refused if_long) (read file)) (lt-ltb most (length file) more) in
-      subst (λ (s : Step X). IfTold s (λ t. t ≡ refused if_long)) (sym is) refl
+      subst (λ (s : Verdict X). IfTold s (λ t. t ≡ refused if_long)) (sym is) refl
 
   -- no more came, so the bytes are the whole file
   whole : (file bytes : List ℕ) → bytes ≡ take (most + 1) file → length bytes ≤ most → step (outside.there file) ≡ read bytes
@@ -45,14 +45,14 @@ module _ {X : Type 0} (most : ℕ) (if_missing if_long : Outcome) (read : List �
       let same : bytes ≡ file = given ∙ take_all (most + 1) file (omega arith) in
       ap (λ (t : Bool). cond t (refused if_long) (read file)) (not_less most (length file) fits) ∙ ap read (sym same)
 
-  pub read_goes : (content : Content) (bytes : List ℕ) (x : X) → IsGiven content (most + 1) bytes → length bytes ≤ most → read bytes ≡ goes x → IfTold (step content) (λ s. s ≡ goes x)
+  pub read_goes : (content : Content) (bytes : List ℕ) (x : X) → IsGiven content (most + 1) bytes → length bytes ≤ most → read bytes ≡ passes x → IfTold (step content) (λ s. s ≡ passes x)
   read_goes outside.untold bytes x given short e = tt
   read_goes outside.missing bytes x given short e = absurd given
   read_goes (outside.there file) bytes x given short e =
-      subst (λ (s : Step X). IfTold s (λ t. t ≡ goes x)) (sym (whole file bytes given short ∙ e)) refl
+      subst (λ (s : Verdict X). IfTold s (λ t. t ≡ passes x)) (sym (whole file bytes given short ∙ e)) refl
 
   pub read_refuses : (content : Content) (bytes : List ℕ) (answer : Outcome) → IsGiven content (most + 1) bytes → length bytes ≤ most → read bytes ≡ refused answer → IfTold (step content) (λ s. s ≡ refused answer)
   read_refuses outside.untold bytes answer given short e = tt
   read_refuses outside.missing bytes answer given short e = absurd given
   read_refuses (outside.there file) bytes answer given short e =
-      subst (λ (s : Step X). IfTold s (λ t. t ≡ refused answer)) (sym (whole file bytes given short ∙ e)) refl
+      subst (λ (s : Verdict X). IfTold s (λ t. t ≡ refused answer)) (sym (whole file bytes given short ∙ e)) refl

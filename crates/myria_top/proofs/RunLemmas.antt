@@ -20,77 +20,77 @@ use Rattle.myrial_meaning.specs.Scans.{scanned_keys}
 use Rattle.myria_top.specs.declared.outcomes.Outcome.{Outcome}
 use Rattle.myria_top.specs.declared.outcomes.Outcome.TheVariants as outcome
 use Rattle.myria_top.specs.declared.outcomes.Part.TheVariants as part
-use Rattle.myria_top.specs.Headline.{Run, Written, Decides, Explains, FaultsRose, IsAskedOf, TellsLine, WantsRose, of_untold, a_relation}
+use Rattle.myria_top.specs.Headline.{Run, Written, Decides, IsInPlace, Explains, FaultsRose, IsAskedOf, TellsLine, WantsRose, of_untold, a_relation}
 use Rattle.myria_top.specs.OutputText.{output_text, relation_text_in_order}
 use Rattle.myria_top.specs.Reading.{Agrees, AgreesBy, AgreesRefused, Counts, HasCause, Meets, ReadsBy, ReadsStep, RefusesBy, script_name}
 use Rattle.myria_top.specs.Scripts.{ScriptComesTo, TextComesTo, not_text, bad_token, bad_piece, not_built, built, not_told, no_script, too_long, short}
-use Rattle.myria_top.specs.Steps.{Step, untold, refused, goes, then_step, IfTold}
-use Rattle.myria_top.specs.Verdicts.{ComesTo, named, IsFileOf, files_step, printed_step, run_answer, run_step, types_fit}
+use Rattle.myria_top.specs.Verdicts.{Verdict, untold, refused, passes, and_then, IfTold}
+use Rattle.myria_top.specs.Runs.{ComesTo, named, IsFileOf, files_verdict, printed_verdict, run_answer, run_verdict, types_fit}
 use Rattle.myria_top.proofs.OneAnswerLemmas.{comes_to_one}
 use Rattle.myria_top.proofs.OutputLemmas.{output_text-sorted}
-use Rattle.myria_top.proofs.StepLemmas.{LiesWithin, HasCause-part, met, met_further, goes_second, refused_first, refused_second}
+use Rattle.myria_top.proofs.VerdictLemmas.{LiesWithin, HasCause-part, met, met_further, goes_second, refused_first, refused_second}
 
 -- ---- the run of a script
 
 module _ (script : List StatementTree) (files : List File) where
-  abbrev verdict : Option RunFault → Step (List File)
-  verdict found = option_map_or (λ fault. refused (run_answer fault)) found (goes (stored_relations files script))
+  abbrev verdict : Option RunFault → Verdict (List File)
+  verdict found = option_map_or (λ fault. refused (run_answer fault)) found (passes (stored_relations files script))
 
-  abbrev with_meaning : Bool → Step (List File)
+  abbrev with_meaning : Bool → Verdict (List File)
   with_meaning b = cond b (verdict (run_fault Uncounted files script)) (refused (outcome.NotBuilt part.Relation))
 
-  abbrev printed : Step (List File) → Step (List ℕ)
-  printed s = then_step s (λ stored. goes (output_text stored))
+  abbrev printed : Verdict (List File) → Verdict (List ℕ)
+  printed s = and_then s (λ stored. passes (output_text stored))
 
   -- without a fault the text is printed
   pub run_prints : (stored : List File) (text : List ℕ) → types_fit files script ≡ true → has_meaning files script ≡ true → run_fault Uncounted files script ≡ None
       → stored ≡ map in_order (stored_relations files script) → text ≡ flat_map (λ (file : File). relation_text_in_order file.0 file.1) stored
-      → IfTold (printed (run_step script files)) (λ s. s ≡ goes text)
+      → IfTold (printed (run_verdict script files)) (λ s. s ≡ passes text)
   run_prints stored text fits meaning fault is texts =
       let all : text ≡ output_text (stored_relations files script) =
       texts ∙ ap (flat_map (λ (file : File). relation_text_in_order file.0 file.1)) is ∙ output_text-sorted (stored_relations files script) in
-      let step : printed (run_step script files) ≡ goes text =
-      ap (λ (b : Bool). printed (with_meaning (b && has_meaning files script))) fits ∙ ap (λ (b : Bool). printed (with_meaning b)) meaning ∙ ap (λ (o : Option RunFault). printed (verdict o)) fault ∙ ap goes (sym all) in
-      subst (λ (s : Step (List ℕ)). IfTold s (λ t. t ≡ goes text)) (sym step) refl
+      let step : printed (run_verdict script files) ≡ passes text =
+      ap (λ (b : Bool). printed (with_meaning (b && has_meaning files script))) fits ∙ ap (λ (b : Bool). printed (with_meaning b)) meaning ∙ ap (λ (o : Option RunFault). printed (verdict o)) fault ∙ ap passes (sym all) in
+      subst (λ (s : Verdict (List ℕ)). IfTold s (λ t. t ≡ passes text)) (sym step) refl
 
 -- ---- the files of a script, and then its run
 
 -- a refusal of the files
-pub files_refuse : (content : List ℕ → Content) (script : List StatementTree) (answer : Outcome) → AgreesRefused (files_step content (scanned_keys script)) answer → AgreesRefused (printed_step content script) answer
+pub files_refuse : (content : List ℕ → Content) (script : List StatementTree) (answer : Outcome) → AgreesRefused (files_verdict content (scanned_keys script)) answer → AgreesRefused (printed_verdict content script) answer
 files_refuse content script answer h =
-    refused_first (then_step (files_step content (scanned_keys script)) (run_step script)) (λ stored. goes (output_text stored)) answer
-    (refused_first (files_step content (scanned_keys script)) (run_step script) answer h)
+    refused_first (and_then (files_verdict content (scanned_keys script)) (run_verdict script)) (λ stored. passes (output_text stored)) answer
+    (refused_first (files_verdict content (scanned_keys script)) (run_verdict script) answer h)
 
 -- a step behind two others
-regrouped : {X Y Z : Type 0} (s : Step X) (f : X → Step Y) (g : Y → Step Z) → then_step (then_step s f) g ≡ then_step s (λ x. then_step (f x) g)
+regrouped : {X Y Z : Type 0} (s : Verdict X) (f : X → Verdict Y) (g : Y → Verdict Z) → and_then (and_then s f) g ≡ and_then s (λ x. and_then (f x) g)
 regrouped untold f g = refl
 regrouped (refused answer) f g = refl
-regrouped (goes x) f g = refl
+regrouped (passes x) f g = refl
 
 -- a refusal of the run over the files that were read
-pub run_refuses : (content : List ℕ → Content) (script : List StatementTree) (files : List File) (answer : Outcome) → IfTold (files_step content (scanned_keys script)) (λ s. s ≡ goes files)
-    → AgreesRefused (then_step (run_step script files) (λ stored. goes (output_text stored))) answer → AgreesRefused (printed_step content script) answer
+pub run_refuses : (content : List ℕ → Content) (script : List StatementTree) (files : List File) (answer : Outcome) → IfTold (files_verdict content (scanned_keys script)) (λ s. s ≡ passes files)
+    → AgreesRefused (and_then (run_verdict script files) (λ stored. passes (output_text stored))) answer → AgreesRefused (printed_verdict content script) answer
 run_refuses content script files answer read h =
-    subst (λ s. AgreesRefused s answer) (sym (regrouped (files_step content (scanned_keys script)) (run_step script) (λ stored. goes (output_text stored))))
-    (refused_second (files_step content (scanned_keys script)) (λ fs. then_step (run_step script fs) (λ stored. goes (output_text stored))) files answer read h)
+    subst (λ s. AgreesRefused s answer) (sym (regrouped (files_verdict content (scanned_keys script)) (run_verdict script) (λ stored. passes (output_text stored))))
+    (refused_second (files_verdict content (scanned_keys script)) (λ fs. and_then (run_verdict script fs) (λ stored. passes (output_text stored))) files answer read h)
 
 -- the text of the run over them
-pub run_goes : (content : List ℕ → Content) (script : List StatementTree) (files : List File) (text : List ℕ) → IfTold (files_step content (scanned_keys script)) (λ s. s ≡ goes files)
-    → IfTold (then_step (run_step script files) (λ stored. goes (output_text stored))) (λ s. s ≡ goes text) → IfTold (printed_step content script) (λ s. s ≡ goes text)
+pub run_goes : (content : List ℕ → Content) (script : List StatementTree) (files : List File) (text : List ℕ) → IfTold (files_verdict content (scanned_keys script)) (λ s. s ≡ passes files)
+    → IfTold (and_then (run_verdict script files) (λ stored. passes (output_text stored))) (λ s. s ≡ passes text) → IfTold (printed_verdict content script) (λ s. s ≡ passes text)
 run_goes content script files text read h =
-    subst (λ (s : Step (List ℕ)). IfTold s (λ t. t ≡ goes text)) (sym (regrouped (files_step content (scanned_keys script)) (run_step script) (λ stored. goes (output_text stored))))
-    (goes_second (files_step content (scanned_keys script)) (λ fs. then_step (run_step script fs) (λ stored. goes (output_text stored))) files text read h)
+    subst (λ (s : Verdict (List ℕ)). IfTold s (λ t. t ≡ passes text)) (sym (regrouped (files_verdict content (scanned_keys script)) (run_verdict script) (λ stored. passes (output_text stored))))
+    (goes_second (files_verdict content (scanned_keys script)) (λ fs. and_then (run_verdict script fs) (λ stored. passes (output_text stored))) files text read h)
 
 -- ---- the script, and then its run
 
-told_text : (bytes : List ℕ) (s : Step (List StatementTree)) → TextComesTo bytes s → s ≡ untold → ⊥
+told_text : (bytes : List ℕ) (s : Verdict (List StatementTree)) → TextComesTo bytes s → s ≡ untold → ⊥
 told_text bytes s (not_text n) e = cc
 told_text bytes s (bad_token line what h) e = cc
 told_text bytes s (bad_piece tokens number fault a f) e = cc
 told_text bytes s (not_built tokens script a r b) e = cc
 told_text bytes s (built tokens script a r b) e = cc
 
-told_file : (content : Content) (s : Step (List StatementTree)) → ScriptComesTo content s → s ≡ untold → content ≡ outside.untold
+told_file : (content : Content) (s : Verdict (List StatementTree)) → ScriptComesTo content s → s ≡ untold → content ≡ outside.untold
 told_file content s not_told e = refl
 told_file content s no_script e = cc
 told_file content s (too_long bytes h) e = cc
@@ -102,45 +102,45 @@ not_told_is content comes = told_file content untold comes refl
 module _ (words : List (List ℕ)) (content : List ℕ → Content) (name : List ℕ) (is_named : script_name words ≡ Some name) where
   pub script_refuses : (answer : Outcome) → RefusesBy (ScriptComesTo (content name)) answer → RefusesBy (ComesTo words content) answer
   script_refuses answer h =
-      met_further (ScriptComesTo (content name)) (ComesTo words content) (printed_step content) (λ s comes. named name s is_named comes) answer h
+      met_further (ScriptComesTo (content name)) (ComesTo words content) (printed_verdict content) (λ s comes. named name s is_named comes) answer h
 
-  pub printed_refuses : (script : List StatementTree) (answer : Outcome) → Meets (ScriptComesTo (content name)) (goes script) → AgreesRefused (printed_step content script) answer → RefusesBy (ComesTo words content) answer
+  pub printed_refuses : (script : List StatementTree) (answer : Outcome) → Meets (ScriptComesTo (content name)) (passes script) → AgreesRefused (printed_verdict content script) answer → RefusesBy (ComesTo words content) answer
   printed_refuses script answer m h =
-      met (ComesTo words content) (then_step m.step (printed_step content)) answer (named name m.step is_named m.comes)
-      (refused_second m.step (printed_step content) script answer m.is h)
+      met (ComesTo words content) (and_then m.step (printed_verdict content)) answer (named name m.step is_named m.comes)
+      (refused_second m.step (printed_verdict content) script answer m.is h)
 
-  pub printed_goes : (script : List StatementTree) (text : List ℕ) → Meets (ScriptComesTo (content name)) (goes script) → IfTold (printed_step content script) (λ s. s ≡ goes text) → Meets (ComesTo words content) (goes text)
+  pub printed_goes : (script : List StatementTree) (text : List ℕ) → Meets (ScriptComesTo (content name)) (passes script) → IfTold (printed_verdict content script) (λ s. s ≡ passes text) → Meets (ComesTo words content) (passes text)
   printed_goes script text m h = record {
-    step = then_step m.step (printed_step content);
+    step = and_then m.step (printed_verdict content);
     comes = named name m.step is_named m.comes;
-    is = goes_second m.step (printed_step content) script text m.is h;
+    is = goes_second m.step (printed_verdict content) script text m.is h;
   }
 
-  pub asked : (script : List StatementTree) (file : List ℕ) → Meets (ScriptComesTo (content name)) (goes script) → IsFileOf (scanned_keys script) file → IsAskedOf words content file
+  pub asked : (script : List StatementTree) (file : List ℕ) → Meets (ScriptComesTo (content name)) (passes script) → IsFileOf (scanned_keys script) file → IsAskedOf words content file
   asked script file m f = told m.step m.comes m.is
     where
-      told : (s : Step (List StatementTree)) → ScriptComesTo (content name) s → IfTold s (λ t. t ≡ goes script) → IsAskedOf words content file
+      told : (s : Verdict (List StatementTree)) → ScriptComesTo (content name) s → IfTold s (λ t. t ≡ passes script) → IsAskedOf words content file
       told untold comes is = of_untold name file is_named (not_told_is (content name) comes)
       told (refused answer) comes is = cc
-      told (goes other) comes is =
+      told (passes other) comes is =
           let same : other ≡ script = cc in
           subst (IsAskedOf words content) (sym f.is_named)
-          (a_relation name script f.key is_named (subst (λ t. ScriptComesTo (content name) (goes t)) same comes) f.is_one)
+          (a_relation name script f.key is_named (subst (λ t. ScriptComesTo (content name) (passes t)) same comes) f.is_one)
 
-  agrees_on : (script : List StatementTree) (r : Result (List ℕ) Outcome) → Meets (ScriptComesTo (content name)) (goes script) → Agrees (printed_step content script) r → AgreesBy (ComesTo words content) r
+  agrees_on : (script : List StatementTree) (r : Result (List ℕ) Outcome) → Meets (ScriptComesTo (content name)) (passes script) → Agrees (printed_verdict content script) r → AgreesBy (ComesTo words content) r
   agrees_on script (Ok text) m h = printed_goes script text m h
   agrees_on script (Err answer) m h = printed_refuses script answer m h
 
-  cause_on : (script : List StatementTree) (part run : Counts) (r : Result (List ℕ) Outcome) → Meets (ScriptComesTo (content name)) (goes script) → LiesWithin part run
+  cause_on : (script : List StatementTree) (part run : Counts) (r : Result (List ℕ) Outcome) → Meets (ScriptComesTo (content name)) (passes script) → LiesWithin part run
       → IfErr r (HasCause part (IsFileOf (scanned_keys script))) → IfErr r (HasCause run (IsAskedOf words content))
   cause_on script part run (Ok text) m within h = tt
   cause_on script part run (Err answer) m within h = HasCause-part part run _ (IsAskedOf words content) answer within (λ file f. asked script file m f) h
 
   -- the script was read, and then its run was prepared on the same content
-  pub reads_on : (script : List StatementTree) (same : List ℕ → Content) (part run : Counts) (r : Result (List ℕ) Outcome) → Meets (ScriptComesTo (content name)) (goes script)
-      → same ≡ content → LiesWithin part run → ReadsStep (printed_step same script) part (IsFileOf (scanned_keys script)) r → ReadsBy (ComesTo words content) run (IsAskedOf words content) r
+  pub reads_on : (script : List StatementTree) (same : List ℕ → Content) (part run : Counts) (r : Result (List ℕ) Outcome) → Meets (ScriptComesTo (content name)) (passes script)
+      → same ≡ content → LiesWithin part run → ReadsStep (printed_verdict same script) part (IsFileOf (scanned_keys script)) r → ReadsBy (ComesTo words content) run (IsAskedOf words content) r
   reads_on script same part run r m is within h = record {
-    agrees = agrees_on script r m (subst (λ (con : List ℕ → Content). Agrees (printed_step con script) r) is h.agrees);
+    agrees = agrees_on script r m (subst (λ (con : List ℕ → Content). Agrees (printed_verdict con script) r) is h.agrees);
     cause = cause_on script part run r m within h.cause;
     faults_kept = omega (arith, within.faults_from, within.faults_on, within.faults_to);
     misses_kept = omega (arith, within.misses_from, within.misses_on, within.misses_to);
@@ -148,37 +148,42 @@ module _ (words : List (List ℕ)) (content : List ℕ → Content) (name : List
 
 -- ---- the words and the files decide the answer
 
-decides_done : (P : List ℕ → Type 0) (s : Step (List ℕ)) → IfTold s (λ t. (text : List ℕ) × (t ≡ goes text) × P text) → Decides s outcome.Done
+decides_done : (P : List ℕ → Type 0) (s : Verdict (List ℕ)) → IfTold s (λ t. (text : List ℕ) × (t ≡ passes text) × P text) → Decides s outcome.Done
 decides_done P untold h = tt
-decides_done P (refused answer) h = let e : refused answer ≡ goes h.0 = h.1 in cc
-decides_done P (goes text) h = inl refl
+decides_done P (refused answer) h = let e : refused answer ≡ passes h.0 = h.1 in cc
+decides_done P (passes text) h = inl refl
 
-decides_memory : (s : Step (List ℕ)) → Decides s outcome.Memory
-decides_memory untold = tt
-decides_memory (refused answer) = inr refl
-decides_memory (goes text) = inr refl
+decides_write : (P : List ℕ → Type 0) (s : Verdict (List ℕ)) → IfTold s (λ t. (text : List ℕ) × (t ≡ passes text) × P text) → Decides s outcome.WriteFault
+decides_write P untold h = tt
+decides_write P (refused answer) h = let e : refused answer ≡ passes h.0 = h.1 in cc
+decides_write P (passes text) h = inr (inl refl)
 
-decides_refused : (answer : Outcome) (s : Step (List ℕ)) → IfTold s (λ t. t ≡ refused answer) → Decides s answer
+decides_in_place : (answer : Outcome) → IsInPlace answer → (s : Verdict (List ℕ)) → Decides s answer
+decides_in_place answer p untold = tt
+decides_in_place answer p (refused other) = inr p
+decides_in_place answer p (passes text) = inr (inr p)
+
+decides_refused : (answer : Outcome) (s : Verdict (List ℕ)) → IfTold s (λ t. t ≡ refused answer) → Decides s answer
 decides_refused answer untold h = tt
 decides_refused answer (refused other) h = let same : answer ≡ other = cc in inl same
-decides_refused answer (goes text) h = cc
+decides_refused answer (passes text) h = cc
 
-module _ (run : Run) (step : Step (List ℕ)) (comes : ComesTo run.words run.content step) where
-  same_step : (s : Step (List ℕ)) (answer : Outcome) → ComesTo run.words run.content s → Decides s answer → Decides step answer
+module _ (run : Run) (step : Verdict (List ℕ)) (comes : ComesTo run.words run.content step) where
+  same_step : (s : Verdict (List ℕ)) (answer : Outcome) → ComesTo run.words run.content s → Decides s answer → Decides step answer
   same_step s answer other h = subst (λ t. Decides t answer) (comes_to_one run.words run.content s step other comes) h
 
   met_step : (answer : Outcome) → Meets (ComesTo run.words run.content) (refused answer) → Decides step answer
   met_step answer m = same_step m.step answer m.comes (decides_refused answer m.step m.is)
 
-  decided_from : (answer : Outcome) → Explains run answer → ¬ Rose run.shelf.faults_before run.shelf.faults_after → ¬ FaultsRose run.out → Decides step answer
-  decided_from outcome.Done e shelf out = same_step e.step outcome.Done e.comes (decides_done _ e.step e.holds)
-  decided_from outcome.WriteFault e shelf out = absurd (out e.0)
-  decided_from outcome.Memory e shelf out = decides_memory step
-  decided_from (outcome.ReadFault name) e shelf out = absurd (shelf e.cause.0)
-  decided_from answer e shelf out = met_step answer e.agrees
+  decided_from : (answer : Outcome) → Explains run answer → Decides step answer
+  decided_from outcome.Done e = same_step e.step outcome.Done e.comes (decides_done _ e.step e.holds)
+  decided_from outcome.WriteFault e = same_step e.1.step outcome.WriteFault e.1.comes (decides_write _ e.1.step e.1.holds)
+  decided_from outcome.Memory e = decides_in_place outcome.Memory tt step
+  decided_from (outcome.ReadFault name) e = decides_in_place (outcome.ReadFault name) tt step
+  decided_from answer e = met_step answer e.agrees
 
-pub decided : (run : Run) (answer : Outcome) → Explains run answer → (step : Step (List ℕ)) → ComesTo run.words run.content step → ¬ Rose run.shelf.faults_before run.shelf.faults_after → ¬ FaultsRose run.out → Decides step answer
-decided run answer e step comes shelf out = decided_from run step comes answer e shelf out
+pub decided : (run : Run) (answer : Outcome) → Explains run answer → (step : Verdict (List ℕ)) → ComesTo run.words run.content step → Decides step answer
+decided run answer e step comes = decided_from run step comes answer e
 
 -- ---- the line of the answer
 

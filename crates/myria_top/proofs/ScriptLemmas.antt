@@ -10,12 +10,12 @@ use Rattle.myria_top.specs.declared.outcomes.Outcome.{Outcome}
 use Rattle.myria_top.specs.declared.outcomes.Outcome.TheVariants as outcome
 use Rattle.myria_top.specs.Reading.{AgreesBy, Counts, HasCause, Meets, RefusesBy}
 use Rattle.myria_top.specs.Scripts.{TextComesTo, ScriptComesTo, not_told, no_script, too_long, short, trees_read, IsOfTexts}
-use Rattle.myria_top.specs.Steps.{Step, untold, refused, goes}
+use Rattle.myria_top.specs.Verdicts.{Verdict, untold, refused, passes}
 
 -- ---- steps of one relation and another
 
-module _ {X : Type 0} (Comes Further : Step X → Type 0) (further : (s : Step X) → Comes s → Further s) where
-  met : (wanted : Step X) → Meets Comes wanted → Meets Further wanted
+module _ {X : Type 0} (Comes Further : Verdict X → Type 0) (further : (s : Verdict X) → Comes s → Further s) where
+  met : (wanted : Verdict X) → Meets Comes wanted → Meets Further wanted
   met wanted h = record { step = h.step; comes = further h.step h.comes; is = h.is }
 
   refused_further : (answer : Outcome) → RefusesBy Comes answer → RefusesBy Further answer
@@ -26,12 +26,12 @@ module _ {X : Type 0} (Comes Further : Step X → Type 0) (further : (s : Step X
   refused_further answer h = met (refused answer) h
 
   agrees_further : (r : Result X Outcome) → AgreesBy Comes r → AgreesBy Further r
-  agrees_further (Ok x) h = met (goes x) h
+  agrees_further (Ok x) h = met (passes x) h
   agrees_further (Err answer) h = refused_further answer h
 
 -- where nothing is told, everything agrees but an answer after the output
-module _ {X : Type 0} (Comes Further : Step X → Type 0) (further : Further untold) where
-  met_untold : (wanted : Step X) → Meets Further wanted
+module _ {X : Type 0} (Comes Further : Verdict X → Type 0) (further : Further untold) where
+  met_untold : (wanted : Verdict X) → Meets Further wanted
   met_untold wanted = record { step = untold; comes = further; is = tt }
 
   refused_untold : (answer : Outcome) → RefusesBy Comes answer → RefusesBy Further answer
@@ -42,7 +42,7 @@ module _ {X : Type 0} (Comes Further : Step X → Type 0) (further : Further unt
   refused_untold answer h = met_untold (refused answer)
 
   agrees_untold : (r : Result X Outcome) → AgreesBy Comes r → AgreesBy Further r
-  agrees_untold (Ok x) h = met_untold (goes x)
+  agrees_untold (Ok x) h = met_untold (passes x)
   agrees_untold (Err answer) h = refused_untold answer h
 
 -- ---- the file of a script
@@ -74,6 +74,8 @@ text_read (outside.there file) bytes r given h a =
 no_count : (counts : Counts) (P : List ℕ → Type 0) (answer : Outcome) → IsOfTexts answer → HasCause counts P answer
 no_count counts P outcome.NoScript h = absurd h
 no_count counts P (outcome.NoRelation key) h = absurd h
+no_count counts P (outcome.RelTooLong key) h = absurd h
+no_count counts P (outcome.BadRelation key fault) h = absurd h
 no_count counts P (outcome.ReadFault name) h = absurd h
 no_count counts P answer h = tt
 

@@ -17,8 +17,8 @@ use Rattle.myria_top.specs.declared.outcomes.Outcome.TheVariants as outcome
 use Rattle.myria_top.specs.declared.outcomes.Part.TheVariants as part
 use Rattle.myria_top.specs.Forms.{is_built}
 use Rattle.myria_top.specs.Outcomes.{line_of}
-use Rattle.myria_top.specs.Steps.{goes, refused}
-use Rattle.myria_top.specs.Verdicts.{printed_step}
+use Rattle.myria_top.specs.Verdicts.{passes, refused}
+use Rattle.myria_top.specs.Runs.{printed_verdict}
 
 abbrev adhoc : Name → Key
 adhoc name = record { user = codes "public"; program = codes "adhoc"; name = name }
@@ -37,21 +37,21 @@ abbrev scan_and_store : List StatementTree
 scan_and_store = Assign (codes "A") (Copy (operand.Scan (adhoc (codes "R")))) ∷ Store (codes "A") (adhoc (codes "Out")) ∷ []
 
 -- the rows come out in order, under their line and their header
-pub printed-scan_and_store : printed_step (shelf_of (codes "public:adhoc:R.csv") (codes "x:int,y:int\n3,1\n1,2\n2,5\n")) scan_and_store
-    ≡ goes (codes "-- store public:adhoc:Out 3 rows\nx:int,y:int\n1,2\n2,5\n3,1\n")
+pub printed-scan_and_store : printed_verdict (shelf_of (codes "public:adhoc:R.csv") (codes "x:int,y:int\n3,1\n1,2\n2,5\n")) scan_and_store
+    ≡ passes (codes "-- store public:adhoc:Out 3 rows\nx:int,y:int\n1,2\n2,5\n3,1\n")
 unfolding files_on_literals
 printed-scan_and_store = refl
 
-pub printed-without_a_relation : printed_step (shelf_of (codes "public:adhoc:S.csv") []) scan_and_store ≡ refused (outcome.NoRelation (adhoc (codes "R")))
+pub printed-without_a_relation : printed_verdict (shelf_of (codes "public:adhoc:S.csv") []) scan_and_store ≡ refused (outcome.NoRelation (adhoc (codes "R")))
 printed-without_a_relation = refl
 
-pub printed-of_a_short_row : printed_step (shelf_of (codes "public:adhoc:R.csv") (codes "x:int,y:int\n1,2\n3\n")) scan_and_store ≡ refused (outcome.BadRelation (adhoc (codes "R")) (fault.FieldCount 2))
+pub printed-of_a_short_row : printed_verdict (shelf_of (codes "public:adhoc:R.csv") (codes "x:int,y:int\n1,2\n3\n")) scan_and_store ≡ refused (outcome.BadRelation (adhoc (codes "R")) (fault.FieldCount 2))
 unfolding files_on_literals
 printed-of_a_short_row = refl
 
 -- a relation of strings and booleans is stored as it is
-pub printed-strings : printed_step (shelf_of (codes "public:adhoc:R.csv") (codes "name,ok:boolean\n\"b,\",TRUE\na,false\n")) scan_and_store
-    ≡ goes (codes "-- store public:adhoc:Out 2 rows\nname:string,ok:boolean\na,false\n\"b,\",true\n")
+pub printed-strings : printed_verdict (shelf_of (codes "public:adhoc:R.csv") (codes "name,ok:boolean\n\"b,\",TRUE\na,false\n")) scan_and_store
+    ≡ passes (codes "-- store public:adhoc:Out 2 rows\nname:string,ok:boolean\na,false\n\"b,\",true\n")
 unfolding files_on_literals
 printed-strings = refl
 
@@ -73,17 +73,17 @@ join_with name =
 abbrev edges : List ℕ → Content
 edges = shelf_of (codes "public:adhoc:R.csv") (codes "x:int,y:int\n1,2\n2,3\n2,3\n3,1\n")
 
-pub printed-join : printed_step edges (join_with (codes "y")) ≡ goes (codes "-- store public:adhoc:Out 5 rows\nx:int,y:int\n1,3\n1,3\n2,1\n2,1\n3,2\n")
+pub printed-join : printed_verdict edges (join_with (codes "y")) ≡ passes (codes "-- store public:adhoc:Out 5 rows\nx:int,y:int\n1,3\n1,3\n2,1\n2,1\n3,2\n")
 unfolding files_on_literals
 printed-join = refl
 
 -- a column that isn't in the header of its item
-pub printed-join_of_no_column : printed_step edges (join_with (codes "z")) ≡ refused (outcome.NotBuilt part.Relation)
+pub printed-join_of_no_column : printed_verdict edges (join_with (codes "z")) ≡ refused (outcome.NotBuilt part.Relation)
 unfolding files_on_literals
 printed-join_of_no_column = refl
 
 -- a join looks at no types yet, so it needs ints alone
-pub printed-join_of_strings : printed_step (shelf_of (codes "public:adhoc:R.csv") (codes "x:int,y\n1,2\n")) (join_with (codes "y"))
+pub printed-join_of_strings : printed_verdict (shelf_of (codes "public:adhoc:R.csv") (codes "x:int,y\n1,2\n")) (join_with (codes "y"))
     ≡ refused (outcome.NotBuilt part.Relation)
 unfolding files_on_literals
 printed-join_of_strings = refl

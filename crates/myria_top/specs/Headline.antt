@@ -17,8 +17,8 @@ use Rattle.myria_top.specs.declared.outcomes.Part.TheVariants as part
 use Rattle.myria_top.specs.Outcomes.{line_of}
 use Rattle.myria_top.specs.Reading.{Counts, HasCause, RefusesBy, script_name}
 use Rattle.myria_top.specs.Scripts.{ScriptComesTo}
-use Rattle.myria_top.specs.Steps.{Step, untold, refused, goes, IfTold}
-use Rattle.myria_top.specs.Verdicts.{ComesTo}
+use Rattle.myria_top.specs.Verdicts.{Verdict, untold, refused, passes, IfTold}
+use Rattle.myria_top.specs.Runs.{ComesTo}
 
 -- a sink before and after a run: what it took, where that is known, and its counts
 pub record Written : Type 0 where
@@ -58,16 +58,16 @@ TookNothing sink = Keeps sink.before sink.after
 
 -- the words and the files come to a text, where the shelf tells enough, and this holds of it
 pub record OfText (run : Run) (P : List ℕ → Type 0) : Type 0 where
-  pub step : Step (List ℕ)
+  pub step : Verdict (List ℕ)
   pub comes : ComesTo run.words run.content step
-  pub holds : IfTold step (λ s. (text : List ℕ) × (s ≡ goes text) × P text)
+  pub holds : IfTold step (λ s. (text : List ℕ) × (s ≡ passes text) × P text)
 
 -- a file that is asked for: the script, or the relation of a key that the script scans
 pub data IsAskedOf (words : List (List ℕ)) (content : List ℕ → Content) : List ℕ → Type 0 where
   the_script : (name : List ℕ) → script_name words ≡ Some name → IsAskedOf words content name
   of_untold : (name asked : List ℕ) → script_name words ≡ Some name → content name ≡ outside.untold → IsAskedOf words content asked
   a_relation : (name : List ℕ) (trees : List StatementTree) (key : Key) → script_name words ≡ Some name
-      → ScriptComesTo (content name) (goes trees) → Contains (scanned_keys trees) key → IsAskedOf words content (shelf_name_of key)
+      → ScriptComesTo (content name) (passes trees) → Contains (scanned_keys trees) key → IsAskedOf words content (shelf_name_of key)
 
 -- a refusal before the output: it is what the words and the files come to, a count shows its cause, and nothing is printed
 pub record ExplainsRefusal (run : Run) (answer : Outcome) : Type 0 where
@@ -87,11 +87,17 @@ Explains run answer = ExplainsRefusal run answer
 abbrev pub TellsLine : Written → List ℕ → Type 0
 TellsLine err line = TookAll err line ⊎ ((FaultsRose err ⊎ WantsRose err) × TookPart err line)
 
--- what the words and the files come to decides the answer, short of memory
-abbrev pub Decides : Step (List ℕ) → Outcome → Type 0
+-- an answer that may come in place of any other before the output: want of memory, and a fault of reading
+abbrev pub IsInPlace : Outcome → Type 0
+IsInPlace outcome.Memory = ⊤
+IsInPlace (outcome.ReadFault name) = ⊤
+IsInPlace answer = ⊥
+
+-- what the words and the files come to decides the answer
+abbrev pub Decides : Verdict (List ℕ) → Outcome → Type 0
 Decides untold answer = ⊤
-Decides (refused refusal) answer = (answer ≡ refusal) ⊎ (answer ≡ outcome.Memory)
-Decides (goes text) answer = (answer ≡ outcome.Done) ⊎ (answer ≡ outcome.Memory)
+Decides (refused refusal) answer = (answer ≡ refusal) ⊎ IsInPlace answer
+Decides (passes text) answer = (answer ≡ outcome.Done) ⊎ (answer ≡ outcome.WriteFault) ⊎ IsInPlace answer
 
 -- The promises of one run.
 pub record Headline (run : Run) (err : Written) (answer : Outcome) : Type 0 where
@@ -101,8 +107,8 @@ pub record Headline (run : Run) (err : Written) (answer : Outcome) : Type 0 wher
   pub explained : Explains run answer
   -- Words that don't name one script are refused so, and no others are.
   pub words_exactly : (answer ≡ outcome.NotBuilt part.Words) ↔ (script_name run.words ≡ None)
-  -- Where no fault rose, the words and the files alone decide the answer, short of memory: the one refusal that they come
-  -- to, or that everything is printed.
-  pub decided : (step : Step (List ℕ)) → ComesTo run.words run.content step → ¬ Rose run.shelf.faults_before run.shelf.faults_after → ¬ FaultsRose run.out → Decides step answer
+  -- The words and the files decide the answer: the one refusal that they come to, or that the text is printed or could
+  -- not be written. Want of memory and a fault of reading may come in its place.
+  pub decided : (step : Verdict (List ℕ)) → ComesTo run.words run.content step → Decides step answer
   -- Standard error took the line of the answer.
   pub told : TellsLine err (line_of run.words answer)

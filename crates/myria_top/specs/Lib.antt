@@ -1,9 +1,9 @@
 -- The words of this crate, lowest first.
 pub mod Forms
 pub mod Outcomes
-pub mod Steps
+pub mod Verdicts
 pub mod Reading
 pub mod Scripts
 pub mod OutputText
-pub mod Verdicts
+pub mod Runs
 pub mod Headline

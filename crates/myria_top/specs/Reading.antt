@@ -1,18 +1,19 @@
 -- What is read: the words and files, each of which may refuse.
 --
 --   script_name words               the name of the script
---   file_step ..                    what a file comes to
+--   file_verdict ..                    what a file comes to
 --   Agrees step result              a call came to what the step comes to
 --   ReadsStep step names ..         a call on the shelf came to the step, and each refusal has its cause
 --   Meets Comes step                the files come to this step, by a relation
 --   ReadsBy Comes names ..          a call on the shelf came to what the files come to, and each refusal has its cause
 use Rattle.std.specs.Prelude.{◌≡◌, ℕ, ◌≤◌, List, [], ◌∷◌, length, nat_lt, if◌then◌else◌, Option, Some, None, Result, Ok, Err, IfErr, ⊤, codes, nat_eq}
 use Rattle.std.specs.List.{starts_with}
+use Rattle.rel_base.specs.Keys.{shelf_name_of}
 use Rattle.rel_io.specs.Outside.{Content, Rose}
 use Rattle.rel_io.specs.Outside as outside
 use Rattle.myria_top.specs.declared.outcomes.Outcome.{Outcome}
 use Rattle.myria_top.specs.declared.outcomes.Outcome.TheVariants as outcome
-use Rattle.myria_top.specs.Steps.{Step, untold, refused, goes, IfTold}
+use Rattle.myria_top.specs.Verdicts.{Verdict, untold, refused, passes, IfTold}
 
 -- the word that names the script: the words are two, and the second is no option
 abbrev pub script_name : List (List ℕ) → Option (List ℕ)
@@ -20,14 +21,14 @@ script_name (program ∷ name ∷ []) = if starts_with nat_eq name (codes "-") t
 script_name _ = None
 
 -- what a file comes to: refused where it is missing, and where it has more than `most` bytes, and else read
-abbrev pub file_step : {X : Type 0} → ℕ → Outcome → Outcome → (List ℕ → Step X) → Content → Step X
-file_step most if_missing if_long read outside.untold = untold
-file_step most if_missing if_long read outside.missing = refused if_missing
-file_step most if_missing if_long read (outside.there bytes) =
+abbrev pub file_verdict : {X : Type 0} → ℕ → Outcome → Outcome → (List ℕ → Verdict X) → Content → Verdict X
+file_verdict most if_missing if_long read outside.untold = untold
+file_verdict most if_missing if_long read outside.missing = refused if_missing
+file_verdict most if_missing if_long read (outside.there bytes) =
     if nat_lt most (length bytes) then refused if_long else read bytes
 
 -- a refusal agrees with a step that refuses so; a fault of reading and want of memory may come of any step
-abbrev pub AgreesRefused : {X : Type 0} → Step X → Outcome → Type 0
+abbrev pub AgreesRefused : {X : Type 0} → Verdict X → Outcome → Type 0
 AgreesRefused step outcome.Done = ⊥
 AgreesRefused step outcome.WriteFault = ⊥
 AgreesRefused step (outcome.ReadFault name) = ⊤
@@ -35,8 +36,8 @@ AgreesRefused step outcome.Memory = ⊤
 AgreesRefused step answer = IfTold step (λ s. s ≡ refused answer)
 
 -- a call came to what the step comes to
-abbrev pub Agrees : {X : Type 0} → Step X → Result X Outcome → Type 0
-Agrees step (Ok x) = IfTold step (λ s. s ≡ goes x)
+abbrev pub Agrees : {X : Type 0} → Verdict X → Result X Outcome → Type 0
+Agrees step (Ok x) = IfTold step (λ s. s ≡ passes x)
 Agrees step (Err answer) = AgreesRefused step answer
 
 -- the shelf's counts before and after a call
@@ -46,28 +47,31 @@ pub record Counts : Type 0 where
   pub misses_before : ℕ
   pub misses_after : ℕ
 
--- a refusal of the shelf has its cause in a count that rose, and a fault names one of these files
+-- a refusal of the shelf has its cause in a count that rose, and what it names is one of these files
 abbrev pub HasCause : Counts → (List ℕ → Type 0) → Outcome → Type 0
 HasCause counts IsAsked outcome.NoScript = Rose counts.misses_before counts.misses_after
-HasCause counts IsAsked (outcome.NoRelation key) = Rose counts.misses_before counts.misses_after
+HasCause counts IsAsked (outcome.NoRelation key) =
+    Rose counts.misses_before counts.misses_after × IsAsked (shelf_name_of key)
+HasCause counts IsAsked (outcome.RelTooLong key) = IsAsked (shelf_name_of key)
+HasCause counts IsAsked (outcome.BadRelation key fault) = IsAsked (shelf_name_of key)
 HasCause counts IsAsked (outcome.ReadFault name) = Rose counts.faults_before counts.faults_after × IsAsked name
 HasCause counts IsAsked _ = ⊤
 
 -- a call that reads the files that IsAsked names came to what the step comes to, each refusal has its cause, and no count fell
-pub record ReadsStep {X : Type 0} (step : Step X) (counts : Counts) (IsAsked : List ℕ → Type 0) (result : Result X Outcome) : Type 0 where
+pub record ReadsStep {X : Type 0} (step : Verdict X) (counts : Counts) (IsAsked : List ℕ → Type 0) (result : Result X Outcome) : Type 0 where
   pub agrees : Agrees step result
   pub cause : IfErr result (HasCause counts IsAsked)
   pub faults_kept : counts.faults_before ≤ counts.faults_after
   pub misses_kept : counts.misses_before ≤ counts.misses_after
 
 -- the files come to such a step, where enough is told
-pub record Meets {X : Type 0} (Comes : Step X → Type 0) (wanted : Step X) : Type 0 where
-  pub step : Step X
+pub record Meets {X : Type 0} (Comes : Verdict X → Type 0) (wanted : Verdict X) : Type 0 where
+  pub step : Verdict X
   pub comes : Comes step
   pub is : IfTold step (λ s. s ≡ wanted)
 
 -- a refusal is what the files come to; a fault of reading and want of memory may come whatever they come to
-abbrev pub RefusesBy : {X : Type 0} → (Step X → Type 0) → Outcome → Type 0
+abbrev pub RefusesBy : {X : Type 0} → (Verdict X → Type 0) → Outcome → Type 0
 RefusesBy Comes outcome.Done = ⊥
 RefusesBy Comes outcome.WriteFault = ⊥
 RefusesBy Comes (outcome.ReadFault name) = ⊤
@@ -75,12 +79,12 @@ RefusesBy Comes outcome.Memory = ⊤
 RefusesBy Comes answer = Meets Comes (refused answer)
 
 -- a call came to what the files come to
-abbrev pub AgreesBy : {X : Type 0} → (Step X → Type 0) → Result X Outcome → Type 0
-AgreesBy Comes (Ok x) = Meets Comes (goes x)
+abbrev pub AgreesBy : {X : Type 0} → (Verdict X → Type 0) → Result X Outcome → Type 0
+AgreesBy Comes (Ok x) = Meets Comes (passes x)
 AgreesBy Comes (Err answer) = RefusesBy Comes answer
 
 -- a call that reads the files that IsAsked names came to what they come to, each refusal has its cause, and no count fell
-pub record ReadsBy {X : Type 0} (Comes : Step X → Type 0) (counts : Counts) (IsAsked : List ℕ → Type 0) (result : Result X Outcome) : Type 0 where
+pub record ReadsBy {X : Type 0} (Comes : Verdict X → Type 0) (counts : Counts) (IsAsked : List ℕ → Type 0) (result : Result X Outcome) : Type 0 where
   pub agrees : AgreesBy Comes result
   pub cause : IfErr result (HasCause counts IsAsked)
   pub faults_kept : counts.faults_before ≤ counts.faults_after

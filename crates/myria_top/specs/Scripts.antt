@@ -16,7 +16,7 @@ use Rattle.myria_top.specs.declared.outcomes.Outcome.TheVariants as outcome
 use Rattle.myria_top.specs.declared.outcomes.Part.TheVariants as part
 use Rattle.rel_base.specs.Limits.{most_script_bytes}
 use Rattle.myria_top.specs.Forms.{is_built}
-use Rattle.myria_top.specs.Steps.{Step, untold, refused, goes}
+use Rattle.myria_top.specs.Verdicts.{Verdict, untold, refused, passes}
 
 -- the answer to a fault of the statement with this number
 abbrev pub fault_answer : ℕ → PieceFault → Outcome
@@ -24,7 +24,7 @@ fault_answer number Syntax = outcome.Syntax number
 fault_answer number (TooMany what) = outcome.TooMany number what
 
 -- what text that is short enough comes to: its first fault as tokens, that of its pieces, or a script, which has to be built
-pub data TextComesTo (bytes : List ℕ) : Step (List StatementTree) → Type 0 where
+pub data TextComesTo (bytes : List ℕ) : Verdict (List StatementTree) → Type 0 where
   not_text : (IsUtf8 bytes → ⊥) → TextComesTo bytes (refused outcome.ScriptNotText)
   bad_token : (line : ℕ) (what : LexWhat) → HasFault bytes line what → TextComesTo bytes (refused (outcome.Lex line what))
   bad_piece : (tokens : List Token) (number : ℕ) (fault : PieceFault) → AreTokensOf bytes tokens
@@ -32,14 +32,14 @@ pub data TextComesTo (bytes : List ℕ) : Step (List StatementTree) → Type 0 w
   not_built : (tokens : List Token) (script : List StatementTree) → AreTokensOf bytes tokens
       → IsScript bytes tokens script → is_built script ≡ false → TextComesTo bytes (refused (outcome.NotBuilt part.Script))
   built : (tokens : List Token) (script : List StatementTree) → AreTokensOf bytes tokens
-      → IsScript bytes tokens script → is_built script ≡ true → TextComesTo bytes (goes script)
+      → IsScript bytes tokens script → is_built script ≡ true → TextComesTo bytes (passes script)
 
 -- what the file of a script comes to
-pub data ScriptComesTo : Content → Step (List StatementTree) → Type 0 where
+pub data ScriptComesTo : Content → Verdict (List StatementTree) → Type 0 where
   not_told : ScriptComesTo outside.untold untold
   no_script : ScriptComesTo outside.missing (refused outcome.NoScript)
   too_long : (bytes : List ℕ) → most_script_bytes < length bytes → ScriptComesTo (outside.there bytes) (refused outcome.ScriptTooLong)
-  short : (bytes : List ℕ) (s : Step (List StatementTree)) → length bytes ≤ most_script_bytes → TextComesTo bytes s
+  short : (bytes : List ℕ) (s : Verdict (List StatementTree)) → length bytes ≤ most_script_bytes → TextComesTo bytes s
       → ScriptComesTo (outside.there bytes) s
 
 -- what was read, with the trees of its statements
@@ -53,6 +53,8 @@ IsOfTexts outcome.Done = ⊥
 IsOfTexts outcome.WriteFault = ⊥
 IsOfTexts outcome.NoScript = ⊥
 IsOfTexts (outcome.NoRelation key) = ⊥
+IsOfTexts (outcome.RelTooLong key) = ⊥
+IsOfTexts (outcome.BadRelation key fault) = ⊥
 IsOfTexts (outcome.ReadFault name) = ⊥
 IsOfTexts (outcome.NotBuilt part.Words) = ⊥
 IsOfTexts _ = ⊤

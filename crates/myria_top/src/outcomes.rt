@@ -139,7 +139,7 @@ impl From<Memory> for Outcome {
 
 impl From<RunFault> for Outcome {
     ghost use Rattle.std.specs.Prelude.{◌≡◌};
-    ghost use Rattle.myria_top.specs.Verdicts.{run_answer};
+    ghost use Rattle.myria_top.specs.Runs.{run_answer};
 
     ghost from_gives = { λ fault answer. answer ≡ run_answer fault };
 

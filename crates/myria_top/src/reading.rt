@@ -7,7 +7,7 @@ ghost use Rattle.myria_top.specs.Scripts.{ScriptComesTo, TextComesTo, trees_read
 ghost use Rattle.rel_io.specs.Outside.{IsGiven, MayBeMissing, Rose};
 ghost use Rattle.rel_base.specs.Keys.{shelf_name_of};
 ghost use Rattle.myria_top.specs.Reading as spec;
-ghost use Rattle.myria_top.specs.Verdicts.{files_step, relation_step, IsFileOf};
+ghost use Rattle.myria_top.specs.Runs.{files_verdict, relation_verdict, IsFileOf};
 
 use crate::forms::is_built;
 use crate::{Outcome, Part};
@@ -89,7 +89,7 @@ fn script_of_text(alloc: Global, bytes: &[u8]) -> Result<Script, Outcome>
 /// The relations of these keys, each read wholly before the next.
 pub fn read_files<F: Shelf>(alloc: Global, shelf: &mut F, keys: &Keys) -> Result<Files, Outcome>
     requires { AllPairs (λ j k. same_key j k ≡ false) keys.now }
-    ensures read { spec.ReadsStep (files_step (F.content shelf.old) keys.now)
+    ensures read { spec.ReadsStep (files_verdict (F.content shelf.old) keys.now)
         (record {
           faults_before = F.faults shelf.old;
           faults_after = F.faults shelf.new;
@@ -125,7 +125,7 @@ fn add_file(alloc: Global, files: &mut Files, key: &Key, relation: Relation) -> 
 
 /// The relation of this key.
 pub fn read_scanned<F: Shelf>(alloc: Global, shelf: &mut F, key: &Key) -> Result<Relation, Outcome>
-    ensures read { spec.ReadsStep (relation_step key.now (F.content shelf.old (shelf_name_of key.now)))
+    ensures read { spec.ReadsStep (relation_verdict key.now (F.content shelf.old (shelf_name_of key.now)))
         (record {
           faults_before = F.faults shelf.old;
           faults_after = F.faults shelf.new;

@@ -9,9 +9,9 @@ ghost use Rattle.myria_top.specs.Reading as read;
 ghost use Rattle.myria_top.specs.Forms.{is_built};
 ghost use Rattle.myria_top.specs.OutputText.{output_text};
 ghost use Rattle.myria_top.specs.Scripts.{IsOfTexts};
-ghost use Rattle.myria_top.specs.Steps.{then_step, goes};
-ghost use Rattle.myria_top.specs.Verdicts as verdicts;
-ghost use Rattle.myria_top.specs.Verdicts.{ComesTo, IsFileOf, printed_step, run_step};
+ghost use Rattle.myria_top.specs.Verdicts.{and_then, passes};
+ghost use Rattle.myria_top.specs.Runs as runs;
+ghost use Rattle.myria_top.specs.Runs.{ComesTo, IsFileOf, printed_verdict, run_verdict};
 
 use crate::messages::tell;
 use crate::pieces::Pieces;
@@ -28,9 +28,10 @@ use std::thread::Threads;
 
 /// Runs the script that the words name, over the files of the shelf, and prints what it stores.
 ///
-/// The first word is the program's name. Everything is computed before the first byte goes out. Every answer but
-/// `Done` is told by a line on `err`; a fault of `err` changes nothing else and stops that line. The 128 taps, two for
-/// each of the most workers, stay as they are, since no row goes from worker to worker yet.
+/// The first word is the program's name. Everything is computed before the first byte passes out. Every answer but
+/// `Done` is told by a line on `err`; a fault of `err` changes nothing else and stops that line. Words that name no script
+/// leave the shelf as it was. The 128 taps, two for
+/// each of the most workers, stay as they are, since no row passes from worker to worker yet.
 pub fn run_words<R: Threads + Wait + Sync, F: Shelf, O: Sink, E: Sink, T: Tap + Send>(
     _rt: &R,
     alloc: Global,
@@ -68,6 +69,7 @@ pub fn run_words<R: Threads + Wait + Sync, F: Shelf, O: Sink, E: Sink, T: Tap + 
           wants_before = E.wants err.old;
           wants_after = E.wants err.new;
         }) result }
+    ensures unasked { read.script_name words.now ≡ None → shelf.new ≡ shelf.old }
     ensures taps { taps.new.items ≡ taps.old.items }
 {
     let answer = answer(alloc, words, shelf, out);
@@ -96,6 +98,7 @@ fn answer<F: Shelf, O: Sink>(alloc: Global, words: &[Text], shelf: &mut F, out: 
       };
     }) result }
     ensures words_exactly { (result ≡ Outcome.NotBuilt Part.Words) ↔ (read.script_name words.now ≡ None) }
+    ensures unasked { read.script_name words.now ≡ None → shelf.new ≡ shelf.old }
 {
     let text = match prepared(alloc, words, shelf) {
         Ok(text) => text,
@@ -119,6 +122,7 @@ fn prepared<F: Shelf>(alloc: Global, words: &[Text], shelf: &mut F) -> Result<Pi
         })
         (IsAskedOf words.now (F.content shelf.old)) result }
     ensures words_exactly { (result ≡ Err (Outcome.NotBuilt Part.Words)) ↔ (read.script_name words.now ≡ None) }
+    ensures unasked { read.script_name words.now ≡ None → shelf.new ≡ shelf.old }
 {
     let Some(name) = script_name(words) else {
         return Err(Outcome::NotBuilt { part: Part::Words });
@@ -137,7 +141,7 @@ fn prepared_script<F: Shelf>(
     shelf: &mut F,
 ) -> Result<Pieces, Outcome>
     requires { is_built (trees_of script.now) ≡ true }
-    ensures read { read.ReadsStep (printed_step (F.content shelf.old) (trees_of script.now))
+    ensures read { read.ReadsStep (printed_verdict (F.content shelf.old) (trees_of script.now))
         (record {
           faults_before = F.faults shelf.old;
           faults_after = F.faults shelf.new;
@@ -161,7 +165,7 @@ fn prepared_script<F: Shelf>(
 /// The text of the script's run over its files.
 fn text_of_run(alloc: Global, script: &Script, files: &Files) -> Result<Pieces, Outcome>
     requires { is_built (trees_of script.now) ≡ true }
-    ensures agrees { read.Agrees (then_step (run_step (trees_of script.now) files.now) (λ stored. goes (output_text stored))) result }
+    ensures agrees { read.Agrees (and_then (run_verdict (trees_of script.now) files.now) (λ stored. passes (output_text stored))) result }
     ensures kind { IfErr result IsOfTexts }
 {
     if !types_fit(script, files) {
@@ -190,14 +194,14 @@ fn text_of_run(alloc: Global, script: &Script, files: &Files) -> Result<Pieces, 
 
 /// Whether the types of the files fit the script, so far as they are looked at yet: a join needs ints alone.
 fn types_fit(script: &Script, files: &Files) -> bool
-    ensures { result ≡ verdicts.types_fit files.now (trees_of script.now) }
+    ensures { result ≡ runs.types_fit files.now (trees_of script.now) }
 {
     !has_join(script.as_slice()) || have_ints_alone(files.as_slice())
 }
 
 /// Whether a statement joins.
 fn has_join(script: &[Stmt]) -> bool
-    ensures { result ≡ list_any verdicts.is_join (map statement_tree_of script.now) }
+    ensures { result ≡ list_any runs.is_join (map statement_tree_of script.now) }
 {
     match script {
         [] => false,
@@ -208,7 +212,7 @@ fn has_join(script: &[Stmt]) -> bool
 
 /// Whether each column of each file is one of ints.
 fn have_ints_alone(files: &[(Key, Relation)]) -> bool
-    ensures { result ≡ verdicts.has_ints_alone files.now }
+    ensures { result ≡ runs.has_ints_alone files.now }
 {
     match files {
         [] => true,
@@ -218,14 +222,14 @@ fn have_ints_alone(files: &[(Key, Relation)]) -> bool
 
 /// Whether each column of the relation is one of ints.
 fn has_ints_alone(relation: &Relation) -> bool
-    ensures { result ≡ list_all verdicts.is_int_column relation.now.schema }
+    ensures { result ≡ list_all runs.is_int_column relation.now.schema }
 {
     relation.schema().as_slice().iter().all(is_int_column)
 }
 
 /// Whether a column is one of ints.
 fn is_int_column(column: &Column) -> bool
-    ensures { result ≡ verdicts.is_int_column column.now }
+    ensures { result ≡ runs.is_int_column column.now }
 {
     column.kind == ColType::Int
 }

@@ -3,9 +3,9 @@ use Rattle.rel_base.specs.Keys.{shelf_name_of}
 use Rattle.rel_io.specs.Outside.{Content}
 use Rattle.std.specs.Prelude.{Contains}
 use Rattle.myria_top.specs.Reading.{AgreesRefused}
-use Rattle.myria_top.specs.Verdicts.{files_step, relation_step, IsFileOf}
+use Rattle.myria_top.specs.Runs.{files_verdict, relation_verdict, IsFileOf}
 use Rattle.myria_top.proofs.ScanLemmas.{new_key, split_at}
-use Rattle.myria_top.proofs.StepLemmas.{files_refused, HasCause-part}
+use Rattle.myria_top.proofs.VerdictLemmas.{files_refused, HasCause-part}
 use Rattle.myria_top.proofs.reading.read_files.Goals as goal
 
 pub returns-in-Err-clause-read : goal.returns-in-Err-clause-read
@@ -17,11 +17,11 @@ returns-in-Err-clause-read g c =
     let kept = c.loop-key.invariant in
     let read = c.in-Err.ensures.read in
     let split = split_at keys i key c.loop-key-test.true c.key-item.is in
-    let refuses : AgreesRefused (relation_step key (content (shelf_name_of key))) c.in-Err.refusal =
-    subst (λ (con : List ℕ → Content). AgreesRefused (relation_step key (con (shelf_name_of key))) c.in-Err.refusal) kept.content read.agrees in
+    let refuses : AgreesRefused (relation_verdict key (content (shelf_name_of key))) c.in-Err.refusal =
+    subst (λ (con : List ℕ → Content). AgreesRefused (relation_verdict key (con (shelf_name_of key))) c.in-Err.refusal) kept.content read.agrees in
     let all = files_refused content (take i keys) key (drop (suc i) keys) c.loop-key.files c.in-Err.refusal kept.read refuses in
     record {
-      agrees = subst (λ ks. AgreesRefused (files_step content ks) c.in-Err.refusal) (sym split ∙ c.as_slice-key-items.ensures.value) all;
+      agrees = subst (λ ks. AgreesRefused (files_verdict content ks) c.in-Err.refusal) (sym split ∙ c.as_slice-key-items.ensures.value) all;
       cause =
           HasCause-part _ _ _ (IsFileOf c.args.keys.now) c.in-Err.refusal
           (record {

@@ -1,13 +1,13 @@
 -- the files so far are those of the keys so far; no file changed, and no count fell
 use Rattle.std.proofs.Common.{◌≡◌, ◌≤◌, map, take}
 use Rattle.rel_base.specs.Keys.{File}
-use Rattle.myria_top.specs.Steps.{goes, IfTold}
-use Rattle.myria_top.specs.Verdicts.{files_step}
+use Rattle.myria_top.specs.Verdicts.{passes, IfTold}
+use Rattle.myria_top.specs.Runs.{files_verdict}
 use Rattle.myria_top.proofs.reading.read_files.Given as goal
 
 abbrev pub invariant-loop-key : goal.invariant-loop-key
 invariant-loop-key g l = record {
-  read : IfTold (files_step (g.F.Shelf.content l.fn.shelf) (take l.key-index l.key-items)) (λ s. s ≡ goes l.files);
+  read : IfTold (files_verdict (g.F.Shelf.content l.fn.shelf) (take l.key-index l.key-items)) (λ s. s ≡ passes l.files);
   keys : map (λ (file : File). file.0) l.files ≡ take l.key-index l.key-items;
   content : g.F.Shelf.content l.shelf ≡ g.F.Shelf.content l.fn.shelf;
   faults : g.F.Shelf.faults l.fn.shelf ≤ g.F.Shelf.faults l.shelf;

@@ -1,10 +1,10 @@
-use Rattle.std.proofs.Common.{◌≡◌, ◌≢◌, ◌∙◌, sym, ap, arith}
+use Rattle.std.proofs.Common.{◌≡◌, ◌≢◌, ◌∙◌, refl, sym, ap, arith}
 use Rattle.relation_csv.specs.declared.faults.RelFault.TheVariants as why
 use Rattle.relation_csv.specs.Files.{relation_of_bytes}
 use Rattle.myria_top.specs.declared.outcomes.Outcome.TheVariants as outcome
 use Rattle.rel_base.specs.Keys.{shelf_name_of}
 use Rattle.myria_top.specs.Reading.{AgreesRefused, Counts, HasCause}
-use Rattle.myria_top.specs.Verdicts.{relation_answer, relation_of, relation_step}
+use Rattle.myria_top.specs.Runs.{relation_answer, relation_of, relation_verdict}
 use Rattle.myria_top.proofs.ReadingLemmas.{in_place, in_place_if, too_long, read_goes, read_refuses}
 use Rattle.myria_top.proofs.reading.read_scanned.Goals as goal
 
@@ -33,12 +33,12 @@ returns-then-len-gt-MOST_RELATION_BYTES-clause-read g c =
     } in
     record {
       agrees =
-          in_place (AgreesRefused (relation_step key content)) c.too_long.result (outcome.RelTooLong key) c.too_long.ensures
+          in_place (AgreesRefused (relation_verdict key content)) c.too_long.result (outcome.RelTooLong key) c.too_long.ensures
           (too_long 67108864 (outcome.NoRelation key) (outcome.RelTooLong key) (relation_of key) _ _
           (rw c.in-Ok.ensures at c.in-Ok-fetched.ensures.ok) (omega arith)) tt;
       cause =
           in_place (HasCause counts (λ asked. asked ≡ name)) c.too_long.result (outcome.RelTooLong key) c.too_long.ensures
-          tt tt;
+          refl tt;
       faults_kept = c.fetched.ensures.faults;
       misses_kept = c.fetched.ensures.misses;
     }
@@ -57,7 +57,7 @@ returns-clause-read g c =
     } in
     record {
       agrees =
-          in_place_if (AgreesRefused (relation_step key content)) c.bad_relation.result (outcome.BadRelation key fault)
+          in_place_if (AgreesRefused (relation_verdict key content)) c.bad_relation.result (outcome.BadRelation key fault)
           (fault ≢ why.Memory) c.bad_relation.ensures
           (λ other. read_refuses 67108864 (outcome.NoRelation key) (outcome.RelTooLong key) (relation_of key) _ _ _
           (rw c.in-Ok.ensures at c.in-Ok-fetched.ensures.ok) (omega arith)
@@ -65,7 +65,7 @@ returns-clause-read g c =
           (sym (ap relation_of_bytes c.deref.ensures.value) ∙ c.in-Err-read_relation.ensures (λ e. other (cc))))) tt;
       cause =
           in_place_if (HasCause counts (λ asked. asked ≡ name)) c.bad_relation.result (outcome.BadRelation key fault)
-          (fault ≢ why.Memory) c.bad_relation.ensures (λ other. tt) tt;
+          (fault ≢ why.Memory) c.bad_relation.ensures (λ other. refl) tt;
       faults_kept = c.fetched.ensures.faults;
       misses_kept = c.fetched.ensures.misses;
     }

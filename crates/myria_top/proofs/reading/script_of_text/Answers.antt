@@ -7,7 +7,7 @@ use Rattle.myria_top.specs.declared.outcomes.Outcome.TheVariants as outcome
 use Rattle.myria_top.specs.declared.outcomes.Part.TheVariants as part
 use Rattle.myria_top.specs.Reading.{Meets}
 use Rattle.myria_top.specs.Scripts.{TextComesTo, not_text, bad_token, bad_piece, not_built, built}
-use Rattle.myria_top.specs.Steps.{refused, goes}
+use Rattle.myria_top.specs.Verdicts.{refused, passes}
 use Rattle.myria_top.proofs.reading.script_of_text.Goals as goal
 
 bad_line : (bytes : List ℕ) (line other : ℕ) (what kind : LexWhat) → other ≡ line → kind ≡ what → HasFault bytes line what → Meets (TextComesTo bytes) (refused (outcome.Lex other kind))
@@ -58,7 +58,7 @@ returns-clause-agrees c = record {
 
 pub returns-then-is_built-clause-agrees : goal.returns-then-is_built-clause-agrees
 returns-then-is_built-clause-agrees c = record {
-  step = goes (trees_of c.in-Ok-parse.script);
+  step = passes (trees_of c.in-Ok-parse.script);
   comes =
       built c.in-Ok.tokens (trees_of c.in-Ok-parse.script) c.in-Ok.ensures.ok c.in-Ok-parse.ensures.ok
       (sym c.is_built.ensures ∙ c.if-is_built.true);

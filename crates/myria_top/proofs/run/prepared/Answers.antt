@@ -4,10 +4,10 @@ use Rattle.myria_top.specs.declared.outcomes.Outcome.TheVariants as outcome
 use Rattle.myria_top.specs.declared.outcomes.Part.TheVariants as part
 use Rattle.myria_top.specs.Headline.{IsAskedOf, the_script}
 use Rattle.myria_top.specs.Reading.{script_name}
-use Rattle.myria_top.specs.Steps.{refused}
-use Rattle.myria_top.specs.Verdicts.{unnamed}
+use Rattle.myria_top.specs.Verdicts.{refused}
+use Rattle.myria_top.specs.Runs.{unnamed}
 use Rattle.myria_top.proofs.RunLemmas.{script_refuses, reads_on}
-use Rattle.myria_top.proofs.StepLemmas.{HasCause-part, within_itself}
+use Rattle.myria_top.proofs.VerdictLemmas.{HasCause-part, within_itself}
 use Rattle.myria_top.proofs.run.prepared.Goals as goal
 
 pub returns-in_default-clause-read : goal.returns-in_default-clause-read

@@ -8,25 +8,25 @@ use Rattle.rel_io.proofs.OutsideLemmas.{Rose-part}
 use Rattle.myria_top.specs.declared.outcomes.Outcome.{Outcome}
 use Rattle.myria_top.specs.declared.outcomes.Outcome.TheVariants as outcome
 use Rattle.myria_top.specs.Reading.{AgreesRefused, Counts, HasCause, RefusesBy}
-use Rattle.myria_top.specs.Steps.{Step, untold, refused, goes, then_step, IfTold}
-use Rattle.myria_top.specs.Verdicts.{files_step, one_file_more, relation_step}
+use Rattle.myria_top.specs.Verdicts.{Verdict, untold, refused, passes, and_then, IfTold}
+use Rattle.myria_top.specs.Runs.{files_verdict, one_file_more, relation_verdict}
 
 -- ---- one step after another
 
-pub carried : {X Y : Type 0} (s : Step X) (f : X → Step Y) (answer : Outcome) → IfTold s (λ t. t ≡ refused answer) → IfTold (then_step s f) (λ t. t ≡ refused answer)
+pub carried : {X Y : Type 0} (s : Verdict X) (f : X → Verdict Y) (answer : Outcome) → IfTold s (λ t. t ≡ refused answer) → IfTold (and_then s f) (λ t. t ≡ refused answer)
 carried untold f answer h = tt
 carried (refused other) f answer h = let same : other ≡ answer = cc in ap refused same
-carried (goes x) f answer h = cc
+carried (passes x) f answer h = cc
 
 -- a refusal of the first step is a refusal of both
-pub refused_first : {X Y : Type 0} (s : Step X) (f : X → Step Y) (answer : Outcome) → AgreesRefused s answer → AgreesRefused (then_step s f) answer
+pub refused_first : {X Y : Type 0} (s : Verdict X) (f : X → Verdict Y) (answer : Outcome) → AgreesRefused s answer → AgreesRefused (and_then s f) answer
 refused_first s f outcome.Done h = h
 refused_first s f outcome.WriteFault h = h
 refused_first s f (outcome.ReadFault name) h = tt
 refused_first s f outcome.Memory h = tt
 refused_first s f answer h = carried s f answer h
 
-nothing_told : {X : Type 0} (Y : Type 0) (s : Step X) (answer : Outcome) → AgreesRefused s answer → AgreesRefused {X = Y} untold answer
+nothing_told : {X : Type 0} (Y : Type 0) (s : Verdict X) (answer : Outcome) → AgreesRefused s answer → AgreesRefused {X = Y} untold answer
 nothing_told Y s outcome.Done h = h
 nothing_told Y s outcome.WriteFault h = h
 nothing_told Y s (outcome.ReadFault name) h = tt
@@ -34,21 +34,21 @@ nothing_told Y s outcome.Memory h = tt
 nothing_told Y s answer h = tt
 
 -- a refusal of the second step, on the value of the first, is a refusal of both
-pub refused_second : {X Y : Type 0} (s : Step X) (f : X → Step Y) (x : X) (answer : Outcome) → IfTold s (λ t. t ≡ goes x) → AgreesRefused (f x) answer → AgreesRefused (then_step s f) answer
+pub refused_second : {X Y : Type 0} (s : Verdict X) (f : X → Verdict Y) (x : X) (answer : Outcome) → IfTold s (λ t. t ≡ passes x) → AgreesRefused (f x) answer → AgreesRefused (and_then s f) answer
 refused_second {Y = Y} untold f x answer h r = nothing_told Y (f x) answer r
 refused_second (refused other) f x answer h r = cc
-refused_second (goes y) f x answer h r = let same : x ≡ y = cc in subst (λ z. AgreesRefused (f z) answer) same r
+refused_second (passes y) f x answer h r = let same : x ≡ y = cc in subst (λ z. AgreesRefused (f z) answer) same r
 
 -- the value of the second step, on that of the first
-pub goes_second : {X Y : Type 0} (s : Step X) (f : X → Step Y) (x : X) (y : Y) → IfTold s (λ t. t ≡ goes x) → IfTold (f x) (λ t. t ≡ goes y) → IfTold (then_step s f) (λ t. t ≡ goes y)
+pub goes_second : {X Y : Type 0} (s : Verdict X) (f : X → Verdict Y) (x : X) (y : Y) → IfTold s (λ t. t ≡ passes x) → IfTold (f x) (λ t. t ≡ passes y) → IfTold (and_then s f) (λ t. t ≡ passes y)
 goes_second untold f x y h r = tt
 goes_second (refused other) f x y h r = cc
-goes_second (goes z) f x y h r = let same : x ≡ z = cc in subst (λ w. IfTold (f w) (λ t. t ≡ goes y)) same r
+goes_second (passes z) f x y h r = let same : x ≡ z = cc in subst (λ w. IfTold (f w) (λ t. t ≡ passes y)) same r
 
 -- ---- steps that the files come to by a relation
 
 -- a refusal of a step that is come to
-pub met : {X : Type 0} (Comes : Step X → Type 0) (s : Step X) (answer : Outcome) → Comes s → AgreesRefused s answer → RefusesBy Comes answer
+pub met : {X : Type 0} (Comes : Verdict X → Type 0) (s : Verdict X) (answer : Outcome) → Comes s → AgreesRefused s answer → RefusesBy Comes answer
 met Comes s outcome.Done comes h = h
 met Comes s outcome.WriteFault comes h = h
 met Comes s (outcome.ReadFault name) comes h = tt
@@ -56,48 +56,48 @@ met Comes s outcome.Memory comes h = tt
 met Comes s answer comes h = record { step = s; comes = comes; is = h }
 
 -- what holds of a refusal of one relation holds of another that follows it
-pub met_further : {X Y : Type 0} (Comes : Step X → Type 0) (Further : Step Y → Type 0) (f : X → Step Y) → ((s : Step X) → Comes s → Further (then_step s f)) → (answer : Outcome) → RefusesBy Comes answer → RefusesBy Further answer
+pub met_further : {X Y : Type 0} (Comes : Verdict X → Type 0) (Further : Verdict Y → Type 0) (f : X → Verdict Y) → ((s : Verdict X) → Comes s → Further (and_then s f)) → (answer : Outcome) → RefusesBy Comes answer → RefusesBy Further answer
 met_further Comes Further f further outcome.Done h = h
 met_further Comes Further f further outcome.WriteFault h = h
 met_further Comes Further f further (outcome.ReadFault name) h = tt
 met_further Comes Further f further outcome.Memory h = tt
 met_further Comes Further f further answer h =
-    record { step = then_step h.step f; comes = further h.step h.comes; is = carried h.step f answer h.is }
+    record { step = and_then h.step f; comes = further h.step h.comes; is = carried h.step f answer h.is }
 
 -- ---- the files of keys, one after another
 
 module _ (content : List ℕ → Content) where
-  fold-append : (s : Step (List File)) (keys others : List Key) → fold (one_file_more content) s (keys ++ others) ≡ fold (one_file_more content) (fold (one_file_more content) s keys) others
+  fold-append : (s : Verdict (List File)) (keys others : List Key) → fold (one_file_more content) s (keys ++ others) ≡ fold (one_file_more content) (fold (one_file_more content) s keys) others
   fold-append s [] others = refl
   fold-append s (key ∷ keys) others = fold-append (one_file_more content s key) keys others
 
-  abbrev file_of : Key → List File → Step (List File)
-  file_of key so_far = then_step (relation_step key (content (shelf_name_of key))) (λ table. goes (so_far ++ (key, table) ∷ []))
+  abbrev file_of : Key → List File → Verdict (List File)
+  file_of key so_far = and_then (relation_verdict key (content (shelf_name_of key))) (λ table. passes (so_far ++ (key, table) ∷ []))
 
   -- a refusal stays through the files behind
-  refused_on : (s : Step (List File)) (keys : List Key) (answer : Outcome) → AgreesRefused s answer → AgreesRefused (fold (one_file_more content) s keys) answer
+  refused_on : (s : Verdict (List File)) (keys : List Key) (answer : Outcome) → AgreesRefused s answer → AgreesRefused (fold (one_file_more content) s keys) answer
   refused_on s [] answer h = h
   refused_on s (key ∷ keys) answer h =
       refused_on (one_file_more content s key) keys answer (refused_first s (file_of key) answer h)
 
   -- one file refuses, behind those that were read
   pub files_refused : (before : List Key) (key : Key) (behind : List Key) (files : List File) (answer : Outcome)
-      → IfTold (files_step content before) (λ s. s ≡ goes files) → AgreesRefused (relation_step key (content (shelf_name_of key))) answer
-      → AgreesRefused (files_step content (before ++ key ∷ behind)) answer
+      → IfTold (files_verdict content before) (λ s. s ≡ passes files) → AgreesRefused (relation_verdict key (content (shelf_name_of key))) answer
+      → AgreesRefused (files_verdict content (before ++ key ∷ behind)) answer
   files_refused before key behind files answer read h =
-      subst (λ s. AgreesRefused s answer) (sym (fold-append (goes []) before (key ∷ behind)))
-      (refused_on (one_file_more content (files_step content before) key) behind answer
-      (refused_second (files_step content before) (file_of key) files answer read
-      (refused_first (relation_step key (content (shelf_name_of key))) (λ table. goes (files ++ (key, table) ∷ [])) answer h)))
+      subst (λ s. AgreesRefused s answer) (sym (fold-append (passes []) before (key ∷ behind)))
+      (refused_on (one_file_more content (files_verdict content before) key) behind answer
+      (refused_second (files_verdict content before) (file_of key) files answer read
+      (refused_first (relation_verdict key (content (shelf_name_of key))) (λ table. passes (files ++ (key, table) ∷ [])) answer h)))
 
   -- one file more
   pub files_more : (before : List Key) (key : Key) (files : List File) (table : RelationState)
-      → IfTold (files_step content before) (λ s. s ≡ goes files) → IfTold (relation_step key (content (shelf_name_of key))) (λ s. s ≡ goes table)
-      → IfTold (files_step content (before ++ key ∷ [])) (λ s. s ≡ goes (files ++ (key, table) ∷ []))
+      → IfTold (files_verdict content before) (λ s. s ≡ passes files) → IfTold (relation_verdict key (content (shelf_name_of key))) (λ s. s ≡ passes table)
+      → IfTold (files_verdict content (before ++ key ∷ [])) (λ s. s ≡ passes (files ++ (key, table) ∷ []))
   files_more before key files table read found =
-      subst (λ s. IfTold s (λ t. t ≡ goes (files ++ (key, table) ∷ []))) (sym (fold-append (goes []) before (key ∷ [])))
-      (goes_second (files_step content before) (file_of key) files (files ++ (key, table) ∷ []) read
-      (goes_second (relation_step key (content (shelf_name_of key))) (λ t. goes (files ++ (key, t) ∷ [])) table (files ++ (key, table) ∷ []) found refl))
+      subst (λ s. IfTold s (λ t. t ≡ passes (files ++ (key, table) ∷ []))) (sym (fold-append (passes []) before (key ∷ [])))
+      (goes_second (files_verdict content before) (file_of key) files (files ++ (key, table) ∷ []) read
+      (goes_second (relation_verdict key (content (shelf_name_of key))) (λ t. passes (files ++ (key, t) ∷ [])) table (files ++ (key, table) ∷ []) found refl))
 
 -- ---- causes
 
@@ -113,7 +113,10 @@ pub record LiesWithin (part run : Counts) : Type 0 where
 -- a cause in a part of a run is a cause in the run
 pub HasCause-part : (part run : Counts) (P Q : List ℕ → Type 0) (answer : Outcome) → LiesWithin part run → ((name : List ℕ) → P name → Q name) → HasCause part P answer → HasCause run Q answer
 HasCause-part part run P Q outcome.NoScript w f h = Rose-part _ _ _ _ w.misses_from w.misses_on w.misses_to h
-HasCause-part part run P Q (outcome.NoRelation key) w f h = Rose-part _ _ _ _ w.misses_from w.misses_on w.misses_to h
+HasCause-part part run P Q (outcome.NoRelation key) w f h =
+    (Rose-part _ _ _ _ w.misses_from w.misses_on w.misses_to h.0, f (shelf_name_of key) h.1)
+HasCause-part part run P Q (outcome.RelTooLong key) w f h = f (shelf_name_of key) h
+HasCause-part part run P Q (outcome.BadRelation key fault) w f h = f (shelf_name_of key) h
 HasCause-part part run P Q (outcome.ReadFault name) w f h = (Rose-part _ _ _ _ w.faults_from w.faults_on w.faults_to h.0, f name h.1)
 HasCause-part part run P Q answer w f h = tt
 
