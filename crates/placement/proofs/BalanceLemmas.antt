@@ -33,8 +33,9 @@ use Rattle.placement.specs.Moves.{Move, Sending, moves_of_row, moves_of_atom}
 use Rattle.placement.specs.Receiving.{GoesOnce}
 use Rattle.placement.specs.Laws.{IsPlaced, IsSharing, IsPlacing, AreWorkers, DestinationsAreWorkers, AreAmong, IsBalanced, MovesBalance, ExchangesBalance}
 use Rattle.placement.proofs.CellLemmas.{All-flat_map}
-use Rattle.placement.proofs.StepLemmas.{map-flat_map}
+use Rattle.placement.proofs.TogetherLemmas.{map-flat_map}
 use Rattle.placement.proofs.ScriptLemmas.{HasSources, home_of-lt, get_or-All, nothing_IsPlaced, All-made, steps-sources, checked-steps, steps-IsPlaced, found-IsPlaced}
+use Rattle.placement.proofs.PrefixLemmas.{map-through}
 
 -- ---- sums
 
@@ -179,10 +180,6 @@ rows-numbered p a (suc n) =
 
     one-row : (p x : ℕ) → 1 * p + x ≡ p + x
     one-row p x = omega arith
-
-map-through : {X Y Z : Type 0} (f : Y → Z) (g : X → Y) (xs : List X) → map f (map g xs) ≡ map (λ x. f (g x)) xs
-map-through f g [] = refl
-map-through f g (x ∷ xs) = ap (λ ys. f (g x) ∷ ys) (map-through f g xs)
 
 cells-numbered : (shares : List ℕ) → map (cell_number shares) (cells shares) ≡ range_with_len 0 (product shares)
 cells-numbered [] = refl

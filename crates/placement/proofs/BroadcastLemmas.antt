@@ -6,7 +6,7 @@ use Rattle.std.proofs.lemmas.Bool.Decides.{nat_tests}
 use Rattle.std.proofs.lemmas.List.{length-map, length-set}
 use Rattle.std.proofs.lemmas.List.Elements.{All-nil, All-cons, All-head, All-tail}
 use Rattle.std.proofs.lemmas.List.FromFn.{length-enumerate_from}
-use Rattle.std.proofs.lemmas.List.Sorted.{All-permutation, IsPermutation-refl}
+use Rattle.std.proofs.lemmas.List.Sorted.{All-permutation}
 use Rattle.rel_base.specs.Bags.{SameBag}
 use Rattle.myrial_ast.specs.Combinations.{Row, Rows}
 use Rattle.bag_laws.specs.Permuted.{SameTables, no_table, a_table}
@@ -23,6 +23,7 @@ use Rattle.placement.proofs.BalanceLemmas.{all-workers}
 use Rattle.placement.proofs.KeptLemmas.{candidates_are_kept}
 use Rattle.placement.proofs.ReceivedLemmas.{kept-received, kept_tables, given-items}
 use Rattle.placement.proofs.ScriptLemmas.{All-made}
+use Rattle.placement.proofs.TogetherLemmas.{same_list}
 
 -- ---- who is among the workers
 
@@ -53,9 +54,6 @@ all-received n shape j i p w low placed e =
 
     all : filter (λ row. list_any (λ c. c == w) (cond (i == j) [] (range_with_len 0 n))) (kept_of shape i p.relation.rows) ≡ kept_of shape i p.relation.rows
     all = ap (λ b. filter (λ (row : Row). b) (kept_of shape i p.relation.rows)) test ∙ filter-all (kept_of shape i p.relation.rows)
-
-same_list : (xs ys : Rows) → xs ≡ ys → SameBag xs ys
-same_list xs ys e = subst (λ zs. SameBag xs zs) e (IsPermutation-refl xs)
 
 module _ (n : ℕ) (shape : Shape) (w : ℕ) (low : w < n) where
   abbrev sent_all : ℕ → ℕ → List PlacedRelation → List Rows

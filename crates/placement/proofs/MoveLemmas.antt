@@ -3,7 +3,7 @@ use Rattle.std.proofs.Common.{◌≡◌, ℕ, zero, suc, ◌+◌, ◌<◌, ◌==
 use Rattle.std.specs.Prelude.{filter, All, slice_index_or, ◌&&◌, ◌||◌, IsTrue}
 use Rattle.std.specs.List.{flat_map, enumerate_from, list_any}
 use Rattle.std.proofs.lemmas.Bool.Decides.{nat_tests}
-use Rattle.std.proofs.lemmas.List.{length-map, get_or-map, map-append}
+use Rattle.std.proofs.lemmas.List.{length-map, get_or-map}
 use Rattle.std.proofs.lemmas.List.Elements.{All-nil, All-cons, All-head, All-tail, All-weaker, filter-append}
 use Rattle.std.proofs.lemmas.List.Folds.{flat_map-map}
 use Rattle.std.proofs.lemmas.List.FromFn.{fill_by_all}
@@ -12,17 +12,13 @@ use Rattle.algebra.specs.ShapeConditions.{all_different}
 use Rattle.algebra.proofs.ShapeLemmas.{both}
 use Rattle.placement.specs.Moves.{Move, Sending, moves_of_row, moves_of_atom, moves_of, rows_given, all_given}
 use Rattle.placement.specs.Receiving.{GoesOnce, no_sending, sent_from, sent_to, RowsAreGivenOnce}
-use Rattle.placement.proofs.TogetherLemmas.{together-filter}
+use Rattle.placement.proofs.TogetherLemmas.{together-filter, map-flat_map}
 
 -- ---- lists
 
 filter-flat_map : {X Y : Type 0} (p : Y → Bool) (f : X → List Y) (xs : List X) → filter p (flat_map f xs) ≡ flat_map (λ x. filter p (f x)) xs
 filter-flat_map p f [] = refl
 filter-flat_map p f (x ∷ xs) = filter-append p (f x) (flat_map f xs) ∙ ap (λ ys. filter p (f x) ++ ys) (filter-flat_map p f xs)
-
-map-flat_map : {X Y Z : Type 0} (g : Y → Z) (f : X → List Y) (xs : List X) → map g (flat_map f xs) ≡ flat_map (λ x. map g (f x)) xs
-map-flat_map g f [] = refl
-map-flat_map g f (x ∷ xs) = map-append g (f x) (flat_map f xs) ∙ ap (λ zs. map g (f x) ++ zs) (map-flat_map g f xs)
 
 nothing : {X Y : Type 0} (xs : List X) → flat_map {A = Y} (λ x. []) xs ≡ []
 nothing [] = refl

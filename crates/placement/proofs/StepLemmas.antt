@@ -18,7 +18,7 @@ use Rattle.algebra.specs.Trees.{Shape}
 use Rattle.algebra.specs.Shapes.{tests_of, ties_of, tie_test, listed_of}
 use Rattle.placement.specs.Layouts.{PlacedRelation, by_worker, part, together, placed_file}
 use Rattle.placement.specs.Laws.{IsPlaced}
-use Rattle.placement.proofs.TogetherLemmas.{homes-together, listed_from-append}
+use Rattle.placement.proofs.TogetherLemmas.{homes-together, listed_from-append, map-flat_map, same_list}
 
 -- ---- lists for each worker
 
@@ -56,10 +56,6 @@ seconds : {X : Type 0} (i : ℕ) (xs : List X) → map (λ (e : ℕ × X). e.1) 
 seconds i [] = refl
 seconds i (x ∷ xs) = ap (λ ys. x ∷ ys) (seconds (i + 1) xs)
 
-pub map-flat_map : {X Y : Type 0} (g : X → Y) (f : ℕ → List X) (ws : List ℕ) → map g (flat_map f ws) ≡ flat_map (λ w. map g (f w)) ws
-map-flat_map g f [] = refl
-map-flat_map g f (w ∷ ws) = map-append g (f w) (flat_map f ws) ∙ ap (λ xs. map g (f w) ++ xs) (map-flat_map g f ws)
-
 pub file-IsPlaced : (n : ℕ) (t : RelationState) → 1 ≤ n → IsPlaced n (placed_file n t)
 file-IsPlaced n t some = record {
   each_worker = length-map-range_with_len (λ w. map (λ (e : ℕ × Row). e.1) (filter (λ e. e.0 % n == w) (enumerate_from 0 t.rows))) 0 n;
@@ -85,9 +81,6 @@ union-together n a b p q =
     (both_together (part a) (part b) (range_with_len 0 n)))
 
 -- ---- one list of a join, cut in two
-
-same_list : {X : Type 0} (xs ys : List X) → xs ≡ ys → IsPermutation xs ys
-same_list xs ys e = subst (λ zs. IsPermutation xs zs) e (IsPermutation-refl xs)
 
 each_before : (c : List (List Row)) (f : Row → List (List Row)) → ((row : Row) → IsPermutation (map (λ rest. row ∷ rest) c) (f row)) → (rs : Rows)
     → IsPermutation (flat_map (λ row. map (λ rest. row ∷ rest) c) rs) (flat_map f rs)
