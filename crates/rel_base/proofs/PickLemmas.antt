@@ -41,6 +41,13 @@ few_steps start step len positive = by ((len - start + (step - 1)) / step) refl
         let up = mul-le-mul_right m positive in
         omega (arith, e, last, up)
 
+-- one place more
+pub stepped_more : (start step n : ℕ) → stepped start step (suc n) ≡ stepped start step n ++ (start + step * n) ∷ []
+stepped_more start step zero = ap (λ m. m ∷ []) (omega arith)
+stepped_more start step (suc n) =
+    let last : start + step + step * n ≡ start + step * suc n = omega arith in
+    ap (λ ms. start ∷ ms) (stepped_more (start + step) step n) ∙ ap (λ m. start ∷ (stepped (start + step) step n ++ m ∷ [])) last
+
 pub rest_nonempty : {X : Type 0} (x : List X) (xs : List (List X)) → All (λ s. 0 < length s) (x ∷ xs) → All (λ s. 0 < length s) xs
 rest_nonempty x xs all k d low = all (suc k) d (omega arith)
 

@@ -1,5 +1,5 @@
 -- Worked cases of this crate's words, each proved by computing.
-use Rattle.std.proofs.Common.{◌≡◌, ℤ, pos, negsuc, false, List, [], ◌∷◌, refl, codes}
+use Rattle.std.proofs.Common.{◌≡◌, ℕ, ℤ, pos, negsuc, false, List, [], ◌∷◌, refl, codes}
 use Rattle.std.specs.declared.cmp.Ordering.TheVariants.{Less, Greater}
 use Rattle.std.specs.Fmt.{digits}
 use Rattle.rel_base.specs.declared.values.Value.{Value}
@@ -8,6 +8,7 @@ use Rattle.rel_base.specs.declared.faults.RunFault.TheVariants as fault
 use Rattle.rel_base.specs.Bags.{sorted}
 use Rattle.rel_base.specs.Faults.{fault_text}
 use Rattle.rel_base.specs.Keys.{shelf_name_of}
+use Rattle.rel_base.specs.Picks.{items_at, every_nth}
 use Rattle.rel_base.specs.Values.{value_order, row_order}
 
 -- a row of two numbers
@@ -49,3 +50,10 @@ fault_text-rows = refl
 pub fault_text-sum : fault_text (fault.AggregateOverflow 256) ≡ codes "statement 256: aggregate overflow"
 unfolding digits
 fault_text-sum = refl
+
+-- the items 10, 11, 12, 13, 14 by twos from place 1 on, and at the places 3, 0, 3; a place behind the end gives none
+pub every_second : every_nth {X = ℕ} (10 ∷ 11 ∷ 12 ∷ 13 ∷ 14 ∷ []) 2 1 ≡ 11 ∷ 13 ∷ []
+every_second = refl
+
+pub places_picked : items_at {X = ℕ} (10 ∷ 11 ∷ 12 ∷ 13 ∷ 14 ∷ []) (3 ∷ 0 ∷ 3 ∷ 5 ∷ []) ≡ 13 ∷ 10 ∷ 13 ∷ []
+places_picked = refl

@@ -1,14 +1,15 @@
 //! Rows that are shared, not copied.
-ghost use Rattle.std.specs.Prelude.{◌≡◌, ◌+◌, ◌-◌, ◌^◌, ◌<◌, ◌≤◌, ◌==◌, ◌↔◌, [], ◌∷◌, ◌++◌, length, take, map, IsSome, IfOk, OnOk, OnErr, All, slice_index_or};
+ghost use Rattle.std.specs.Prelude.{◌≡◌, ℕ, ◌+◌, ◌-◌, ◌*◌, ◌^◌, ◌<◌, ◌≤◌, ◌==◌, ◌↔◌, [], ◌∷◌, ◌++◌, length, take, map, IsSome, IfOk, IfSome, OnOk, OnErr, All, slice_index_or};
 ghost use Rattle.std.specs.Option.{option_to_list};
 ghost use Rattle.rel_base.specs.Bags.{IsSortedPermutation};
-ghost use Rattle.rel_base.specs.Picks.{items_at, every_nth, joined};
+ghost use Rattle.rel_base.specs.Picks.{items_at, every_nth};
+ghost use Rattle.rel_base.specs.inner.Strides.{stepped};
 
 use crate::blocks::Block;
 use crate::list::copies_of;
 use crate::row_iter::RowIter;
 use crate::shared_rows::{SharedRows, run_length};
-use crate::stretches::Stretch;
+use crate::stretches::{Stretch, steps_below};
 use crate::{Duplicate, Memory, Row};
 use std::alloc::Global;
 use std::cmp::Ordering;
@@ -125,12 +126,7 @@ impl Rows {
             self.own.sort_unstable();
             return Ok(());
         }
-        let mut own = copied_rows(alloc, self)?;
-        own.sort_unstable();
-        *self = Rows {
-            shared: SharedRows::new(alloc),
-            own,
-        };
+        *self = sorted_view(alloc, self)?;
         Ok(())
     }
 
@@ -171,6 +167,36 @@ impl Rows {
             shared: picked,
             own: Vec::new(alloc),
         })
+    }
+
+    /// The rows whose number, from 0, leaves the remainder `start` by the step. Where these are all rows of one block, they
+    /// are a view, which takes no memory for each row. No row that is shared is copied.
+    pub fn every_nth(&self, alloc: Global, step: u32, start: u32) -> Result<Rows, Memory>
+        requires { start < step }
+        ensures { IfOk result (λ made. made ≡ every_nth self.now step start) }
+    {
+        if let Some(block) = self.as_block() {
+            let block = block.copy(alloc)?;
+            let made = Rows::of_stretch(alloc, Stretch::every_nth(block, step, start))?;
+            return Ok(made);
+        }
+        let count = steps_below(self.len(), step, start);
+        let places = places_apart(alloc, start, step, count)?;
+        let made = self.at_places(alloc, places.as_slice())?;
+        Ok(made)
+    }
+
+    /// The block, where these are all of its rows in its order.
+    fn as_block(&self) -> Option<&Block>
+        ensures { IfSome result (λ block. block.now ≡ self.now) }
+    {
+        if !self.own.is_empty() {
+            return None;
+        }
+        match self.shared.as_slice() {
+            [only] => only.as_block(),
+            _ => None,
+        }
     }
 
     /// The rows at the first places, as many as stand in one stretch.
@@ -228,16 +254,51 @@ impl<'a> IntoIterator for &'a Rows {
     }
 }
 
-/// Copies of the rows.
-fn copied_rows(alloc: Global, rows: &Rows) -> Result<Vec<Row>, Memory>
-    ensures { IfOk result (λ made. made.items ≡ rows.now) }
+/// The rows in ascending order, each where it stands.
+fn sorted_view(alloc: Global, rows: &Rows) -> Result<Rows, Memory>
+    ensures { IfOk result (λ made. IsSortedPermutation rows.now made) }
 {
-    let mut copies = Vec::with_capacity(alloc, rows.len() as usize)?;
+    let mut numbered = numbered_rows(alloc, rows)?;
+    numbered.sort_unstable();
+    let numbers = numbers_of(alloc, numbered.as_slice())?;
+    let made = rows.at_places(alloc, numbers.as_slice())?;
+    Ok(made)
+}
+
+/// Each row, with its number.
+fn numbered_rows(alloc: Global, rows: &Rows) -> Result<Vec<(&Row, u32)>, Memory>
+    ensures rows { IfOk result (λ made. map (λ e. e.0.now) made.items ≡ rows.now) }
+    ensures few { IfOk result (λ made. length made.items < 2 ^ 32) }
+    ensures numbered { IfOk result (λ made. All (λ e. items_at rows.now (e.1 ∷ []) ≡ e.0.now ∷ []) made.items) }
+{
+    let mut numbered = Vec::with_capacity(alloc, rows.len() as usize)?;
     for row in rows {
-        let copy = row.copy(alloc)?;
-        copies.push(copy)?;
+        numbered.push((row, numbered.len() as u32))?;
     }
-    Ok(copies)
+    Ok(numbered)
+}
+
+/// The numbers of rows, without the rows.
+fn numbers_of(alloc: Global, numbered: &[(&Row, u32)]) -> Result<Vec<u32>, Memory>
+    ensures { IfOk result (λ made. made.items ≡ map (λ e. e.1) numbered.now) }
+{
+    let mut numbers = Vec::with_capacity(alloc, numbered.len())?;
+    for (_, number) in numbered {
+        numbers.push(*number)?;
+    }
+    Ok(numbers)
+}
+
+/// So many places from a start on, a step apart.
+fn places_apart(alloc: Global, start: u32, step: u32, count: u32) -> Result<Vec<u32>, Memory>
+    requires { (i : ℕ) → i < count → start + step * i < 2 ^ 32 }
+    ensures { IfOk result (λ made. made.items ≡ stepped start step count) }
+{
+    let mut places = Vec::with_capacity(alloc, count as usize)?;
+    for i in 0..count {
+        places.push(start + step * i)?;
+    }
+    Ok(places)
 }
 
 /// Shares the own rows, behind the others. After `Memory` all is as it was.

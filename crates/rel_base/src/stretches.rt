@@ -56,7 +56,8 @@ impl Stretch {
     /// The rows of a block whose place leaves the remainder `start` by the step.
     pub fn every_nth(block: Block, step: u32, start: u32) -> Stretch
         requires { start < step }
-        ensures { result ≡ every_nth block step start }
+        ensures value { result ≡ every_nth block step start }
+        ensures bound { length result < 2 ^ 32 }
     {
         let len = steps_below(block.len(), step, start);
         Stretch {

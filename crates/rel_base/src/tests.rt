@@ -201,3 +201,49 @@ fn a_fault_names_its_statement(rt: HostRuntime) -> Result<(), Fail> {
     );
     Ok(())
 }
+
+/// Rows of one number each.
+fn rows_of(alloc: Global, numbers: &[i64]) -> Result<Rows, Memory> {
+    let mut rows = Rows::new(alloc);
+    for number in numbers {
+        if rows.len() == Rows::MOST {
+            return Err(Memory);
+        }
+        let row = row_of(alloc, &[*number])?;
+        rows.push(row)?;
+    }
+    Ok(rows)
+}
+
+#[test]
+fn views_and_places_pick_rows(rt: HostRuntime) -> Result<(), Fail> {
+    let alloc = rt.alloc();
+    let mut rows = rows_of(alloc, &[7, 1, 5, 3, 9])?;
+    rows.freeze(alloc)?;
+    let odd = rows.every_nth(alloc, 2, 1)?;
+    assert_eq!(rt; odd, rows_of(alloc, &[1, 3])?);
+    if rows.len() == 5 {
+        let picked = rows.at_places(alloc, &[4, 0, 4])?;
+        assert_eq!(rt; picked, rows_of(alloc, &[9, 7, 9])?);
+    }
+    rows.sort(alloc)?;
+    assert_eq!(rt; rows, rows_of(alloc, &[1, 3, 5, 7, 9])?);
+    Ok(())
+}
+
+#[test]
+fn what_is_pushed_or_popped_is_seen_in_one_list_alone(rt: HostRuntime) -> Result<(), Fail> {
+    let alloc = rt.alloc();
+    let mut rows = rows_of(alloc, &[7, 1])?;
+    rows.freeze(alloc)?;
+    let mut copy = rows.copy(alloc)?;
+    let other = rows_of(alloc, &[5])?;
+    if rows.len() == 2 && other.len() == 1 {
+        rows.append(alloc, other)?;
+    }
+    assert_eq!(rt; rows, rows_of(alloc, &[7, 1, 5])?);
+    assert_eq!(rt; copy.pop(alloc)?, Some(row_of(alloc, &[1])?));
+    assert_eq!(rt; copy, rows_of(alloc, &[7])?);
+    assert_eq!(rt; rows.len(), 3);
+    Ok(())
+}
