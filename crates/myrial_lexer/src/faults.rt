@@ -42,6 +42,11 @@ impl From<Memory> for LexFault {
 }
 
 impl fmt::Display for LexWhat {
+    ghost use Rattle.std.specs.Prelude.{Some};
+    ghost use Rattle.myrial_lexer.specs.Faults.{what_text};
+
+    ghost output = { λ what. Some (what_text what) };
+
     fn fmt<W: fmt::Write>(&self, f: &mut fmt::Formatter<W>) -> fmt::Result {
         f.write_str(match self {
             LexWhat::BadChar => "unexpected character",
@@ -52,6 +57,11 @@ impl fmt::Display for LexWhat {
 }
 
 impl fmt::Display for LexFault {
+    ghost use Rattle.std.specs.Prelude.{Some};
+    ghost use Rattle.myrial_lexer.specs.Faults.{fault_text};
+
+    ghost output = { λ fault. Some (fault_text fault) };
+
     fn fmt<W: fmt::Write>(&self, f: &mut fmt::Formatter<W>) -> fmt::Result {
         match self {
             LexFault::NotText => f.write_str("script is not UTF-8"),

@@ -1,4 +1,5 @@
 -- The words of this crate, lowest first.
+pub mod Faults
 pub mod Symbols
 pub mod Terminals
 pub mod Phrases

@@ -67,6 +67,11 @@ impl From<Memory> for ParseFault {
 }
 
 impl fmt::Display for What {
+    ghost use Rattle.std.specs.Prelude.{Some};
+    ghost use Rattle.myrial_parser.specs.Faults.{what_text};
+
+    ghost output = { λ what. Some (what_text what) };
+
     fn fmt<W: fmt::Write>(&self, f: &mut fmt::Formatter<W>) -> fmt::Result {
         f.write_str(match self {
             What::Statements => "statements",
