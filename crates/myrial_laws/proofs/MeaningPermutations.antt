@@ -15,9 +15,10 @@ use Rattle.myrial_ast.specs.Trees.{Name, Tree, EmitTree, RelTree, StatementTree}
 use Rattle.myrial_ast.specs.Trees as tree
 use Rattle.myrial_ast.specs.Bags.{union_all, distinct, difference}
 use Rattle.myrial_ast.specs.Combinations.{Rows, listed_rows}
-use Rattle.myrial_meaning.specs.Scopes.{scope_of, same_name}
-use Rattle.myrial_meaning.specs.Emits.{Bound, bound_in}
-use Rattle.myrial_meaning.specs.Meaning.{Environment, Source, after, comprehension_over, comprehension_rows, items_of, nothing_yet, of_one, of_two, operand_of, relation_of, source_of, stored_relations, tables_of, with_key, with_name}
+use Rattle.myrial_scopes.specs.Scopes.{scope_of, same_name}
+use Rattle.myrial_scopes.specs.Emits.{Resolved, resolved}
+use Rattle.myrial_meaning.specs.Environments.{nothing_yet, operand_of, with_key, with_name}
+use Rattle.myrial_meaning.specs.Meaning.{RelationEnvironment, ItemRelation, after, comprehension_over, comprehension_rows, items_of, of_one, of_two, relation_of, item_relation, stored_relations, tables_of}
 use Rattle.bag_laws.proofs.GroupPermutations.{result_rows-same}
 use Rattle.bag_laws.proofs.RowPermutations.{listed_rows-same, union_all-same, distinct-same, difference-same}
 use Rattle.bag_laws.specs.Permuted.{SameTables, a_table, no_table}
@@ -109,37 +110,37 @@ module _ {K : Type 0} (test : K → Bool) where
       rw same.name (found-first (test q.0) (q.0, p.1) q ps qs same.table (found-same others))
 
 -- the same names and keys, each with one relation in another order
-record SameEnvironment (there here : Environment) : Type 0 where
+record SameEnvironment (there here : RelationEnvironment) : Type 0 where
   assigned : Alike (SameEntry {K = Name}) there.assigned here.assigned
   stored : Alike (SameEntry {K = Key}) there.stored here.stored
 
 -- ---- the items of a comprehension
 
 -- one alias, with one relation in another order
-record SameSource (s r : Source) : Type 0 where
+record SameSource (s r : ItemRelation) : Type 0 where
   alias : s.alias ≡ r.alias
   table : SameTable s.table r.table
 
-items-same : {sources others : List Source} → Alike SameSource sources others → items_of sources ≡ items_of others
+items-same : {sources others : List ItemRelation} → Alike SameSource sources others → items_of sources ≡ items_of others
 items-same no_more = refl
 items-same (one_more s r sources others same rest) = let t = items-same rest in cc (same.table.schema)
 
-tables-same : {sources others : List Source} → Alike SameSource sources others → SameTables (tables_of sources) (tables_of others)
+tables-same : {sources others : List ItemRelation} → Alike SameSource sources others → SameTables (tables_of sources) (tables_of others)
 tables-same no_more = no_table
 tables-same (one_more s r sources others same rest) =
     a_table s.table.rows r.table.rows (tables_of sources) (tables_of others) same.table.rows (tables-same rest)
 
 -- ---- what relation expressions, statements and scripts stand for
 
-comprehension-same : {sources others : List Source} → Alike SameSource sources others → (condition : Option Tree) (emits : List EmitTree)
+comprehension-same : {sources others : List ItemRelation} → Alike SameSource sources others → (condition : Option Tree) (emits : List EmitTree)
     → Matched SameTable (comprehension_over sources condition emits) (comprehension_over others condition emits)
 comprehension-same {sources} {others} same condition emits =
-    rw (items-same same) (by (bound_in (scope_of (items_of others)) condition emits))
+    rw (items-same same) (by (resolved (scope_of (items_of others)) condition emits))
   where
-    by : (found : Option Bound)
+    by : (found : Option Resolved)
         → Matched SameTable
-        (option_map (λ (b : Bound). record { schema = b.schema; rows = comprehension_rows b (tables_of sources) }) found)
-        (option_map (λ (b : Bound). record { schema = b.schema; rows = comprehension_rows b (tables_of others) }) found)
+        (option_map (λ (b : Resolved). record { schema = b.schema; rows = comprehension_rows b (tables_of sources) }) found)
+        (option_map (λ (b : Resolved). record { schema = b.schema; rows = comprehension_rows b (tables_of others) }) found)
     by None = neither
     by (Some b) = both _ _ (record {
       schema = refl;
@@ -148,12 +149,12 @@ comprehension-same {sources} {others} same condition emits =
           (listed_rows-same b.comprehension (tables_of sources) (tables_of others) (tables-same same));
     })
 
-module _ (files others : List File) (there here : Environment) (files-same : Alike (SameEntry {K = Key}) files others) (same : SameEnvironment there here) where
+module _ (files others : List File) (there here : RelationEnvironment) (files-same : Alike (SameEntry {K = Key}) files others) (same : SameEnvironment there here) where
   operand-same : (o : Operand) → Matched SameTable (operand_of files there o) (operand_of others here o)
   operand-same (operand.Named name) = found-same (λ n. same_name n name) same.assigned
   operand-same (operand.Scan key) = found-same (λ k. same_key k key) (Alike-append SameEntry same.stored files-same)
 
-  source-same : (item : FromItem) → Matched SameSource (source_of files there item) (source_of others here item)
+  source-same : (item : FromItem) → Matched SameSource (item_relation files there item) (item_relation others here item)
   source-same item =
       Matched-map SameTable SameSource
       (λ table. record { alias = item.alias; table = table }) (λ table. record { alias = item.alias; table = table })
@@ -190,7 +191,7 @@ module _ (files others : List File) (there here : Environment) (files-same : Ali
       Matched-and_then (Alike SameSource) SameTable
       (λ sources. comprehension_over sources condition emits) (λ sources. comprehension_over sources condition emits)
       (λ sources rest alike. comprehension-same alike condition emits)
-      (Matched-each SameSource (source_of files there) (source_of others here) source-same items)
+      (Matched-each SameSource (item_relation files there) (item_relation others here) source-same items)
 
   after-same : (s : StatementTree) → SameEnvironment (after files there s) (after others here s)
   after-same tree.Nothing = same
@@ -209,7 +210,7 @@ module _ (files others : List File) (there here : Environment) (files-same : Ali
       })
       same (found-same (λ n. same_name n name) same.assigned)
 
-all-same : (files others : List File) → Alike (SameEntry {K = Key}) files others → (script : List StatementTree) (there here : Environment)
+all-same : (files others : List File) → Alike (SameEntry {K = Key}) files others → (script : List StatementTree) (there here : RelationEnvironment)
     → SameEnvironment there here → SameEnvironment (fold (after files) there script) (fold (after others) here script)
 all-same files others files-same [] there here same = same
 all-same files others files-same (s ∷ script) there here same =

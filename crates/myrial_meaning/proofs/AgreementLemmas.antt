@@ -18,11 +18,14 @@ use Rattle.myrial_ast.specs.Trees.{Name, RelTree, StatementTree}
 use Rattle.myrial_ast.specs.Trees as tree
 use Rattle.myrial_ast.specs.Bags.{union_all, distinct, difference}
 use Rattle.myrial_ast.specs.CandidateFaults.{Uncounted, too_many, comprehension_fault}
-use Rattle.myrial_meaning.specs.Scopes.{same_name, scope_of}
-use Rattle.myrial_meaning.specs.Emits.{Bound, bound_in}
-use Rattle.myrial_meaning.specs.Meaning.{Environment, Source, after, assigned_to, comprehension_over, items_of, kept_under, of_one, of_two, operand_of, relation_of, source_of, tables_of, with_key, with_name}
-use Rattle.myrial_meaning.specs.Needed.{is_live, is_name, is_needed, mentions, operands_of}
+use Rattle.myrial_scopes.specs.Scopes.{same_name, scope_of}
+use Rattle.myrial_scopes.specs.Emits.{Resolved, resolved}
+use Rattle.myrial_meaning.specs.Environments.{assigned_to, kept_under, operand_of, with_key, with_name}
+use Rattle.myrial_meaning.specs.Meaning.{RelationEnvironment, ItemRelation, after, comprehension_over, items_of, of_one, of_two, relation_of, item_relation, tables_of}
+use Rattle.myrial_meaning.specs.Needed.{is_live, is_name, is_needed, mentions}
+use Rattle.myrial_ast.specs.Operands.{operands_of}
 use Rattle.myrial_meaning.specs.Faults.{relation_fault, statement_fault, widths_of}
+use Rattle.myrial_meaning.proofs.BoolLemmas.{and-both, or-first, or-second}
 
 -- ---- names
 
@@ -32,44 +35,32 @@ same_name-itself name = (slice_eq-Decides Decides-eqb name name (same_name name 
 pub same_name-equal : (name other : Name) → same_name name other ≡ true → name ≡ other
 same_name-equal name other e = (slice_eq-Decides Decides-eqb name other (same_name name other) refl).0 e
 
-or-first : (a b : Bool) → a ≡ true → (a || b) ≡ true
-or-first true b e = refl
-or-first false b e = cc
-
-or-second : (a b : Bool) → b ≡ true → (a || b) ≡ true
-or-second true b e = refl
-or-second false b e = e
-
-and-both : (a b : Bool) → a ≡ true → b ≡ true → (a && b) ≡ true
-and-both true b e f = f
-and-both false b e f = cc
-
 -- ---- relations
 
 -- the environments stored the same, and the names that pass stand for the same in both
-pub record AgreesOn (uses : Name → Bool) (there here : Environment) : Type 0 where
+pub record AgreesOn (uses : Name → Bool) (there here : RelationEnvironment) : Type 0 where
   pub stored : there.stored ≡ here.stored
   pub names : (name : Name) → uses name ≡ true → assigned_to there name ≡ assigned_to here name
 
-module _ (files : List File) (there here : Environment) where
+module _ (files : List File) (there here : RelationEnvironment) where
   operand-agrees : (o : Operand) → AgreesOn (λ name. is_name name o) there here → operand_of files there o ≡ operand_of files here o
   operand-agrees (operand.Named name) agrees = agrees.names name (same_name-itself name)
   operand-agrees (operand.Scan key) agrees =
-      ap (λ stored. kept_under files (let env : Environment = record { assigned = []; stored = stored } in env) key) agrees.stored
+      ap (λ stored. kept_under files (let env : RelationEnvironment = record { assigned = []; stored = stored } in env) key) agrees.stored
 
   -- what agrees on more names agrees on fewer
   fewer : (uses others : Name → Bool) → ((name : Name) → others name ≡ true → uses name ≡ true) → AgreesOn uses there here → AgreesOn others there here
   fewer uses others within agrees = record { stored = agrees.stored; names = λ name e. agrees.names name (within name e) }
 
   sources-agree : (items : List FromItem) → AgreesOn (λ name. list_any (is_name name) (map (λ (item : FromItem). item.source) items)) there here
-      → each_or_none (source_of files there) items ≡ each_or_none (source_of files here) items
+      → each_or_none (item_relation files there) items ≡ each_or_none (item_relation files here) items
   sources-agree [] agrees = refl
   sources-agree (item ∷ items) agrees =
       let first : operand_of files there item.source ≡ operand_of files here item.source =
       operand-agrees item.source
       (fewer (λ name. is_name name item.source || list_any (is_name name) (map (λ (i : FromItem). i.source) items)) (λ name. is_name name item.source)
       (λ name e. or-first (is_name name item.source) (list_any (is_name name) (map (λ (i : FromItem). i.source) items)) e) agrees) in
-      let others : each_or_none (source_of files there) items ≡ each_or_none (source_of files here) items =
+      let others : each_or_none (item_relation files there) items ≡ each_or_none (item_relation files here) items =
       sources-agree items
       (fewer (λ name. is_name name item.source || list_any (is_name name) (map (λ (i : FromItem). i.source) items))
       (λ name. list_any (is_name name) (map (λ (i : FromItem). i.source) items))
@@ -111,17 +102,17 @@ module _ (files : List File) (there here : Environment) where
       (relation-agrees (tree.UnionAll o p) agrees)
   relation_fault-agrees number (tree.Diff o p) agrees = refl
   relation_fault-agrees number (tree.From items condition emits) agrees =
-      ap (option_and_then (λ sources. option_and_then (λ (b : Bound). comprehension_fault Uncounted number (widths_of sources) b.comprehension (tables_of sources))
-      (bound_in (scope_of (items_of sources)) condition emits))) (sources-agree items agrees)
+      ap (option_and_then (λ sources. option_and_then (λ (b : Resolved). comprehension_fault Uncounted number (widths_of sources) b.comprehension (tables_of sources))
+      (resolved (scope_of (items_of sources)) condition emits))) (sources-agree items agrees)
 
 -- ---- one statement
 
 -- the environments agree on what the rest uses
-abbrev pub Agrees : List StatementTree → Environment → Environment → Type 0
+abbrev pub Agrees : List StatementTree → RelationEnvironment → RelationEnvironment → Type 0
 Agrees rest = AgreesOn (λ name. is_live name rest)
 
 -- where a name stands for a relation, names that are not live before may be assigned anew
-assigned-anew : (env : Environment) (n : Name) (t : RelationState) (name : Name)
+assigned-anew : (env : RelationEnvironment) (n : Name) (t : RelationState) (name : Name)
     → assigned_to (with_name env n t) name ≡ cond (same_name n name) (Some t) (assigned_to env name)
 assigned-anew env n t name = by (same_name n name)
   where
@@ -134,7 +125,7 @@ both-live : (live assigned uses : Bool) → live ≡ true → (assigned && uses)
 both-live true assigned uses e = or-second (assigned && uses) true refl
 both-live false assigned uses e = cc
 
-module _ (files : List File) (there here : Environment) (rest : List StatementTree) where
+module _ (files : List File) (there here : RelationEnvironment) (rest : List StatementTree) where
   pub after-nothing : Agrees (tree.Nothing ∷ rest) there here → Agrees rest (after files there tree.Nothing) (after files here tree.Nothing)
   after-nothing agrees = agrees
 
@@ -156,7 +147,7 @@ module _ (files : List File) (there here : Environment) (rest : List StatementTr
   pub mentioned : (n : Name) (r : RelTree) → is_live n rest ≡ true → Agrees (tree.Assign n r ∷ rest) there here → AgreesOn (λ name. mentions name r) there here
   mentioned n r live agrees = record {
     stored = agrees.stored;
-    names = λ name e. agrees.names name (or-first (is_live n rest && mentions name r) (not (same_name n name) && is_live name rest) (and-both (is_live n rest) (mentions name r) live e));
+    names = λ name e. agrees.names name (or-first (mentions name r && is_live n rest) (not (same_name n name) && is_live name rest) (and-both (mentions name r) (is_live n rest) e live));
   }
 
   -- a live name that isn't assigned anew
@@ -164,7 +155,7 @@ module _ (files : List File) (there here : Environment) (rest : List StatementTr
       → (name : Name) → same_name n name ≡ false → is_live name rest ≡ true → assigned_to there name ≡ assigned_to here name
   others n r agrees name apart e =
       agrees.names name
-      (or-second (is_live n rest && mentions name r) (not (same_name n name) && is_live name rest) (and-both (not (same_name n name)) (is_live name rest) (rw apart refl) e))
+      (or-second (mentions name r && is_live n rest) (not (same_name n name) && is_live name rest) (and-both (not (same_name n name)) (is_live name rest) (rw apart refl) e))
 
   pub after-assign : (n : Name) (r : RelTree) → is_live n rest ≡ true → is_some (relation_of files there r) ≡ true → Agrees (tree.Assign n r ∷ rest) there here
       → Agrees rest (after files there (tree.Assign n r)) (after files here (tree.Assign n r))

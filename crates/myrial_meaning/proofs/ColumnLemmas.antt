@@ -14,11 +14,12 @@ use Rattle.myrial_ast.specs.Trees.{Name, Tree, EmitTree, RelTree, StatementTree}
 use Rattle.myrial_ast.specs.Trees as tree
 use Rattle.myrial_ast.specs.Bags.{union_all, distinct, difference}
 use Rattle.myrial_ast.specs.Combinations.{Rows}
-use Rattle.myrial_meaning.specs.Scopes.{Item, same_name, scope_of}
-use Rattle.myrial_meaning.specs.Emits.{Bound, bound_in}
-use Rattle.myrial_meaning.specs.Meaning.{Environment, Source, after, assigned_to, comprehension_over, comprehension_rows, items_of, kept_under, nothing_yet, of_one, of_two, operand_of, relation_of, source_of, tables_of, with_key, with_name}
-use Rattle.myrial_meaning.specs.Runnable.{all_stand, has_meaning, stands}
-use Rattle.myrial_meaning.specs.Columns.{all_declared, bare, declared}
+use Rattle.myrial_scopes.specs.Scopes.{ItemSchema, same_name, scope_of}
+use Rattle.myrial_scopes.specs.Emits.{Resolved, resolved}
+use Rattle.myrial_meaning.specs.Environments.{assigned_to, kept_under, nothing_yet, operand_of, with_key, with_name}
+use Rattle.myrial_meaning.specs.Meaning.{RelationEnvironment, ItemRelation, after, comprehension_over, comprehension_rows, items_of, of_one, of_two, relation_of, item_relation, tables_of}
+use Rattle.myrial_meaning.specs.Runnable.{all_defined, has_meaning, is_defined}
+use Rattle.myrial_meaning.specs.inner.Columns.{all_declared, bare, columns_of_two, declared}
 
 -- ---- without rows
 
@@ -29,10 +30,10 @@ bare_file : File → File
 bare_file p = (p.0, bare p.1)
 
 -- the columns of what names and stored keys stand for
-columns_of : Environment → Environment
+columns_of : RelationEnvironment → RelationEnvironment
 columns_of env = record { assigned = map bare_name env.assigned; stored = map bare_file env.stored }
 
-bare_source : Source → Source
+bare_source : ItemRelation → ItemRelation
 bare_source s = record { alias = s.alias; table = bare s.table }
 
 is_some-mapped : {X Y : Type 0} (f : X → Y) (o : Option X) → is_some (option_map f o) ≡ is_some o
@@ -74,12 +75,12 @@ found-key key (p ∷ ps) = by (same_key p.0 key) (found-key key ps)
 
 -- ---- environments with the same columns
 
-module _ (files : List File) (there here : Environment) (same : columns_of there ≡ columns_of here) where
+module _ (files : List File) (there here : RelationEnvironment) (same : columns_of there ≡ columns_of here) where
   name-columns : (name : Name) → option_map bare (assigned_to there name) ≡ option_map bare (assigned_to here name)
   unfolding columns_of
   name-columns name =
       found-name name there.assigned
-      ∙ (ap (λ (env : Environment). option_map (λ (p : Name × RelationState). p.1) (find (λ (p : Name × RelationState). same_name p.0 name) env.assigned)) same
+      ∙ (ap (λ (env : RelationEnvironment). option_map (λ (p : Name × RelationState). p.1) (find (λ (p : Name × RelationState). same_name p.0 name) env.assigned)) same
       ∙ sym (found-name name here.assigned))
 
   key-columns : (key : Key) → option_map bare (kept_under files there key) ≡ option_map bare (kept_under files here key)
@@ -88,26 +89,26 @@ module _ (files : List File) (there here : Environment) (same : columns_of there
       found-key key (there.stored ++ files)
       ∙ (ap (λ (ps : List File). option_map (λ (p : File). p.1) (find (λ (p : File). same_key p.0 key) ps))
       (map-append bare_file there.stored files
-      ∙ (ap (λ (env : Environment). env.stored ++ map bare_file files) same ∙ sym (map-append bare_file here.stored files)))
+      ∙ (ap (λ (env : RelationEnvironment). env.stored ++ map bare_file files) same ∙ sym (map-append bare_file here.stored files)))
       ∙ sym (found-key key (here.stored ++ files)))
 
   operand-columns : (o : Operand) → option_map bare (operand_of files there o) ≡ option_map bare (operand_of files here o)
   operand-columns (operand.Named name) = name-columns name
   operand-columns (operand.Scan key) = key-columns key
 
-  source-columns : (item : FromItem) → option_map bare_source (source_of files there item) ≡ option_map bare_source (source_of files here item)
+  source-columns : (item : FromItem) → option_map bare_source (item_relation files there item) ≡ option_map bare_source (item_relation files here item)
   unfolding bare_source
   source-columns item = by (operand_of files there item.source) (operand_of files here item.source) (operand-columns item.source)
     where
       by : (o p : Option RelationState) → option_map bare o ≡ option_map bare p
-          → option_map (λ (s : Source). let b : Source = record { alias = s.alias; table = bare s.table } in b) (option_map (λ (t : RelationState). let s : Source = record { alias = item.alias; table = t } in s) o)
-          ≡ option_map (λ (s : Source). let b : Source = record { alias = s.alias; table = bare s.table } in b) (option_map (λ (t : RelationState). let s : Source = record { alias = item.alias; table = t } in s) p)
+          → option_map (λ (s : ItemRelation). let b : ItemRelation = record { alias = s.alias; table = bare s.table } in b) (option_map (λ (t : RelationState). let s : ItemRelation = record { alias = item.alias; table = t } in s) o)
+          ≡ option_map (λ (s : ItemRelation). let b : ItemRelation = record { alias = s.alias; table = bare s.table } in b) (option_map (λ (t : RelationState). let s : ItemRelation = record { alias = item.alias; table = t } in s) p)
       by None None e = refl
       by None (Some t) e = cc
       by (Some t) None e = cc
-      by (Some t) (Some u) e = ap (option_map (λ (t : RelationState). let s : Source = record { alias = item.alias; table = t } in s)) e
+      by (Some t) (Some u) e = ap (option_map (λ (t : RelationState). let s : ItemRelation = record { alias = item.alias; table = t } in s)) e
 
-  both-mapped : (o p : Option Source) (ss ts : Option (List Source)) → option_map bare_source o ≡ option_map bare_source p
+  both-mapped : (o p : Option ItemRelation) (ss ts : Option (List ItemRelation)) → option_map bare_source o ≡ option_map bare_source p
       → option_map (map bare_source) ss ≡ option_map (map bare_source) ts
       → option_map (map bare_source) (put_before o ss) ≡ option_map (map bare_source) (put_before p ts)
   both-mapped None None ss ts e f = refl
@@ -122,28 +123,28 @@ module _ (files : List File) (there here : Environment) (same : columns_of there
       rw (first, others) refl
 
   sources-columns : (items : List FromItem)
-      → option_map (map bare_source) (each_or_none (source_of files there) items) ≡ option_map (map bare_source) (each_or_none (source_of files here) items)
+      → option_map (map bare_source) (each_or_none (item_relation files there) items) ≡ option_map (map bare_source) (each_or_none (item_relation files here) items)
   sources-columns [] = refl
   sources-columns (item ∷ items) =
-      both-mapped (source_of files there item) (source_of files here item) (each_or_none (source_of files there) items) (each_or_none (source_of files here) items)
+      both-mapped (item_relation files there item) (item_relation files here item) (each_or_none (item_relation files there) items) (each_or_none (item_relation files here) items)
       (source-columns item) (sources-columns items)
 
-  items-bare : (sources : List Source) → items_of (map bare_source sources) ≡ items_of sources
+  items-bare : (sources : List ItemRelation) → items_of (map bare_source sources) ≡ items_of sources
   unfolding bare_source
   items-bare [] = refl
-  items-bare (s ∷ sources) = ap (λ (rest : List Item). record { alias = s.alias; schema = s.table.schema } ∷ rest) (items-bare sources)
+  items-bare (s ∷ sources) = ap (λ (rest : List ItemSchema). record { alias = s.alias; schema = s.table.schema } ∷ rest) (items-bare sources)
 
-  over-columns : (condition : Option Tree) (emits : List EmitTree) (sources : List Source)
+  over-columns : (condition : Option Tree) (emits : List EmitTree) (sources : List ItemRelation)
       → option_map bare (comprehension_over sources condition emits)
-      ≡ option_map (λ (b : Bound). let t : RelationState = record { schema = b.schema; rows = [] } in t) (bound_in (scope_of (items_of sources)) condition emits)
-  over-columns condition emits sources = by (bound_in (scope_of (items_of sources)) condition emits)
+      ≡ option_map (λ (b : Resolved). let t : RelationState = record { schema = b.schema; rows = [] } in t) (resolved (scope_of (items_of sources)) condition emits)
+  over-columns condition emits sources = by (resolved (scope_of (items_of sources)) condition emits)
     where
-      by : (bound : Option Bound) → option_map bare (option_map (λ (b : Bound). let t : RelationState = record { schema = b.schema; rows = comprehension_rows b (tables_of sources) } in t) bound)
-          ≡ option_map (λ (b : Bound). let t : RelationState = record { schema = b.schema; rows = [] } in t) bound
+      by : (bound : Option Resolved) → option_map bare (option_map (λ (b : Resolved). let t : RelationState = record { schema = b.schema; rows = comprehension_rows b (tables_of sources) } in t) bound)
+          ≡ option_map (λ (b : Resolved). let t : RelationState = record { schema = b.schema; rows = [] } in t) bound
       by None = refl
       by (Some b) = refl
 
-  comprehension-columns : (condition : Option Tree) (emits : List EmitTree) (ss ts : Option (List Source))
+  comprehension-columns : (condition : Option Tree) (emits : List EmitTree) (ss ts : Option (List ItemRelation))
       → option_map (map bare_source) ss ≡ option_map (map bare_source) ts
       → option_map bare (option_and_then (λ sources. comprehension_over sources condition emits) ss)
       ≡ option_map bare (option_and_then (λ sources. comprehension_over sources condition emits) ts)
@@ -154,7 +155,7 @@ module _ (files : List File) (there here : Environment) (same : columns_of there
       let alike : map bare_source ss ≡ map bare_source ts = cc in
       let items : items_of ss ≡ items_of ts = sym (items-bare ss) ∙ (ap items_of alike ∙ items-bare ts) in
       over-columns condition emits ss
-      ∙ (ap (λ (its : List Item). option_map (λ (b : Bound). let t : RelationState = record { schema = b.schema; rows = [] } in t) (bound_in (scope_of its) condition emits)) items
+      ∙ (ap (λ (its : List ItemSchema). option_map (λ (b : Resolved). let t : RelationState = record { schema = b.schema; rows = [] } in t) (resolved (scope_of its) condition emits)) items
       ∙ sym (over-columns condition emits ts))
 
   one-columns : (f : Rows → Rows) (o p : Option RelationState) → option_map bare o ≡ option_map bare p → option_map bare (of_one f o) ≡ option_map bare (of_one f p)
@@ -182,12 +183,12 @@ module _ (files : List File) (there here : Environment) (same : columns_of there
   relation-columns (tree.Diff o p) =
       two-columns difference (operand_of files there o) (operand_of files here o) (operand_of files there p) (operand_of files here p) (operand-columns o) (operand-columns p)
   relation-columns (tree.From items condition emits) =
-      comprehension-columns condition emits (each_or_none (source_of files there) items) (each_or_none (source_of files here) items) (sources-columns items)
+      comprehension-columns condition emits (each_or_none (item_relation files there) items) (each_or_none (item_relation files here) items) (sources-columns items)
 
-  stands-columns : (s : StatementTree) → stands files there s ≡ stands files here s
-  stands-columns tree.Nothing = refl
-  stands-columns (tree.Assign name r) = is_some-same bare (relation_of files there r) (relation_of files here r) (relation-columns r)
-  stands-columns (tree.Store name key) = is_some-same bare (assigned_to there name) (assigned_to here name) (name-columns name)
+  is_defined-columns : (s : StatementTree) → is_defined files there s ≡ is_defined files here s
+  is_defined-columns tree.Nothing = refl
+  is_defined-columns (tree.Assign name r) = is_some-same bare (relation_of files there r) (relation_of files here r) (relation-columns r)
+  is_defined-columns (tree.Store name key) = is_some-same bare (assigned_to there name) (assigned_to here name) (name-columns name)
 
   named-columns : (name : Name) (o p : Option RelationState) → option_map bare o ≡ option_map bare p
       → columns_of (option_map_or (with_name there name) o there) ≡ columns_of (option_map_or (λ (t : RelationState). with_name here name (bare t)) p here)
@@ -197,8 +198,8 @@ module _ (files : List File) (there here : Environment) (same : columns_of there
   named-columns name (Some o) None e = cc
   named-columns name (Some o) (Some p) e =
       let alike : bare o ≡ bare p = cc in
-      let assigned : map bare_name there.assigned ≡ map bare_name here.assigned = ap (λ (env : Environment). env.assigned) same in
-      let stored : map bare_file there.stored ≡ map bare_file here.stored = ap (λ (env : Environment). env.stored) same in
+      let assigned : map bare_name there.assigned ≡ map bare_name here.assigned = ap (λ (env : RelationEnvironment). env.assigned) same in
+      let stored : map bare_file there.stored ≡ map bare_file here.stored = ap (λ (env : RelationEnvironment). env.stored) same in
       λ i. record { assigned = (name, alike i) ∷ assigned i; stored = stored i }
 
   keyed-columns : (key : Key) (o p : Option RelationState) → option_map bare o ≡ option_map bare p
@@ -209,8 +210,8 @@ module _ (files : List File) (there here : Environment) (same : columns_of there
   keyed-columns key (Some o) None e = cc
   keyed-columns key (Some o) (Some p) e =
       let alike : bare o ≡ bare p = cc in
-      let assigned : map bare_name there.assigned ≡ map bare_name here.assigned = ap (λ (env : Environment). env.assigned) same in
-      let stored : map bare_file there.stored ≡ map bare_file here.stored = ap (λ (env : Environment). env.stored) same in
+      let assigned : map bare_name there.assigned ≡ map bare_name here.assigned = ap (λ (env : RelationEnvironment). env.assigned) same in
+      let stored : map bare_file there.stored ≡ map bare_file here.stored = ap (λ (env : RelationEnvironment). env.stored) same in
       λ i. record { assigned = assigned i; stored = (key, alike i) ∷ stored i }
 
   after-columns : (s : StatementTree) → columns_of (after files there s) ≡ columns_of (declared files here s)
@@ -219,19 +220,29 @@ module _ (files : List File) (there here : Environment) (same : columns_of there
   after-columns (tree.Store name key) = keyed-columns key (assigned_to there name) (assigned_to here name) (name-columns name)
 
 -- the rest stands for something, told from the columns alone
-all-columns : (files : List File) (rest : List StatementTree) (there here : Environment) → columns_of there ≡ columns_of here
-    → all_stand files there rest ≡ all_declared files here rest
+all-columns : (files : List File) (rest : List StatementTree) (there here : RelationEnvironment) → columns_of there ≡ columns_of here
+    → all_defined files there rest ≡ all_declared files here rest
 all-columns files [] there here same = refl
 all-columns files (s ∷ rest) there here same =
-    rw (stands-columns files there here same s, all-columns files rest (after files there s) (declared files here s) (after-columns files there here same s)) refl
+    rw (is_defined-columns files there here same s, all-columns files rest (after files there s) (declared files here s) (after-columns files there here same s)) refl
 
 pub has_meaning-declared : (files : List File) (script : List StatementTree) → has_meaning files script ≡ all_declared files nothing_yet script
 has_meaning-declared files script = all-columns files script nothing_yet nothing_yet refl
 
-pub all_declared-first : (files : List File) (env : Environment) (s : StatementTree) (rest : List StatementTree) → stands files env s ≡ false
+pub all_declared-first : (files : List File) (env : RelationEnvironment) (s : StatementTree) (rest : List StatementTree) → is_defined files env s ≡ false
     → all_declared files env (s ∷ rest) ≡ false
 all_declared-first files env s rest e = rw e refl
 
-pub all_declared-here : (files : List File) (env : Environment) (s : StatementTree) (rest : List StatementTree) → stands files env s ≡ true
+pub all_declared-here : (files : List File) (env : RelationEnvironment) (s : StatementTree) (rest : List StatementTree) → is_defined files env s ≡ true
     → all_declared files env (s ∷ rest) ≡ all_declared files (declared files env s) rest
 all_declared-here files env s rest e = rw e refl
+
+-- the columns of what is made of one relation, and of two
+pub columns-of_one : (f : Rows → Rows) (a : Option RelationState) → option_map (λ (t : RelationState). t.schema) a ≡ option_map (λ (t : RelationState). t.schema) (of_one f a)
+columns-of_one f None = refl
+columns-of_one f (Some t) = refl
+
+pub columns-of_two : (f : Rows → Rows → Rows) (a b : Option RelationState) → columns_of_two a b ≡ option_map (λ (t : RelationState). t.schema) (of_two f a b)
+columns-of_two f None b = refl
+columns-of_two f (Some t) None = refl
+columns-of_two f (Some t) (Some u) = refl

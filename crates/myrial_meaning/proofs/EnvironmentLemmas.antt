@@ -5,9 +5,10 @@ use Rattle.std.specs.Option.{option_or}
 use Rattle.rel_base.specs.declared.names.Key.{Key}
 use Rattle.rel_base.specs.Keys.{File, same_key}
 use Rattle.rel_base.specs.Relations.{RelationState}
-use Rattle.myrial_meaning.specs.Meaning.{Environment, kept_under}
+use Rattle.myrial_meaning.specs.Environments.{kept_under}
+use Rattle.myrial_meaning.specs.Meaning.{RelationEnvironment}
 
-module _ (files : List File) (env : Environment) (key : Key) where
+module _ (files : List File) (env : RelationEnvironment) (key : Key) where
   -- the relation that was stored under the key, and that of its file
   stored_there : Option RelationState
   stored_there = option_map (λ (p : File). p.1) (find (λ (p : File). same_key p.0 key) env.stored)

@@ -1,6 +1,6 @@
-pub mod ScopeLemmas
+pub mod BoolLemmas
 pub mod NeededLemmas
-pub mod BindingLemmas
+pub mod EquijoinLemmas
 pub mod ListingLemmas
 pub mod CombinationLemmas
 pub mod ComprehensionLemmas

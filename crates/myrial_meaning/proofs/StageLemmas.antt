@@ -9,32 +9,26 @@ use Rattle.rel_base.specs.declared.faults.RunFault.TheVariants as fault
 use Rattle.myrial_ast.specs.Trees.{Name, RelTree, StatementTree}
 use Rattle.myrial_ast.specs.Trees as tree
 use Rattle.myrial_ast.specs.CandidateFaults.{Uncounted}
-use Rattle.myrial_meaning.specs.Meaning.{Environment, after, assigned_to, nothing_yet, relation_of, stored_relations, with_key, with_name}
+use Rattle.myrial_meaning.specs.Environments.{assigned_to, nothing_yet, with_key, with_name}
+use Rattle.myrial_meaning.specs.Meaning.{RelationEnvironment, after, relation_of, stored_relations}
 use Rattle.myrial_meaning.specs.Needed.{is_live, is_needed}
 use Rattle.myrial_meaning.specs.Faults.{fault_from, run_fault, statement_fault}
-use Rattle.myrial_meaning.specs.Runnable.{all_stand, has_meaning, stands}
+use Rattle.myrial_meaning.specs.Runnable.{all_defined, has_meaning, is_defined}
 use Rattle.myrial_meaning.specs.Evaluating.{IsFault}
 use Rattle.myrial_meaning.proofs.AgreementLemmas.{Agrees, after-assign, after-nothing, after-store, after-unneeded, mentioned, relation_fault-agrees}
+use Rattle.myrial_meaning.proofs.BoolLemmas.{and-first, and-second}
 
 -- the rest of the script, whose first statement has this number, leads from the evaluator's environment to what the script stores
 -- and to its fault
-pub record Stage (files : List File) (script rest : List StatementTree) (number : ℕ) (here : Environment) : Type 0 where
+pub record Stage (files : List File) (script rest : List StatementTree) (number : ℕ) (here : RelationEnvironment) : Type 0 where
   -- the environment of the definitions, for which unneeded statements stand too
-  pub there : Environment
+  pub there : RelationEnvironment
   pub agrees : Agrees rest there here
-  pub meaningful : all_stand files there rest ≡ true
+  pub meaningful : all_defined files there rest ≡ true
   pub stored : reverse (fold (after files) there rest).stored ≡ stored_relations files script
   pub fault : fault_from Uncounted files number there rest ≡ run_fault Uncounted files script
   -- no more was stored than there were statements
   pub few : length here.stored < number
-
-and-first : (a b : Bool) → (a && b) ≡ true → a ≡ true
-and-first true b e = refl
-and-first false b e = cc
-
-and-second : (a b : Bool) → (a && b) ≡ true → b ≡ true
-and-second true b e = e
-and-second false b e = cc
 
 -- the first fault, or that of the rest
 first_or : Option RunFault → Option RunFault → Option RunFault
@@ -53,18 +47,18 @@ module _ (files : List File) (script : List StatementTree) where
   }
 
   -- behind the last one
-  pub stored-end : (number : ℕ) (here : Environment) → Stage files script [] number here → reverse here.stored ≡ stored_relations files script
+  pub stored-end : (number : ℕ) (here : RelationEnvironment) → Stage files script [] number here → reverse here.stored ≡ stored_relations files script
   stored-end number here stage = ap reverse (sym stage.agrees.stored) ∙ stage.stored
 
-  pub fault-end : (number : ℕ) (here : Environment) → Stage files script [] number here → run_fault Uncounted files script ≡ None
+  pub fault-end : (number : ℕ) (here : RelationEnvironment) → Stage files script [] number here → run_fault Uncounted files script ≡ None
   fault-end number here stage = sym stage.fault
 
-  module _ (s : StatementTree) (rest : List StatementTree) (number : ℕ) (here : Environment) (stage : Stage files script (s ∷ rest) number here) where
-    meaningful-rest : all_stand files (after files stage.there s) rest ≡ true
-    meaningful-rest = and-second (stands files stage.there s) (all_stand files (after files stage.there s) rest) stage.meaningful
+  module _ (s : StatementTree) (rest : List StatementTree) (number : ℕ) (here : RelationEnvironment) (stage : Stage files script (s ∷ rest) number here) where
+    meaningful-rest : all_defined files (after files stage.there s) rest ≡ true
+    meaningful-rest = and-second (is_defined files stage.there s) (all_defined files (after files stage.there s) rest) stage.meaningful
 
-    meaningful-first : stands files stage.there s ≡ true
-    meaningful-first = and-first (stands files stage.there s) (all_stand files (after files stage.there s) rest) stage.meaningful
+    meaningful-first : is_defined files stage.there s ≡ true
+    meaningful-first = and-first (is_defined files stage.there s) (all_defined files (after files stage.there s) rest) stage.meaningful
 
     -- the fault of a needed statement, or of those behind it
     fault-needed : is_needed s rest ≡ true
@@ -75,26 +69,26 @@ module _ (files : List File) (script : List StatementTree) where
     fault-unneeded : is_needed s rest ≡ false → fault_from Uncounted files (suc number) (after files stage.there s) rest ≡ run_fault Uncounted files script
     fault-unneeded unneeded = sym (sym stage.fault ∙ rw unneeded refl)
 
-  statement_fault-same : (s : StatementTree) (rest : List StatementTree) (number : ℕ) (there here : Environment) → Agrees (s ∷ rest) there here → is_needed s rest ≡ true
+  statement_fault-same : (s : StatementTree) (rest : List StatementTree) (number : ℕ) (there here : RelationEnvironment) → Agrees (s ∷ rest) there here → is_needed s rest ≡ true
       → statement_fault Uncounted number files there s ≡ statement_fault Uncounted number files here s
   statement_fault-same tree.Nothing rest number there here agrees needed = refl
   statement_fault-same (tree.Store n key) rest number there here agrees needed = refl
   statement_fault-same (tree.Assign n r) rest number there here agrees needed =
       relation_fault-agrees files there here number r (mentioned files there here rest n r needed agrees)
 
-  after-needed : (s : StatementTree) (rest : List StatementTree) (there here : Environment) → is_needed s rest ≡ true → stands files there s ≡ true
+  after-needed : (s : StatementTree) (rest : List StatementTree) (there here : RelationEnvironment) → is_needed s rest ≡ true → is_defined files there s ≡ true
       → Agrees (s ∷ rest) there here → Agrees rest (after files there s) (after files here s)
   after-needed tree.Nothing rest there here needed means agrees = after-nothing files there here rest agrees
   after-needed (tree.Store n key) rest there here needed means agrees = after-store files there here rest n key agrees
   after-needed (tree.Assign n r) rest there here needed means agrees = after-assign files there here rest n r needed means agrees
 
-  after-skipped : (s : StatementTree) (rest : List StatementTree) (there here : Environment) → is_needed s rest ≡ false
+  after-skipped : (s : StatementTree) (rest : List StatementTree) (there here : RelationEnvironment) → is_needed s rest ≡ false
       → Agrees (s ∷ rest) there here → Agrees rest (after files there s) here
   after-skipped tree.Nothing rest there here unneeded agrees = after-nothing files there here rest agrees
   after-skipped (tree.Store n key) rest there here unneeded agrees = cc
   after-skipped (tree.Assign n r) rest there here unneeded agrees = after-unneeded files there here rest n r unneeded agrees
 
-  stored-more : (s : StatementTree) (number : ℕ) (here : Environment) → length here.stored < number → length (after files here s).stored < number + 1
+  stored-more : (s : StatementTree) (number : ℕ) (here : RelationEnvironment) → length here.stored < number → length (after files here s).stored < number + 1
   stored-more tree.Nothing number here few = omega arith
   stored-more (tree.Store n key) number here few = by (assigned_to here n)
     where
@@ -116,7 +110,7 @@ module _ (files : List File) (script : List StatementTree) where
   some-first own others f e = rw e refl
 
   -- a statement that isn't needed is left out
-  pub stage-skipped : (s : StatementTree) (rest : List StatementTree) (number : ℕ) (here : Environment) → is_needed s rest ≡ false
+  pub stage-skipped : (s : StatementTree) (rest : List StatementTree) (number : ℕ) (here : RelationEnvironment) → is_needed s rest ≡ false
       → Stage files script (s ∷ rest) number here → Stage files script rest (number + 1) here
   stage-skipped s rest number here unneeded stage = record {
     there = after files stage.there s;
@@ -128,7 +122,7 @@ module _ (files : List File) (script : List StatementTree) where
   }
 
   -- a needed one without a fault
-  pub stage-run : (s : StatementTree) (rest : List StatementTree) (number : ℕ) (here : Environment) → is_needed s rest ≡ true
+  pub stage-run : (s : StatementTree) (rest : List StatementTree) (number : ℕ) (here : RelationEnvironment) → is_needed s rest ≡ true
       → statement_fault Uncounted number files here s ≡ None
       → Stage files script (s ∷ rest) number here → Stage files script rest (number + 1) (after files here s)
   stage-run s rest number here needed faultless stage =
@@ -144,14 +138,14 @@ module _ (files : List File) (script : List StatementTree) where
       }
 
   -- and one with a fault
-  fault-some : (s : StatementTree) (rest : List StatementTree) (number : ℕ) (here : Environment) (f : RunFault) → is_needed s rest ≡ true
+  fault-some : (s : StatementTree) (rest : List StatementTree) (number : ℕ) (here : RelationEnvironment) (f : RunFault) → is_needed s rest ≡ true
       → statement_fault Uncounted number files here s ≡ Some f → Stage files script (s ∷ rest) number here → run_fault Uncounted files script ≡ Some f
   fault-some s rest number here f needed faulty stage =
       let own : statement_fault Uncounted number files stage.there s ≡ Some f = statement_fault-same s rest number stage.there here stage.agrees needed ∙ faulty in
       fault-needed s rest number here stage needed
       ∙ some-first (statement_fault Uncounted number files stage.there s) (fault_from Uncounted files (suc number) (after files stage.there s) rest) f own
 
-  pub stage-fault : (s : StatementTree) (rest : List StatementTree) (number : ℕ) (here : Environment) (f : RunFault) → is_needed s rest ≡ true
+  pub stage-fault : (s : StatementTree) (rest : List StatementTree) (number : ℕ) (here : RelationEnvironment) (f : RunFault) → is_needed s rest ≡ true
       → IsFault f (statement_fault Uncounted number files here s) → Stage files script (s ∷ rest) number here → IsFault f (run_fault Uncounted files script)
   stage-fault s rest number here (fault.TooManyRows n) needed is stage = fault-some s rest number here (fault.TooManyRows n) needed is stage
   stage-fault s rest number here (fault.Overflow n) needed is stage = fault-some s rest number here (fault.Overflow n) needed is stage

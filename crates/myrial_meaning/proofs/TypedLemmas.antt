@@ -9,39 +9,22 @@ use Rattle.rel_base.specs.declared.values.Value.{Value}
 use Rattle.rel_base.specs.declared.values.ColType.{ColType}
 use Rattle.rel_base.specs.declared.values.ColType.TheVariants as kind
 use Rattle.rel_base.specs.Relations.{HasTypes, fits_schema, same_type, type_of}
-use Rattle.myrial_ast.specs.Scalars.{value_at}
+use Rattle.myrial_ast.specs.Trees.{Name}
+use Rattle.myrial_ast.specs.Scalars.{At, value_at}
+use Rattle.myrial_scopes.specs.Scopes.{ItemSchema, ScopeColumn, column_at, columns_of, scope_of, scoped}
+use Rattle.myrial_meaning.specs.declared.equijoins.Equijoin.{Equijoin}
+use Rattle.myrial_meaning.specs.Meaning.{ItemRelation, items_of, schema_of_item, tables_of}
+use Rattle.myrial_meaning.specs.inner.ItemRows.{HasTypedRows}
+use Rattle.myrial_meaning.specs.inner.Equijoins.{comprehension_of}
+use Rattle.myrial_meaning.specs.inner.Listing.{listed_behind}
 use Rattle.myrial_ast.specs.Combinations.{Row, Rows, Comprehension, all_hold, emitted}
-use Rattle.myrial_meaning.specs.declared.binding.EmittedColumn.{EmittedColumn}
-use Rattle.myrial_meaning.specs.declared.binding.Binding.{Binding}
-use Rattle.myrial_meaning.specs.Scopes.{ScopeColumn, scope_of, column_at}
-use Rattle.myrial_meaning.specs.Meaning.{Source, items_of, tables_of}
-use Rattle.myrial_meaning.specs.Emits.{Emit, schema_of, numbered_name}
-use Rattle.myrial_meaning.specs.Looking.{HasTypedRows}
-use Rattle.myrial_meaning.specs.Bindings.{bound_of, emit_of, HasKindOf}
-use Rattle.myrial_meaning.specs.Listing.{listed_behind}
-use Rattle.myrial_meaning.proofs.ListingLemmas.{emitted-emit_of}
-
--- ---- the schema of emitted columns
-
-schema-from : (n : ℕ) (emits : List EmittedColumn)
-    → map (λ (p : ℕ × Emit). record { name = unwrap_or p.1.name (numbered_name p.0); kind = p.1.kind }) (enumerate_from n (map emit_of emits))
-    ≡ map (λ (e : EmittedColumn). e.column) emits
-schema-from n [] = refl
-schema-from n (e ∷ emits) = ap (λ (rest : List Column). e.column ∷ rest) (schema-from (n + 1) emits)
-
--- their own names and types
-pub schema_of-emits : (emits : List EmittedColumn) → schema_of (map emit_of emits) ≡ map (λ (e : EmittedColumn). e.column) emits
-schema_of-emits emits = schema-from 0 emits
+use Rattle.myrial_meaning.proofs.BoolLemmas.{and-first, and-second}
 
 -- ---- rows of types
 
 -- the types of a row's values
 types_of : Row → List ColType
 types_of row = map type_of row
-
--- the types of a scope's columns
-kinds_of : List ScopeColumn → List ColType
-kinds_of scope = map (λ (c : ScopeColumn). c.kind) scope
 
 same_type-equal : (s t : ColType) → same_type s t ≡ true → t ≡ s
 same_type-equal kind.Int kind.Int e = refl
@@ -59,14 +42,6 @@ same_type-itself kind.Int = refl
 same_type-itself kind.Str = refl
 same_type-itself kind.Bool = refl
 
-and-first : (a b : Bool) → (a && b) ≡ true → a ≡ true
-and-first true b e = refl
-and-first false b e = cc
-
-and-second : (a b : Bool) → (a && b) ≡ true → b ≡ true
-and-second true b e = e
-and-second false b e = cc
-
 -- a row has its schema's types
 types-of_row : (schema : List Column) (row : Row) → fits_schema schema row ≡ true → types_of row ≡ map (λ (column : Column). column.kind) schema
 unfolding types_of
@@ -78,100 +53,107 @@ types-of_row (column ∷ schema) (v ∷ row) e =
     let others = types-of_row schema row (and-second (same_type column.kind (type_of v)) (fits_schema schema row) e) in
     rw (first, others) refl
 
--- the value at a place has the type of the column in scope there, past the end as well
+-- the value at a place has the type there, past the end as well
 at-mapped : {X Y : Type 0} (f : X → Y) (xs : List X) (i : ℕ) (d : X) → get_or (map f xs) i (f d) ≡ f (get_or xs i d)
 at-mapped f [] i d = refl
 at-mapped f (x ∷ xs) zero d = refl
 at-mapped f (x ∷ xs) (suc i) d = at-mapped f xs i d
 
-type-at : (scope : List ScopeColumn) (row : Row) (place : ℕ) → types_of row ≡ kinds_of scope → type_of (value_at row place) ≡ (column_at scope place).kind
-unfolding types_of kinds_of
-type-at scope row place e =
-    sym (at-mapped type_of row place _) ∙ (ap (λ kinds. get_or kinds place kind.Int) e ∙ at-mapped (λ (c : ScopeColumn). c.kind) scope place _)
+type-at : (kinds : List ColType) (row : Row) (place : ℕ) → types_of row ≡ kinds → type_of (value_at row place) ≡ get_or kinds place kind.Int
+unfolding types_of
+type-at kinds row place e = sym (at-mapped type_of row place _) ∙ ap (λ kinds. get_or kinds place kind.Int) e
 
--- what is emitted on such a row has the types of the emitted columns
-emitted-typed : (scope : List ScopeColumn) (row : Row) (emits : List EmittedColumn) → types_of row ≡ kinds_of scope → All (HasKindOf scope) emits
-    → fits_schema (map (λ (e : EmittedColumn). e.column) emits) (map (λ (e : EmittedColumn). value_at row e.place) emits) ≡ true
-emitted-typed scope row [] e kinds = refl
-emitted-typed scope row (emit ∷ emits) e kinds =
-    let here : emit.column.kind ≡ (column_at scope emit.place).kind = All-head (HasKindOf scope) emit emits kinds in
-    let same : type_of (value_at row emit.place) ≡ emit.column.kind = type-at scope row emit.place e ∙ sym here in
-    rw (same, same_type-itself emit.column.kind) (emitted-typed scope row emits e (All-tail (HasKindOf scope) emit emits kinds))
+-- the types that stand at these places
+kinds_at : List ColType → List ℕ → List ColType
+kinds_at kinds places = map (λ place. get_or kinds place kind.Int) places
+
+-- what is emitted on such a row has the types of the columns there
+emitted-typed : (kinds : List ColType) (row : Row) (schema : List Column) (places : List ℕ) → types_of row ≡ kinds
+    → map (λ (column : Column). column.kind) schema ≡ kinds_at kinds places → fits_schema schema (emitted (map At places) row) ≡ true
+unfolding kinds_at
+emitted-typed kinds row [] [] e k = refl
+emitted-typed kinds row [] (place ∷ places) e k = cc
+emitted-typed kinds row (column ∷ schema) [] e k = cc
+emitted-typed kinds row (column ∷ schema) (place ∷ places) e k =
+    let first : column.kind ≡ get_or kinds place kind.Int = cc in
+    let others : map (λ (column : Column). column.kind) schema ≡ map (λ place. get_or kinds place kind.Int) places = cc in
+    let same : type_of (value_at row place) ≡ column.kind = type-at kinds row place e ∙ sym first in
+    rw (same, same_type-itself column.kind) (emitted-typed kinds row schema places e others)
 
 -- ---- the rows of the loops
 
--- the kinds of an item's columns in scope
-item-kinds : (source : Source) (schema : List Column)
-    → kinds_of (scope_of (record { alias = source.alias; schema = schema } ∷ [])) ≡ map (λ (column : Column). column.kind) schema
-unfolding kinds_of
-item-kinds source [] = refl
-item-kinds source (column ∷ schema) = ap (λ (rest : List ColType). column.kind ∷ rest) (item-kinds source schema)
+-- the types of the items' columns
+kinds_of : List ItemRelation → List ColType
+kinds_of items = flat_map (λ (s : ItemRelation). map (λ (column : Column). column.kind) s.table.schema) items
 
-kinds-append : (scope others : List ScopeColumn) → kinds_of (scope ++ others) ≡ kinds_of scope ++ kinds_of others
+-- they are the types of the columns in scope
+column-kinds : (number n : ℕ) (alias : Name) (schema : List Column)
+    → map (λ (c : ScopeColumn). c.kind) (map (λ (p : ℕ × Column). scoped number alias p.0 p.1) (enumerate_from n schema)) ≡ map (λ (column : Column). column.kind) schema
+column-kinds number n alias [] = refl
+column-kinds number n alias (column ∷ schema) = ap (λ (rest : List ColType). column.kind ∷ rest) (column-kinds number (n + 1) alias schema)
+
+scope-kinds-from : (n : ℕ) (items : List ItemRelation)
+    → map (λ (c : ScopeColumn). c.kind) (flat_map (λ (p : ℕ × ItemSchema). columns_of p.0 p.1) (enumerate_from n (items_of items))) ≡ kinds_of items
 unfolding kinds_of
-kinds-append scope others = map-append (λ (c : ScopeColumn). c.kind) scope others
+scope-kinds-from n [] = refl
+scope-kinds-from n (s ∷ items) =
+    map-append (λ (c : ScopeColumn). c.kind) (columns_of n (schema_of_item s)) (flat_map (λ (p : ℕ × ItemSchema). columns_of p.0 p.1) (enumerate_from (n + 1) (items_of items)))
+    ∙ (λ i. column-kinds n 0 s.alias s.table.schema i ++ scope-kinds-from (n + 1) items i)
+
+-- the type of the column at a place in scope
+kind-at : (items : List ItemRelation) (place : ℕ) → (column_at (scope_of (items_of items)) place).kind ≡ get_or (kinds_of items) place kind.Int
+kind-at items place =
+    sym (at-mapped (λ (c : ScopeColumn). c.kind) (scope_of (items_of items)) place _)
+    ∙ ap (λ kinds. get_or kinds place kind.Int) (scope-kinds-from 0 items)
+
+kinds-at : (items : List ItemRelation) (places : List ℕ) → map (λ place. (column_at (scope_of (items_of items)) place).kind) places ≡ kinds_at (kinds_of items) places
+unfolding kinds_at
+kinds-at items [] = refl
+kinds-at items (place ∷ places) = λ i. kind-at items place i ∷ kinds-at items places i
 
 types-append : (row next : Row) → types_of (row ++ next) ≡ types_of row ++ types_of next
 unfolding types_of
 types-append row next = map-append type_of row next
 
-with-none : (front back : List ScopeColumn) → front ++ back ≡ (front ++ []) ++ back
-with-none front back = rw (append-nil front) refl
-
-scope-first : (source : Source) (sources : List Source)
-    → scope_of (items_of (source ∷ sources)) ≡ scope_of (items_of (source ∷ [])) ++ scope_of (items_of sources)
-scope-first source sources =
-    with-none (map (λ (column : Column). let c : ScopeColumn = record { alias = source.alias; name = column.name; kind = column.kind } in c) source.table.schema)
-    (scope_of (items_of sources))
-
 -- the row with one of the item's behind it
-longer-typed : (scope : List ScopeColumn) (row next : Row) (source : Source) → types_of row ≡ kinds_of scope → HasTypes source.table.schema next
-    → types_of (row ++ next) ≡ kinds_of (scope ++ scope_of (items_of (source ∷ [])))
-longer-typed scope row next source e typed =
-    types-append row next
-    ∙ (ap (λ front. front ++ types_of next) e
-    ∙ (ap (λ back. kinds_of scope ++ back) (types-of_row source.table.schema next typed ∙ sym (item-kinds source source.table.schema))
-    ∙ sym (kinds-append scope (scope_of (items_of (source ∷ []))))))
+longer-typed : (kinds : List ColType) (row next : Row) (s : ItemRelation) → types_of row ≡ kinds → HasTypes s.table.schema next
+    → types_of (row ++ next) ≡ kinds ++ map (λ (column : Column). column.kind) s.table.schema
+longer-typed kinds row next s e typed = types-append row next ∙ (λ i. e i ++ types-of_row s.table.schema next typed i)
 
-module _ (b : Binding) where
-  -- the emitted columns
-  schema : List Column
-  schema = map (λ (e : EmittedColumn). e.column) b.emits
-
-  one-typed : (scope : List ScopeColumn) (row : Row) → types_of row ≡ kinds_of scope → All (HasKindOf scope) b.emits
-      → All (HasTypes schema) (listed_behind (bound_of b).comprehension row [])
-  unfolding schema
-  one-typed scope row e kinds = by (all_hold (bound_of b).comprehension.conjuncts row)
+module _ (j : Equijoin) (schema : List Column) where
+  one-typed : (kinds : List ColType) (row : Row) → types_of row ≡ kinds → map (λ (column : Column). column.kind) schema ≡ kinds_at kinds j.places
+      → All (HasTypes schema) (listed_behind (comprehension_of j) row [])
+  one-typed kinds row e k = by (all_hold (comprehension_of j).conjuncts row)
     where
-      by : (holds : Bool) → All (HasTypes schema) (map (emitted (bound_of b).comprehension.emits) (cond holds (row ∷ []) []))
-      by true = All-cons (HasTypes schema) _ [] (rw (emitted-emit_of b.emits row) (emitted-typed scope row b.emits e kinds)) (All-nil (HasTypes schema))
+      by : (holds : Bool) → All (HasTypes schema) (map (emitted (comprehension_of j).emits) (cond holds (row ∷ []) []))
+      by true = All-cons (HasTypes schema) _ [] (emitted-typed kinds row schema j.places e k) (All-nil (HasTypes schema))
       by false = All-nil (HasTypes schema)
 
   -- all rows of an item
-  each-typed : (source : Source) (f : Row → Rows) (rows : Rows) → All (HasTypes source.table.schema) rows
-      → ((next : Row) → HasTypes source.table.schema next → All (HasTypes schema) (f next)) → All (HasTypes schema) (flat_map f rows)
-  each-typed source f [] typed each = All-nil (HasTypes schema)
-  each-typed source f (next ∷ rows) typed each =
+  each-typed : (s : ItemRelation) (f : Row → Rows) (rows : Rows) → All (HasTypes s.table.schema) rows
+      → ((next : Row) → HasTypes s.table.schema next → All (HasTypes schema) (f next)) → All (HasTypes schema) (flat_map f rows)
+  each-typed s f [] typed each = All-nil (HasTypes schema)
+  each-typed s f (next ∷ rows) typed each =
       All-append (HasTypes schema) (f next) (flat_map f rows)
-      (each next (All-head (HasTypes source.table.schema) next rows typed))
-      (each-typed source f rows (All-tail (HasTypes source.table.schema) next rows typed) each)
+      (each next (All-head (HasTypes s.table.schema) next rows typed))
+      (each-typed s f rows (All-tail (HasTypes s.table.schema) next rows typed) each)
 
-  behind-typed : (sources : List Source) (scope : List ScopeColumn) (row : Row) → types_of row ≡ kinds_of scope → All HasTypedRows sources
-      → All (HasKindOf (scope ++ scope_of (items_of sources))) b.emits
-      → All (HasTypes schema) (listed_behind (bound_of b).comprehension row (tables_of sources))
-  behind-typed [] scope row e typed kinds =
-      one-typed scope row e (subst (λ s. All (HasKindOf s) b.emits) (append-nil scope) kinds)
-  behind-typed (source ∷ sources) scope row e typed kinds =
-      let whole : scope ++ scope_of (items_of (source ∷ sources)) ≡ (scope ++ scope_of (items_of (source ∷ []))) ++ scope_of (items_of sources) =
-      ap (λ rest. scope ++ rest) (scope-first source sources)
-      ∙ sym (append_assoc scope (scope_of (items_of (source ∷ []))) (scope_of (items_of sources))) in
-      each-typed source (λ next. listed_behind (bound_of b).comprehension (row ++ next) (tables_of sources)) source.table.rows
-      (All-head HasTypedRows source sources typed)
-      (λ next fits. behind-typed sources (scope ++ scope_of (items_of (source ∷ []))) (row ++ next) (longer-typed scope row next source e fits)
-      (All-tail HasTypedRows source sources typed) (subst (λ s. All (HasKindOf s) b.emits) whole kinds))
+  behind-typed : (items : List ItemRelation) (kinds : List ColType) (row : Row) → types_of row ≡ kinds → All HasTypedRows items
+      → map (λ (column : Column). column.kind) schema ≡ kinds_at (kinds ++ kinds_of items) j.places
+      → All (HasTypes schema) (listed_behind (comprehension_of j) row (tables_of items))
+  unfolding kinds_of
+  behind-typed [] kinds row e typed k = one-typed kinds row e (k ∙ ap (λ all. kinds_at all j.places) (append-nil kinds))
+  behind-typed (s ∷ items) kinds row e typed k =
+      let own = map (λ (column : Column). column.kind) s.table.schema in
+      let whole = append_assoc kinds own (kinds_of items) in
+      each-typed s (λ next. listed_behind (comprehension_of j) (row ++ next) (tables_of items)) s.table.rows
+      (All-head HasTypedRows s items typed)
+      (λ next fits. behind-typed items (kinds ++ own) (row ++ next) (longer-typed kinds row next s e fits)
+      (All-tail HasTypedRows s items typed) (k ∙ ap (λ all. kinds_at all j.places) (sym whole)))
 
   -- what is listed has the types of the emitted columns
-  pub listed-typed : (sources : List Source) → All HasTypedRows sources → All (HasKindOf (scope_of (items_of sources))) b.emits
-      → All (HasTypes (map (λ (e : EmittedColumn). e.column) b.emits)) (listed_behind (bound_of b).comprehension [] (tables_of sources))
-  unfolding schema types_of kinds_of
-  listed-typed sources typed kinds = behind-typed sources [] [] refl typed kinds
+  pub listed-typed : (items : List ItemRelation) → All HasTypedRows items
+      → map (λ (column : Column). column.kind) schema ≡ map (λ place. (column_at (scope_of (items_of items)) place).kind) j.places
+      → All (HasTypes schema) (listed_behind (comprehension_of j) [] (tables_of items))
+  unfolding types_of
+  listed-typed items typed k = behind-typed items [] [] refl typed (k ∙ kinds-at items j.places)

@@ -14,33 +14,34 @@ use Rattle.rel_base.specs.declared.faults.RunFault.TheVariants as fault
 use Rattle.myrial_ast.specs.Trees.{RelTree, StatementTree}
 use Rattle.myrial_ast.specs.Trees as tree
 use Rattle.myrial_ast.specs.CandidateFaults.{PrefixRule, too_many, comprehension_fault}
-use Rattle.myrial_meaning.specs.Scopes.{scope_of}
-use Rattle.myrial_meaning.specs.Emits.{Bound, bound_in}
-use Rattle.myrial_meaning.specs.Meaning.{Environment, Source, nothing_yet, source_of, items_of, tables_of, relation_of, after}
+use Rattle.myrial_scopes.specs.Scopes.{scope_of}
+use Rattle.myrial_scopes.specs.Emits.{Resolved, resolved}
+use Rattle.myrial_meaning.specs.Environments.{nothing_yet}
+use Rattle.myrial_meaning.specs.Meaning.{RelationEnvironment, ItemRelation, item_relation, items_of, tables_of, relation_of, after}
 use Rattle.myrial_meaning.specs.Needed.{is_needed}
 
 -- the numbers of columns of the items
-abbrev pub widths_of : List Source → List ℕ
-widths_of sources = map (λ (s : Source). length s.table.schema) sources
+abbrev pub widths_of : List ItemRelation → List ℕ
+widths_of sources = map (λ (s : ItemRelation). length s.table.schema) sources
 
 -- the fault of a relation expression: comprehensions have those above, and a `unionall` may have too many rows
-abbrev pub relation_fault : PrefixRule → ℕ → List File → Environment → RelTree → Option RunFault
+abbrev pub relation_fault : PrefixRule → ℕ → List File → RelationEnvironment → RelTree → Option RunFault
 relation_fault rule number files env (tree.From items condition emits) =
     option_and_then (λ sources.
-    option_and_then (λ (b : Bound). comprehension_fault rule number (widths_of sources) b.comprehension (tables_of sources))
-    (bound_in (scope_of (items_of sources)) condition emits)) (each_or_none (source_of files env) items)
+    option_and_then (λ (b : Resolved). comprehension_fault rule number (widths_of sources) b.comprehension (tables_of sources))
+    (resolved (scope_of (items_of sources)) condition emits)) (each_or_none (item_relation files env) items)
 relation_fault rule number files env (tree.UnionAll o p) =
     option_and_then (λ (t : RelationState). if too_many t.rows then Some (fault.TooManyRows number) else None)
     (relation_of files env (tree.UnionAll o p))
 relation_fault rule number files env _ = None
 
 -- the fault of a statement of this number
-abbrev pub statement_fault : PrefixRule → ℕ → List File → Environment → StatementTree → Option RunFault
+abbrev pub statement_fault : PrefixRule → ℕ → List File → RelationEnvironment → StatementTree → Option RunFault
 statement_fault rule number files env (tree.Assign name r) = relation_fault rule number files env r
 statement_fault rule number files env _ = None
 
 -- the first fault of a needed statement of the rest, whose first statement has this number
-abbrev pub fault_from : PrefixRule → List File → ℕ → Environment → List StatementTree → Option RunFault
+abbrev pub fault_from : PrefixRule → List File → ℕ → RelationEnvironment → List StatementTree → Option RunFault
 fault_from rule files number env [] = None
 fault_from rule files number env (s ∷ rest) =
     let own = if is_needed s rest then statement_fault rule number files env s else None in

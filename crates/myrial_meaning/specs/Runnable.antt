@@ -9,12 +9,18 @@ use Rattle.rel_base.specs.Keys.{File}
 use Rattle.myrial_ast.specs.declared.operators.BinOp.TheVariants as op
 use Rattle.myrial_ast.specs.Trees.{Tree, EmitTree, RelTree, StatementTree}
 use Rattle.myrial_ast.specs.Trees as tree
-use Rattle.myrial_meaning.specs.Meaning.{Environment, nothing_yet, relation_of, assigned_to, after}
+use Rattle.myrial_meaning.specs.Environments.{nothing_yet, assigned_to}
+use Rattle.myrial_meaning.specs.Meaning.{RelationEnvironment, relation_of, after}
+
+-- whether it is a column
+abbrev pub is_column : Tree → Bool
+is_column (tree.Col column) = true
+is_column _ = false
 
 -- whether it is equalities of columns with `and` between them
 abbrev pub joins_by_equalities : Tree → Bool
 joins_by_equalities (tree.Bin op.And l r) = joins_by_equalities l && joins_by_equalities r
-joins_by_equalities (tree.Bin op.Eq (tree.Col a) (tree.Col b)) = true
+joins_by_equalities (tree.Bin op.Eq l r) = is_column l && is_column r
 joins_by_equalities _ = false
 
 -- whether there is no condition, or such a one
@@ -24,7 +30,7 @@ is_join_condition (Some condition) = joins_by_equalities condition
 
 -- whether it emits a column
 abbrev pub emits_a_column : EmitTree → Bool
-emits_a_column (tree.One (tree.Col column) name) = true
+emits_a_column (tree.One e name) = is_column e
 emits_a_column _ = false
 
 -- whether the evaluator runs such a relation expression
@@ -42,16 +48,16 @@ abbrev pub runs : List StatementTree → Bool
 runs script = list_all runs_statement script
 
 -- whether a statement stands for something
-abbrev pub stands : List File → Environment → StatementTree → Bool
-stands files env tree.Nothing = true
-stands files env (tree.Assign name r) = is_some (relation_of files env r)
-stands files env (tree.Store name key) = is_some (assigned_to env name)
+abbrev pub is_defined : List File → RelationEnvironment → StatementTree → Bool
+is_defined files env tree.Nothing = true
+is_defined files env (tree.Assign name r) = is_some (relation_of files env r)
+is_defined files env (tree.Store name key) = is_some (assigned_to env name)
 
 -- whether each statement of the rest stands for something
-abbrev pub all_stand : List File → Environment → List StatementTree → Bool
-all_stand files env [] = true
-all_stand files env (s ∷ rest) = stands files env s && all_stand files (after files env s) rest
+abbrev pub all_defined : List File → RelationEnvironment → List StatementTree → Bool
+all_defined files env [] = true
+all_defined files env (s ∷ rest) = is_defined files env s && all_defined files (after files env s) rest
 
 -- whether each statement of the script stands for something
 abbrev pub has_meaning : List File → List StatementTree → Bool
-has_meaning files script = all_stand files nothing_yet script
+has_meaning files script = all_defined files nothing_yet script

@@ -9,7 +9,7 @@ use Rattle.myrial_ast.specs.declared.relations.Operand.{Operand}
 use Rattle.myrial_ast.specs.declared.relations.Operand.TheVariants as operand
 use Rattle.myrial_ast.specs.Trees.{StatementTree}
 use Rattle.myrial_ast.specs.Trees as tree
-use Rattle.myrial_meaning.specs.Needed.{operands_of}
+use Rattle.myrial_ast.specs.Operands.{operands_of}
 
 -- the key of an operand that is scanned
 abbrev pub keys_of_operand : Operand → List Key

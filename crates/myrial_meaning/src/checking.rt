@@ -1,40 +1,70 @@
 //! Whether each statement of a script stands for something, which `evaluate` requires.
-ghost use Rattle.std.specs.Prelude.{◌≡◌, IsTrue, true, map, option_map, IfOk};
-ghost use Rattle.std.specs.List.{list_all};
+ghost use Rattle.std.specs.Prelude.{◌≡◌, map, option_map, IfOk};
 ghost use Rattle.myrial_ast.specs.Trees.{tree_of, emit_tree_of, rel_tree_of, statement_tree_of, trees_of};
-ghost use Rattle.myrial_meaning.specs.Meaning.{assigned_to, comprehension_over, relation_of};
-ghost use Rattle.myrial_meaning.specs.Runnable.{is_join_condition, emits_a_column, runs_relation, runs_statement, runs, stands, has_meaning};
-ghost use Rattle.myrial_meaning.specs.Columns.{declared};
+ghost use Rattle.myrial_meaning.specs.Environments.{assigned_to, operand_of};
+ghost use Rattle.myrial_meaning.specs.Meaning.{comprehension_over, relation_of};
+ghost use Rattle.myrial_meaning.specs.Runnable.{is_defined, has_meaning};
+ghost use Rattle.myrial_meaning.specs.inner.Columns.{columns_of_two, declared};
 
-use crate::binding::Binding;
-use crate::environment::Names;
+use crate::environment::Environment;
 use crate::holding::Held;
-use crate::scopes::{Source, scope_of};
-use myrial_ast::{EmitItems, Expr, RelExpr, Script, Stmt};
+use crate::items::{ItemRelation, schemas_of};
+use myrial_ast::{EmitItems, Expr, Operand, RelExpr, Script, Stmt};
+use myrial_scopes::Scope;
 use rel_base::{Duplicate, Files, Memory, Relation, Rows, Schema, Text};
 use std::alloc::Global;
 
 /// The columns of a comprehension over these items; `None` where a reference doesn't mean one column.
 fn columns_over<'a>(
     alloc: Global,
-    sources: &[Source<'a>],
+    items: &[ItemRelation<'a>],
     condition: &Option<Expr>,
     emits: &EmitItems,
 ) -> Result<Option<Schema>, Memory>
-    requires condition { IsTrue (is_join_condition (option_map tree_of condition.now)) }
-    requires columns { IsTrue (list_all emits_a_column (map emit_tree_of emits.now)) }
     ensures { IfOk result (λ found. found
-        ≡ option_map (λ t. t.schema) (comprehension_over sources.now (option_map tree_of condition.now) (map emit_tree_of emits.now))) }
+        ≡ option_map (λ t. t.schema) (comprehension_over items.now (option_map tree_of condition.now) (map emit_tree_of emits.now))) }
 {
-    let scope = scope_of(alloc, sources)?;
-    let Some(binding) = Binding::of(alloc, &scope, condition, emits)? else {
+    let schemas = schemas_of(alloc, items)?;
+    let scope = Scope::of(alloc, &schemas)?;
+    let Some(comprehension) = scope.resolve(alloc, condition, emits)? else {
         return Ok(None);
     };
-    let schema = binding.schema(alloc)?;
+    let schema = comprehension.schema(alloc)?;
     Ok(Some(schema))
 }
 
-impl<'a> Names<'a> {
+impl<'a> Environment<'a> {
+    /// The columns of an operand; `None` where it stands for no relation.
+    fn columns_of_operand(
+        &self,
+        alloc: Global,
+        files: &'a Files,
+        operand: &Operand,
+    ) -> Result<Option<Schema>, Memory>
+        ensures { IfOk result (λ found. found ≡ option_map (λ t. t.schema) (operand_of files.entry.now self.now operand.now)) }
+    {
+        match self.operand(files, operand) {
+            Some(relation) => Ok(Some(relation.schema().copy(alloc)?)),
+            None => Ok(None),
+        }
+    }
+
+    /// The columns of the first of two operands; `None` where one of them stands for no relation.
+    fn columns_of_first(
+        &self,
+        alloc: Global,
+        files: &'a Files,
+        first: &Operand,
+        second: &Operand,
+    ) -> Result<Option<Schema>, Memory>
+        ensures { IfOk result (λ found. found ≡ columns_of_two (operand_of files.entry.now self.now first.now) (operand_of files.entry.now self.now second.now)) }
+    {
+        if self.operand(files, second).is_none() {
+            return Ok(None);
+        }
+        self.columns_of_operand(alloc, files, first)
+    }
+
     /// The columns of a relation expression; `None` where it stands for no relation.
     fn columns_of(
         &self,
@@ -42,21 +72,20 @@ impl<'a> Names<'a> {
         files: &'a Files,
         relation: &RelExpr,
     ) -> Result<Option<Schema>, Memory>
-        requires { IsTrue (runs_relation (rel_tree_of relation.now)) }
         ensures { IfOk result (λ found. found ≡ option_map (λ t. t.schema) (relation_of files.entry.now self.now (rel_tree_of relation.now))) }
     {
         match relation {
-            RelExpr::Copy(operand) => match self.operand(files, operand) {
-                Some(relation) => Ok(Some(relation.schema().copy(alloc)?)),
-                None => Ok(None),
-            },
+            RelExpr::Copy(operand) => self.columns_of_operand(alloc, files, operand),
+            RelExpr::Empty(schema) => Ok(Some(schema.copy(alloc)?)),
+            RelExpr::Distinct(operand) => self.columns_of_operand(alloc, files, operand),
+            RelExpr::UnionAll(left, right) => self.columns_of_first(alloc, files, left, right),
+            RelExpr::Diff(left, right) => self.columns_of_first(alloc, files, left, right),
             RelExpr::From(items, condition, emits) => {
-                let Some(sources) = self.sources(alloc, files, items.as_slice())? else {
+                let Some(items) = self.item_relations(alloc, files, items.as_slice())? else {
                     return Ok(None);
                 };
-                columns_over(alloc, &sources, condition, emits)
+                columns_over(alloc, &items, condition, emits)
             }
-            _ => unreachable!(),
         }
     }
 
@@ -77,8 +106,7 @@ impl<'a> Names<'a> {
         files: &'a Files,
         statement: &'a Stmt,
     ) -> Result<bool, Memory>
-        requires { IsTrue (runs_statement (statement_tree_of statement.now)) }
-        ensures stands { IfOk result (λ is_so. is_so ≡ stands files.entry.now self.old (statement_tree_of statement.entry.now)) }
+        ensures defined { IfOk result (λ is_so. is_so ≡ is_defined files.entry.now self.old (statement_tree_of statement.entry.now)) }
         ensures declared { IfOk result (λ _. self.new ≡ declared files.entry.now self.old (statement_tree_of statement.entry.now)) }
     {
         match statement {
@@ -106,10 +134,9 @@ impl<'a> Names<'a> {
 /// Whether each statement stands for something: each name and key for a relation, and each reference for one column.
 /// Rows are not looked at.
 pub fn has_meaning<'a>(alloc: Global, script: &'a Script, files: &'a Files) -> Result<bool, Memory>
-    requires { IsTrue (runs (trees_of script.now)) }
     ensures { IfOk result (λ means. means ≡ has_meaning files.entry.now (trees_of script.entry.now)) }
 {
-    let mut names = Names::new(alloc);
+    let mut names = Environment::new(alloc);
     for statement in script.as_slice() {
         if !names.declare(alloc, files, statement)? {
             return Ok(false);

@@ -3,12 +3,13 @@ ghost use Rattle.std.specs.Prelude.{◌≡◌, ◌^◌, ◌<◌, IfOk, OnOk, opt
 ghost use Rattle.std.specs.Option.{option_copied, option_map_or};
 ghost use Rattle.rel_base.specs.Each.{each_or_none};
 ghost use Rattle.rel_base.specs.Keys.{same_key};
-ghost use Rattle.myrial_meaning.specs.Meaning.{nothing_yet, assigned_to, kept_under, operand_of, source_of, with_name, with_key};
-ghost use Rattle.myrial_meaning.specs.Ordered.{in_order};
-ghost use Rattle.myrial_meaning.specs.Holding.{table_of};
+ghost use Rattle.myrial_meaning.specs.Environments.{nothing_yet, assigned_to, kept_under, operand_of, with_name, with_key};
+ghost use Rattle.myrial_meaning.specs.Meaning.{item_relation};
+ghost use Rattle.myrial_meaning.specs.SortedFiles.{sorted_file};
+ghost use Rattle.myrial_meaning.specs.inner.Assignments.{table_of};
 
-use crate::holding::{Held, Named};
-use crate::scopes::Source;
+use crate::holding::{Held, Assignment};
+use crate::items::ItemRelation;
 use myrial_ast::{FromItem, Operand};
 use rel_base::{Duplicate, Files, Key, Memory, Relation, Stored, Text};
 use std::alloc::Global;
@@ -18,28 +19,28 @@ use std::marker::Model;
 ///
 /// Contracts see the environment of the definitions, which has the latest first.
 #[derive(Drop)]
-pub struct Names<'a> {
-    assigned: Vec<Named<'a>>,
+pub struct Environment<'a> {
+    assigned: Vec<Assignment<'a>>,
     stored: Vec<(Key, Relation)>,
 }
 
-impl<'a> Model for Names<'a> {
+impl<'a> Model for Environment<'a> {
     ghost use Rattle.std.specs.Prelude.{map, reverse};
-    ghost use Rattle.myrial_meaning.specs.Meaning.{Environment};
+    ghost use Rattle.myrial_meaning.specs.Meaning.{RelationEnvironment};
 
-    ghost Value = { Environment };
+    ghost Value = { RelationEnvironment };
 
-    ghost use Rattle.myrial_meaning.specs.Holding.{named_of};
+    ghost use Rattle.myrial_meaning.specs.inner.Assignments.{assignment_of};
 
-    ghost view = { λ n. record { assigned = reverse (map named_of n.assigned.items); stored = reverse n.stored.items } };
+    ghost view = { λ n. record { assigned = reverse (map assignment_of n.assigned.items); stored = reverse n.stored.items } };
 }
 
-impl<'a> Names<'a> {
+impl<'a> Environment<'a> {
     /// No name is assigned, and no key stored.
-    pub fn new(alloc: Global) -> Names<'a>
+    pub fn new(alloc: Global) -> Environment<'a>
         ensures { result ≡ nothing_yet }
     {
-        Names {
+        Environment {
             assigned: Vec::new(alloc),
             stored: Vec::new(alloc),
         }
@@ -117,21 +118,21 @@ impl<'a> Names<'a> {
     }
 
     /// The items of a comprehension with their relations; `None` where one stands for none.
-    pub fn sources<'b>(
+    pub fn item_relations<'b>(
         &'b self,
         alloc: Global,
         files: &'b Files,
         items: &'b [FromItem],
-    ) -> Result<Option<Vec<Source<'b>>>, Memory>
+    ) -> Result<Option<Vec<ItemRelation<'b>>>, Memory>
         ensures { IfOk result (λ found. option_map (λ v. v.items) found
-            ≡ each_or_none (source_of files.entry.now self.entry.now) items.entry.now) }
+            ≡ each_or_none (item_relation files.entry.now self.entry.now) items.entry.now) }
     {
         let mut sources = Vec::new(alloc);
         for item in items {
             let Some(relation) = self.operand(files, &item.source) else {
                 return Ok(None);
             };
-            sources.push(Source::over(&item.alias, relation))?;
+            sources.push(ItemRelation::over(&item.alias, relation))?;
         }
         Ok(Some(sources))
     }
@@ -140,7 +141,7 @@ impl<'a> Names<'a> {
     pub fn assign(&mut self, name: &'a Text, held: Held<'a>) -> Result<(), Memory>
         ensures { OnOk result (self.new ≡ with_name self.old name.entry.now (table_of held.entry)) }
     {
-        self.assigned.push(Named { name, held })?;
+        self.assigned.push(Assignment { name, held })?;
         Ok(())
     }
 
@@ -166,9 +167,9 @@ impl<'a> Names<'a> {
     /// What was stored, in the order of the stores, each relation's rows in ascending order.
     pub fn into_stored(self, alloc: Global) -> Result<Stored, Memory>
         requires { length self.stored < 2 ^ 32 }
-        ensures { IfOk result (λ stored. stored ≡ map in_order (reverse self.entry.stored)) }
+        ensures { IfOk result (λ stored. stored ≡ map sorted_file (reverse self.entry.stored)) }
     {
-        let Names { assigned, stored } = self;
+        let Environment { assigned, stored } = self;
         drop(assigned);
         let mut ordered = Stored::new(alloc);
         for (key, mut relation) in stored {

@@ -5,10 +5,10 @@ ghost use Rattle.myrial_meaning.specs.Meaning.{stored_relations};
 ghost use Rattle.myrial_ast.specs.CandidateFaults.{Uncounted};
 ghost use Rattle.myrial_meaning.specs.Faults.{run_fault};
 ghost use Rattle.myrial_meaning.specs.Runnable.{runs, has_meaning};
-ghost use Rattle.myrial_meaning.specs.Ordered.{in_order};
+ghost use Rattle.myrial_meaning.specs.SortedFiles.{sorted_file};
 ghost use Rattle.myrial_meaning.specs.Evaluating.{IsFault};
 
-use crate::environment::Names;
+use crate::environment::Environment;
 use crate::needed::needed_flags;
 use myrial_ast::Script;
 use rel_base::{Files, RunFault, Stored};
@@ -21,12 +21,12 @@ use std::alloc::Global;
 pub fn evaluate<'a>(alloc: Global, script: &'a Script, files: &'a Files) -> Result<Stored, RunFault>
     requires runs { IsTrue (runs (trees_of script.now)) }
     requires meaning { IsTrue (has_meaning files.now (trees_of script.now)) }
-    ensures stored { IfOk result (λ stored. stored ≡ map in_order (stored_relations files.entry.now (trees_of script.entry.now))) }
+    ensures stored { IfOk result (λ stored. stored ≡ map sorted_file (stored_relations files.entry.now (trees_of script.entry.now))) }
     ensures no_fault { OnOk result (run_fault Uncounted files.entry.now (trees_of script.entry.now) ≡ None) }
     ensures fault { IfErr result (λ fault. IsFault fault (run_fault Uncounted files.entry.now (trees_of script.entry.now))) }
 {
     let needed = needed_flags(alloc, script.as_slice())?;
-    let mut names = Names::new(alloc);
+    let mut names = Environment::new(alloc);
     for i in 0..script.len() {
         let statement = script.get(i);
         if needed[i as usize] {

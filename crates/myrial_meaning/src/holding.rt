@@ -1,6 +1,6 @@
 //! The relations that names stand for.
 ghost use Rattle.std.specs.Prelude.{◌≡◌, IfOk};
-ghost use Rattle.myrial_meaning.specs.Holding.{table_of};
+ghost use Rattle.myrial_meaning.specs.inner.Assignments.{table_of};
 
 use rel_base::{Duplicate, Memory, Relation, Text};
 use std::alloc::Global;
@@ -38,7 +38,7 @@ impl<'a> Held<'a> {
 
 /// A name and the relation that was assigned to it.
 #[derive(Drop)]
-pub struct Named<'a> {
+pub struct Assignment<'a> {
     /// The name.
     pub name: &'a Text,
     /// The relation.

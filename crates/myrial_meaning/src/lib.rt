@@ -14,21 +14,25 @@
 //! `specs/Runnable.antt`, then `evaluating.rt`, `statements.rt` and `loops.rt`.
 #![tactic(auto)]
 
-mod binding;
 mod checking;
-mod chosen;
+mod combined_rows;
 mod comprehensions;
 mod environment;
+mod equijoins;
 mod evaluating;
 mod holding;
+mod items;
+mod laws;
+mod list_faults;
 mod loops;
 mod needed;
-mod scopes;
+mod stages;
 mod statements;
-mod stopping;
 
 pub use checking::has_meaning;
 pub use evaluating::evaluate;
+pub use stages::runs;
+pub use laws::needed_statements_are_the_least_set;
 
 #[cfg(test)]
 mod tests;

@@ -3,7 +3,7 @@ ghost use Rattle.std.specs.Prelude.{◌≡◌, List, ◌∷◌, IfOk, unwrap_or}
 ghost use Rattle.std.specs.List.{list_any};
 ghost use Rattle.myrial_ast.specs.Trees.{StatementTree, rel_tree_of, statement_tree_of, trees_of};
 ghost use Rattle.myrial_meaning.specs.Needed.{is_name, mentions, is_live, is_needed};
-ghost use Rattle.myrial_meaning.specs.Flags.{needed_flags};
+ghost use Rattle.myrial_meaning.specs.inner.NeededFlags.{needed_flags};
 
 use myrial_ast::{FromItem, Operand, RelExpr, Stmt};
 use rel_base::{Memory, Text};
@@ -42,7 +42,7 @@ fn mentions(name: &Text, relation: &RelExpr) -> bool
 
 /// Whether the name's value before the statement is used from it on, as far as the statement alone tells; `None` where
 /// that hangs on those behind it.
-fn told_by(name: &Text, statement: &Stmt, needed: bool) -> Option<bool>
+fn liveness_from(name: &Text, statement: &Stmt, needed: bool) -> Option<bool>
     ensures { (rest : List StatementTree) → needed ≡ is_needed (statement_tree_of statement.now) rest
         → is_live name.now (statement_tree_of statement.now ∷ rest) ≡ unwrap_or result (is_live name.now rest) }
 {
@@ -64,7 +64,7 @@ fn is_live(name: &Text, rest: &[Stmt], needed: &[bool]) -> bool
     ensures { result ≡ is_live name.now (trees_of rest.now) }
 {
     for i in 0..rest.len() {
-        if let Some(live) = told_by(name, &rest[i], needed[i]) {
+        if let Some(live) = liveness_from(name, &rest[i], needed[i]) {
             return live;
         }
     }

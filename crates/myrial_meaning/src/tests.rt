@@ -1,12 +1,9 @@
 //! Scripts built as trees, evaluated with ample memory.
-ghost use Rattle.std.specs.Prelude.{◌≡◌, [], ◌∷◌, IsTrue, IfOk, map, length, option_map};
-ghost use Rattle.std.specs.List.{list_all};
+ghost use Rattle.std.specs.Prelude.{◌≡◌, [], ◌∷◌, IfOk, length};
 ghost use Rattle.rel_base.specs.declared.values.Value.TheVariants as value;
 ghost use Rattle.rel_base.specs.declared.values.ColType.TheVariants as kind;
-ghost use Rattle.myrial_ast.specs.Trees.{tree_of, emit_tree_of, statement_tree_of, trees_of};
-ghost use Rattle.myrial_meaning.specs.Runnable.{joins_by_equalities, is_join_condition, emits_a_column, runs_statement, runs};
 
-use crate::{evaluate, has_meaning};
+use crate::{evaluate, has_meaning, runs};
 use myrial_ast::{
     BinOp, ColRef, EmitItem, EmitItems, Expr, FromItem, FromItems, Operand, RelExpr, Script, Stmt,
 };
@@ -173,71 +170,6 @@ fn stored_scan(alloc: Global, name: &str, from: &str, to: &str) -> Result<Script
     script_of(alloc, first, second)
 }
 
-/// Whether it is equalities of columns with `and` between them.
-fn joins_by_equalities(condition: &Expr) -> bool
-    ensures { IsTrue result → IsTrue (joins_by_equalities (tree_of condition.now)) }
-{
-    match condition {
-        Expr::Bin(BinOp::And, left, right) => {
-            joins_by_equalities(left) && joins_by_equalities(right)
-        }
-        Expr::Bin(BinOp::Eq, left, right) => match (&**left, &**right) {
-            (Expr::Col(_), Expr::Col(_)) => true,
-            _ => false,
-        },
-        _ => false,
-    }
-}
-
-/// Whether there is no condition, or such a one.
-fn is_join_condition(condition: &Option<Expr>) -> bool
-    ensures { IsTrue result → IsTrue (is_join_condition (option_map tree_of condition.now)) }
-{
-    match condition {
-        Some(condition) => joins_by_equalities(condition),
-        None => true,
-    }
-}
-
-/// Whether each of the items emits a column.
-fn emit_columns(emits: &[EmitItem]) -> bool
-    ensures { IsTrue result → IsTrue (list_all emits_a_column (map emit_tree_of emits.now)) }
-{
-    for emit in emits {
-        let EmitItem::One(Expr::Col(_), _) = emit else {
-            return false;
-        };
-    }
-    true
-}
-
-/// Whether the evaluator runs the statement.
-fn runs_statement(statement: &Stmt) -> bool
-    ensures { IsTrue result → IsTrue (runs_statement (statement_tree_of statement.now)) }
-{
-    match statement {
-        Stmt::Assign(_, RelExpr::From(_, condition, emits)) => {
-            is_join_condition(condition) && emit_columns(emits.as_slice())
-        }
-        Stmt::Assign(_, RelExpr::Copy(_)) => true,
-        Stmt::Assign(_, _) => false,
-        Stmt::Nothing => true,
-        Stmt::Store(_, _) => true,
-    }
-}
-
-/// Whether the evaluator runs the script.
-fn runs(script: &[Stmt]) -> bool
-    ensures { IsTrue result → IsTrue (runs (trees_of script.now)) }
-{
-    for statement in script {
-        if !runs_statement(statement) {
-            return false;
-        }
-    }
-    true
-}
-
 /// What the script stores.
 fn evaluated(
     rt: &impl Abort,
@@ -245,7 +177,7 @@ fn evaluated(
     script: &Script,
     files: &Files,
 ) -> Result<Stored, Fail> {
-    assert!(rt; runs(script.as_slice()));
+    assert!(rt; runs(script));
     assert!(rt; has_meaning(alloc, script, files)?);
     Ok(evaluate(alloc, script, files)?)
 }
@@ -405,7 +337,6 @@ fn a_column_that_is_not_there_means_nothing(rt: HostRuntime) -> Result<(), Fail>
     let alloc = rt.alloc();
     let files = files_of(alloc, &[(1, 5)])?;
     let script = stored_join(alloc, join_on(alloc, "x", "z", "x", "x")?)?;
-    assert!(rt; runs(script.as_slice()));
     assert!(rt; !has_meaning(alloc, &script, &files)?);
     Ok(())
 }

@@ -1,1 +1,2 @@
 pub mod ScopeLemmas
+mod WorkedRows

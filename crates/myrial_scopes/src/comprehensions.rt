@@ -1,8 +1,9 @@
 //! Comprehensions with places for their references.
-ghost use Rattle.std.specs.Prelude.{◌≡◌, ◌++◌, ◌<◌, codes, IfOk, IfSome, length, map, option_map, unwrap_or};
+ghost use Rattle.std.specs.Prelude.{◌≡◌, ◌++◌, ◌<◌, codes, IfOk, IfSome, Some, length, map, option_map, unwrap_or};
 ghost use Rattle.std.specs.Fmt.{decimal};
+ghost use Rattle.myrial_ast.specs.ScalarTrees.{scalar_tree_of};
 ghost use Rattle.myrial_ast.specs.Trees.{tree_of, emit_tree_of};
-ghost use Rattle.myrial_scopes.specs.Emits.{numbered_name, resolved, schema_of};
+ghost use Rattle.myrial_scopes.specs.Emits.{conjuncts_of, emits_of, numbered_name, resolved};
 ghost use Rattle.myrial_scopes.specs.Resolutions.{emit_of, resolved_of};
 
 use crate::emits::EmittedColumn;
@@ -68,8 +69,12 @@ impl Scope<'_> {
         condition: &Option<Expr>,
         emits: &EmitItems,
     ) -> Result<Option<Comprehension>, Memory>
-        ensures { IfOk result (λ found. option_map resolved_of found
+        ensures resolved { IfOk result (λ found. option_map resolved_of found
             ≡ resolved self.now (option_map tree_of condition.now) (map emit_tree_of emits.now)) }
+        ensures conjuncts { IfOk result (λ found. IfSome found (λ c.
+            conjuncts_of self.now (option_map tree_of condition.now) ≡ Some (map scalar_tree_of c.conjuncts))) }
+        ensures emits { IfOk result (λ found. IfSome found (λ c.
+            emits_of self.now (map emit_tree_of emits.now) ≡ Some (map emit_of c.emits.items))) }
     {
         let Some(conjuncts) = self.conjuncts(alloc, condition)? else {
             return Ok(None);

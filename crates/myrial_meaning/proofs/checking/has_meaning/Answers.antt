@@ -1,20 +1,12 @@
 use Rattle.std.proofs.Common.{◌≡◌, ◌∙◌, ◌+◌, ◌<◌, ◌≤◌, ◌&&◌, ◌∷◌, true, false, List, length, get_or, drop, sym, ap, arith, refl}
 use Rattle.std.proofs.lemmas.List.{drop_all, length-map}
 use Rattle.myrial_ast.specs.Trees.{StatementTree, statement_tree_of, trees_of}
-use Rattle.myrial_meaning.specs.Meaning.{nothing_yet}
-use Rattle.myrial_meaning.specs.Columns.{all_declared}
-use Rattle.myrial_meaning.specs.Runnable.{has_meaning, runs_statement, stands}
-use Rattle.myrial_meaning.proofs.BindingLemmas.{passes-at}
+use Rattle.myrial_meaning.specs.Environments.{nothing_yet}
+use Rattle.myrial_meaning.specs.inner.Columns.{all_declared}
+use Rattle.myrial_meaning.specs.Runnable.{has_meaning, is_defined}
 use Rattle.myrial_meaning.proofs.ColumnLemmas.{has_meaning-declared, all_declared-here, all_declared-first}
 use Rattle.myrial_meaning.proofs.NeededLemmas.{trees-at}
 use Rattle.myrial_meaning.proofs.checking.has_meaning.Goals as goal
-
-pub declare-requires : goal.declare-requires
-declare-requires c =
-    let items = c.as_slice-statement-items.ensures.value in
-    let low : c.loop-statement.statement-index < length c.args.script.now = rw items at c.loop-statement-test.true in
-    passes-at runs_statement statement_tree_of c.args.script.now c.loop-statement.statement-index c.statement-item.result c.requires low
-    (rw items at c.statement-item.is)
 
 pub returns-then-not-branch : goal.returns-then-not-branch
 returns-then-not-branch c =
@@ -23,8 +15,8 @@ returns-then-not-branch c =
     let i = c.loop-statement.statement-index in
     let low : i < length script = rw items at c.loop-statement-test.true in
     let split = trees-at script i c.statement-item.result low (rw items at c.statement-item.is) in
-    let fails : stands c.args.files.now c.loop-statement.names (statement_tree_of c.statement-item.result) ≡ false =
-    sym c.in_ok-declare.ensures.stands ∙ c.if-not-branch.true in
+    let fails : is_defined c.args.files.now c.loop-statement.names (statement_tree_of c.statement-item.result) ≡ false =
+    sym c.in_ok-declare.ensures.defined ∙ c.if-not-branch.true in
     sym (has_meaning-declared c.args.files.now (trees_of script)
     ∙ (c.loop-statement.invariant
     ∙ (ap (all_declared c.args.files.now c.loop-statement.names) split
@@ -37,8 +29,8 @@ loop-statement-preserved c =
     let i = c.loop-statement.statement-index in
     let low : i < length script = rw items at c.loop-statement-test.true in
     let split = trees-at script i c.statement-item.result low (rw items at c.statement-item.is) in
-    let holds : stands c.args.files.now c.loop-statement.names (statement_tree_of c.statement-item.result) ≡ true =
-    sym c.in_ok-declare.ensures.stands ∙ c.if-not-branch.false in
+    let holds : is_defined c.args.files.now c.loop-statement.names (statement_tree_of c.statement-item.result) ≡ true =
+    sym c.in_ok-declare.ensures.defined ∙ c.if-not-branch.false in
     c.loop-statement.invariant
     ∙ (ap (all_declared c.args.files.now c.loop-statement.names) split
     ∙ (all_declared-here c.args.files.now c.loop-statement.names (statement_tree_of c.statement-item.result) (drop (i + 1) (trees_of script)) holds

@@ -1,7 +1,7 @@
 use Rattle.std.proofs.Common.{◌≡◌, drop}
 use Rattle.myrial_ast.specs.Trees.{trees_of}
-use Rattle.myrial_meaning.specs.Meaning.{nothing_yet}
-use Rattle.myrial_meaning.specs.Columns.{all_declared}
+use Rattle.myrial_meaning.specs.Environments.{nothing_yet}
+use Rattle.myrial_meaning.specs.inner.Columns.{all_declared}
 use Rattle.myrial_meaning.proofs.checking.has_meaning.Given as goal
 
 abbrev pub invariant-loop-statement : goal.invariant-loop-statement

@@ -1,12 +1,12 @@
 use Rattle.std.proofs.Common.{◌≡◌, ◌∙◌, ◌+◌, ◌<◌, ◌∷◌, Bool, true, false, List, length, get_or, drop, sym, ap, subst, arith, refl}
 use Rattle.std.proofs.lemmas.List.{length-map}
 use Rattle.myrial_ast.specs.Trees.{StatementTree, statement_tree_of, trees_of}
-use Rattle.myrial_meaning.specs.Meaning.{Environment, after}
+use Rattle.myrial_meaning.specs.Meaning.{RelationEnvironment, after}
 use Rattle.myrial_meaning.specs.Needed.{is_needed}
-use Rattle.myrial_meaning.specs.Flags.{needed_flags}
+use Rattle.myrial_meaning.specs.inner.NeededFlags.{needed_flags}
 use Rattle.myrial_meaning.specs.Runnable.{runs_statement}
 use Rattle.myrial_meaning.proofs.NeededLemmas.{flag-at, length-needed_flags, trees-at}
-use Rattle.myrial_meaning.proofs.BindingLemmas.{passes-at}
+use Rattle.myrial_meaning.proofs.EquijoinLemmas.{passes-at}
 use Rattle.myrial_meaning.proofs.StageLemmas.{Stage, stage-fault, stage-run, stage-skipped}
 use Rattle.myrial_meaning.proofs.evaluating.evaluate.Goals as goal
 use Rattle.myrial_meaning.proofs.evaluating.evaluate.Goals.{After-index, then-index+in-Ok, else-index}
@@ -56,7 +56,7 @@ loop-i-preserved c =
     let script = trees_of c.args.script.now in
     let statement = statement_tree_of c.get-statement.result.now in
     let rest = drop (c.loop-i.i + 1) script in
-    let P : Environment → Type 0 = λ names. Stage files script rest (c.loop-i.i + 1 + 1) names in
+    let P : RelationEnvironment → Type 0 = λ names. Stage files script rest (c.loop-i.i + 1 + 1) names in
     elim c.if-index.branch [
       | then-index+in-Ok w ↦
           subst P (sym (w.names-is ∙ w.in-Ok.ensures.after))

@@ -17,7 +17,7 @@ loop-i-preserved c =
     let rest = drop (i + 1) (trees_of script) in
     let flag : get_or c.args.needed.now i false ≡ is_needed (statement_tree_of s) rest =
     rw c.requires (flag-at script i s c.loop-i-test.true c.index-rest-i.is false) in
-    let told = c.told_by.ensures rest flag in
+    let told = c.liveness_from.ensures rest flag in
     c.loop-i.invariant ∙ ap (is_live c.args.name.now) (trees-at script i s c.loop-i-test.true c.index-rest-i.is)
     ∙ (rw c.in_default.is at told)
 
@@ -29,6 +29,6 @@ returns-in-Some c =
     let rest = drop (i + 1) (trees_of script) in
     let flag : get_or c.args.needed.now i false ≡ is_needed (statement_tree_of s) rest =
     rw c.requires (flag-at script i s c.loop-i-test.true c.index-rest-i.is false) in
-    let told = c.told_by.ensures rest flag in
+    let told = c.liveness_from.ensures rest flag in
     sym (c.loop-i.invariant ∙ ap (is_live c.args.name.now) (trees-at script i s c.loop-i-test.true c.index-rest-i.is)
     ∙ (rw c.in-Some.is at told))

@@ -1,6 +1,6 @@
 use Rattle.std.proofs.Common.{◌≡◌, drop, length}
 use Rattle.myrial_ast.specs.Trees.{trees_of}
-use Rattle.myrial_meaning.specs.Flags.{needed_flags}
+use Rattle.myrial_meaning.specs.inner.NeededFlags.{needed_flags}
 use Rattle.myrial_meaning.proofs.needed.needed_flags.Given as goal
 
 abbrev pub invariant-loop-i : goal.invariant-loop-i

@@ -1,7 +1,0 @@
-use Rattle.std.proofs.Common.{◌≡◌, Some, take}
-use Rattle.rel_base.specs.Each.{each_or_none}
-use Rattle.myrial_meaning.specs.Meaning.{source_of}
-use Rattle.myrial_meaning.proofs.environment.Names.sources.Given as goal
-
-abbrev pub invariant-loop-item : goal.invariant-loop-item
-invariant-loop-item l = each_or_none (source_of l.files l.self) (take l.item-index l.items) ≡ Some l.sources.items

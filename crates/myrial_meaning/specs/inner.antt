@@ -1,0 +1,7 @@
+-- Words of private functions, lowest first.
+pub mod ItemRows
+pub mod NeededFlags
+pub mod Columns
+pub mod Assignments
+pub mod Equijoins
+pub mod Listing
