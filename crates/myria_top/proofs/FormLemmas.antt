@@ -11,7 +11,7 @@ use Rattle.myrial_ast.specs.declared.relations.FromItem.{FromItem}
 use Rattle.myrial_ast.specs.Trees as tree
 use Rattle.myrial_meaning.specs.Runnable.{runs, runs_statement, emits_a_column, is_join_condition, joins_by_equalities, runs_relation}
 use Rattle.myrial_meaning.specs.Scans.{has_key, keys_of, scans_from}
-use Rattle.myrial_meaning.specs.Scopes.{same_name}
+use Rattle.myrial_scopes.specs.Scopes.{same_name}
 use Rattle.myria_top.specs.Forms.{assigned_in, emits_both, emits_column_of, equates, is_column_of, joins_two, is_built, is_built_relation, is_something, stored_at_once}
 
 -- a relation expression that is built is assigned to a name, and that name is stored

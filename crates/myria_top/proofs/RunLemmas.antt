@@ -14,7 +14,7 @@ use Rattle.myrial_ast.specs.Trees.{StatementTree}
 use Rattle.myrial_ast.specs.CandidateFaults.{Uncounted}
 use Rattle.myrial_meaning.specs.Faults.{run_fault}
 use Rattle.myrial_meaning.specs.Meaning.{stored_relations}
-use Rattle.myrial_meaning.specs.Ordered.{in_order}
+use Rattle.myrial_meaning.specs.SortedFiles.{sorted_file}
 use Rattle.myrial_meaning.specs.Runnable.{has_meaning}
 use Rattle.myrial_meaning.specs.Scans.{scanned_keys}
 use Rattle.myria_top.specs.declared.outcomes.Outcome.{Outcome}
@@ -44,7 +44,7 @@ module _ (script : List StatementTree) (files : List File) where
 
   -- without a fault the text is printed
   pub run_prints : (stored : List File) (text : List ℕ) → types_fit files script ≡ true → has_meaning files script ≡ true → run_fault Uncounted files script ≡ None
-      → stored ≡ map in_order (stored_relations files script) → text ≡ flat_map (λ (file : File). relation_text_in_order file.0 file.1) stored
+      → stored ≡ map sorted_file (stored_relations files script) → text ≡ flat_map (λ (file : File). relation_text_in_order file.0 file.1) stored
       → IfTold (printed (run_verdict script files)) (λ s. s ≡ passes text)
   run_prints stored text fits meaning fault is texts =
       let all : text ≡ output_text (stored_relations files script) =

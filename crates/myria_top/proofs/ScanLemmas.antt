@@ -17,7 +17,7 @@ use Rattle.myrial_ast.specs.declared.relations.FromItem.{FromItem}
 use Rattle.myrial_ast.specs.declared.relations.Operand.{Operand}
 use Rattle.myrial_ast.specs.declared.relations.Operand.TheVariants as operand
 use Rattle.myrial_ast.specs.Trees.{RelTree, StatementTree}
-use Rattle.myrial_meaning.specs.Needed.{operands_of}
+use Rattle.myrial_ast.specs.Operands.{operands_of}
 use Rattle.myrial_meaning.specs.Scans.{has_key, each_once, keys_of_operand, scans_from, scanned_keys, with_first}
 use Rattle.myria_top.specs.Forms.{assigned_in, is_something}
 use Rattle.myria_top.proofs.FormLemmas.{built_as, scans_from-something}

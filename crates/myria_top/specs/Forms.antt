@@ -11,7 +11,7 @@ use Rattle.myrial_ast.specs.declared.expressions.ColRef.TheVariants as ref
 use Rattle.myrial_ast.specs.declared.operators.BinOp.TheVariants as op
 use Rattle.myrial_ast.specs.Trees.{Name, Tree, EmitTree, RelTree, StatementTree}
 use Rattle.myrial_ast.specs.Trees as tree
-use Rattle.myrial_meaning.specs.Scopes.{same_name}
+use Rattle.myrial_scopes.specs.Scopes.{same_name}
 
 -- whether the item is a scan
 abbrev pub is_scan : Operand → Bool

@@ -4,7 +4,7 @@ ghost use Rattle.std.specs.List.{flat_map};
 ghost use Rattle.rel_base.specs.Keys.{same_key};
 ghost use Rattle.myrial_ast.specs.Trees.{rel_tree_of, trees_of};
 ghost use Rattle.myrial_ast.specs.declared.relations.FromItem.{FromItem as Item};
-ghost use Rattle.myrial_meaning.specs.Needed.{operands_of};
+ghost use Rattle.myrial_ast.specs.Operands.{operands_of};
 ghost use Rattle.myrial_meaning.specs.Scans as scans;
 ghost use Rattle.myria_top.specs.Forms.{is_built, is_built_relation};
 

@@ -7,6 +7,7 @@ use Rattle.rel_base.specs.declared.values.Value.TheVariants as value
 use Rattle.rel_base.specs.declared.values.ColType.TheVariants as kind
 use Rattle.rel_base.specs.declared.names.Key.{Key}
 use Rattle.rel_base.specs.declared.relations.Column.{Column}
+use Rattle.rel_base.specs.declared.faults.RunFault.{RunFault}
 use Rattle.rel_base.specs.declared.faults.RunFault.TheVariants as fault
 use Rattle.rel_base.specs.Keys.{File}
 use Rattle.rel_base.specs.Relations.{RelationState}
@@ -16,10 +17,11 @@ use Rattle.myrial_ast.specs.declared.relations.Operand.TheVariants as operand
 use Rattle.myrial_ast.specs.declared.expressions.ColRef.TheVariants as ref
 use Rattle.myrial_ast.specs.declared.operators.BinOp.TheVariants as op
 use Rattle.myrial_ast.specs.declared.operators.AggOp.TheVariants as agg
-use Rattle.myrial_ast.specs.Trees.{Name, Tree, EmitTree, RelTree, StatementTree, Lit, Col, Bin, Agg, AggAll, All, One, Copy, Distinct, Diff, From, Assign, Store, Nothing}
+use Rattle.myrial_ast.specs.Trees.{Name, Tree, EmitTree, RelTree, StatementTree, Lit, Col, Bin, Agg, AggAll, All, One, Copy, Distinct, UnionAll, Diff, From, Assign, Store, Nothing}
 use Rattle.myrial_ast.specs.CandidateFaults.{Counted, Uncounted}
 use Rattle.myrial_meaning.specs.Meaning.{stored_relations}
 use Rattle.myrial_meaning.specs.Needed.{is_needed}
+use Rattle.myrial_meaning.specs.Scans.{scanned_keys}
 use Rattle.myrial_meaning.specs.Faults.{run_fault}
 use Rattle.myrial_meaning.specs.Runnable.{runs, has_meaning}
 
@@ -161,3 +163,72 @@ stored-numbered_columns = refl
 pub meaning-two_columns_of_a_name : has_meaning edges
     (Assign (codes "J") (From (item (scanned (codes "R")) (codes "a") ∷ item (scanned (codes "R")) (codes "b") ∷ []) None (emitted (Col (ref.ByName (codes "x"))) ∷ [])) ∷ []) ≡ false
 meaning-two_columns_of_a_name = refl
+
+-- ---- the latest store of a key
+
+-- T = x: 7
+abbrev with_seven : List File
+with_seven = file (codes "T") (table (codes "x" ∷ []) ((7 ∷ []) ∷ [])) ∷ singles
+
+-- A = scan(S); store(A, K); B = scan(T); store(B, K); C = scan(K); store(C, L); -- the latest store hides the earlier one
+pub stored-latest : stored_relations with_seven
+    (Assign (codes "A") (Copy (scanned (codes "S"))) ∷ Store (codes "A") (adhoc (codes "K")) ∷ Assign (codes "B") (Copy (scanned (codes "T")))
+    ∷ Store (codes "B") (adhoc (codes "K")) ∷ Assign (codes "C") (Copy (scanned (codes "K"))) ∷ Store (codes "C") (adhoc (codes "L")) ∷ [])
+    ≡ file (codes "K") (table (codes "x" ∷ []) ((1 ∷ []) ∷ (1 ∷ []) ∷ (2 ∷ []) ∷ []))
+    ∷ file (codes "K") (table (codes "x" ∷ []) ((7 ∷ []) ∷ []))
+    ∷ file (codes "L") (table (codes "x" ∷ []) ((7 ∷ []) ∷ [])) ∷ []
+stored-latest = refl
+
+-- ---- faults of a run
+
+-- P = v: 9223372036854775807 / 1
+abbrev large_and_one : List File
+large_and_one = file (codes "P") (table (codes "v" ∷ []) ((9223372036854775807 ∷ []) ∷ (1 ∷ []) ∷ [])) ∷ []
+
+abbrev from_p : List EmitTree → Option Tree → StatementTree
+from_p emits condition = Assign (codes "N") (From (item (scanned (codes "P")) (codes "p") ∷ []) condition emits)
+
+abbrev fault_of : List EmitTree → Option Tree → Option RunFault
+fault_of emits condition = run_fault Uncounted large_and_one (from_p emits condition ∷ Store (codes "N") (adhoc (codes "Out")) ∷ [])
+
+abbrev v : Tree
+v = column (codes "p") (codes "v")
+
+abbrev one : Tree
+one = Lit (value.Int (pos 1))
+
+-- emit v + v where v + 0 = 1: the sum that doesn't fit is not emitted, since the arithmetic doesn't hold there
+pub fault-not_emitted : fault_of (emitted (Bin op.Add v v) ∷ []) (Some (Bin op.Eq (Bin op.Add v (Lit (value.Int (pos 0)))) one)) ≡ None
+fault-not_emitted = refl
+
+-- where it holds it is emitted, and where the arithmetic itself doesn't fit the run ends too
+pub fault-emitted : fault_of (emitted (Bin op.Add v v) ∷ []) None ≡ Some (fault.Overflow 1)
+fault-emitted = refl
+
+pub fault-arithmetic : fault_of (emitted v ∷ []) (Some (Bin op.Eq (Bin op.Add v one) one)) ≡ Some (fault.Overflow 1)
+fault-arithmetic = refl
+
+-- emit sum(v): no listed value overflows, and their sum does
+pub fault-aggregate : fault_of (emitted (Agg agg.Sum v) ∷ []) None ≡ Some (fault.AggregateOverflow 1)
+fault-aggregate = refl
+
+-- emit sum(v), v + 1: an overflow is told before that of an aggregate
+pub fault-overflow_first : fault_of (emitted (Agg agg.Sum v) ∷ emitted (Bin op.Add v one) ∷ []) None ≡ Some (fault.Overflow 1)
+fault-overflow_first = refl
+
+-- ---- the keys whose files are needed
+
+-- A = scan(S); store(A, K); B = [from scan(K) as k, scan(S) as s, scan(T) as t emit k.x]; C = unionall(scan(T), scan(K));
+pub scanned-keys : scanned_keys
+    (Assign (codes "A") (Copy (scanned (codes "S"))) ∷ Store (codes "A") (adhoc (codes "K"))
+    ∷ Assign (codes "B") (From (item (scanned (codes "K")) (codes "k") ∷ item (scanned (codes "S")) (codes "s") ∷ item (scanned (codes "T")) (codes "t") ∷ []) None
+    (emitted (column (codes "k") (codes "x")) ∷ []))
+    ∷ Assign (codes "C") (UnionAll (scanned (codes "T")) (scanned (codes "K"))) ∷ [])
+    ≡ adhoc (codes "S") ∷ adhoc (codes "T") ∷ []
+scanned-keys = refl
+
+-- a key that is stored after its scan has a file to be read; one that a name stands for has none
+pub scanned-keys_before_store : scanned_keys
+    (Assign (codes "A") (Copy (scanned (codes "S"))) ∷ Assign (codes "B") (Distinct (operand.Named (codes "A"))) ∷ Store (codes "B") (adhoc (codes "S"))
+    ∷ Assign (codes "C") (Copy (scanned (codes "S"))) ∷ []) ≡ adhoc (codes "S") ∷ []
+scanned-keys_before_store = refl

@@ -8,7 +8,7 @@ ghost use Rattle.myrial_meaning.specs.Meaning.{item_relation};
 ghost use Rattle.myrial_meaning.specs.SortedFiles.{sorted_file};
 ghost use Rattle.myrial_meaning.specs.inner.Assignments.{table_of};
 
-use crate::holding::{Held, Assignment};
+use crate::holding::{Assignment, Held};
 use crate::items::ItemRelation;
 use myrial_ast::{FromItem, Operand};
 use rel_base::{Duplicate, Files, Key, Memory, Relation, Stored, Text};

@@ -58,7 +58,10 @@ impl<'a> ItemRelation<'a> {
 }
 
 /// The aliases and the columns of items.
-pub fn schemas_of<'a>(alloc: Global, items: &[ItemRelation<'a>]) -> Result<Vec<ItemSchema<'a>>, Memory>
+pub fn schemas_of<'a>(
+    alloc: Global,
+    items: &[ItemRelation<'a>],
+) -> Result<Vec<ItemSchema<'a>>, Memory>
     ensures schemas { IfOk result (λ schemas. schemas.items ≡ items_of items.now) }
     ensures typed { OnOk result (All HasTypedRows items.now) }
 {

@@ -11,6 +11,3 @@ pub returns-in-Ok-of_stored-clause-agrees : goal.returns-in-Ok-of_stored-clause-
 returns-in-Ok-of_stored-clause-agrees c =
     run_prints (trees_of c.args.script.now) c.args.files.now c.in-Ok.stored c.in-Ok-of_stored.text
     (sym c.types_fit.ensures ∙ c.if-not-types_fit.false) (sym c.in-Ok-true.ensures ∙ c.in-Ok-true.field-0-test) c.in-Ok.ensures.no_fault c.in-Ok.ensures.stored c.in-Ok-of_stored.ensures
-
-pub has_meaning-requires : goal.has_meaning-requires
-has_meaning-requires c = runs-built (trees_of c.args.script.now) c.requires
