@@ -46,7 +46,7 @@ built_as _ r e = cc
 pub scans_from-something : (stored : List Key) (script : List StatementTree) → scans_from stored (filter is_something script) ≡ scans_from stored script
 scans_from-something stored [] = refl
 scans_from-something stored (tree.Nothing ∷ script) = scans_from-something stored script
-scans_from-something stored (tree.Store name key ∷ script) = scans_from-something (key ∷ stored) script
+scans_from-something stored (tree.Store name key ∷ script) = scans_from-something (stored ++ key ∷ []) script
 scans_from-something stored (tree.Assign name r ∷ script) =
     ap (λ keys. filter (λ key. not (has_key stored key)) (keys_of (tree.Assign name r)) ++ keys) (scans_from-something stored script)
 

@@ -1,30 +1,28 @@
 -- Environments that agree on what the rest of a script uses.
-use Rattle.std.proofs.Common.{◌≡◌, ◌∙◌, ℕ, suc, ◌+◌, Bool, true, false, not, cond, ◌&&◌, ◌||◌, Option, Some, None, option_map, option_and_then, List, [], ◌∷◌, map, find, is_some, refl, sym, ap}
+use Rattle.std.proofs.Common.{◌≡◌, ◌∙◌, ℕ, Bool, true, false, not, cond, ◌&&◌, ◌||◌, Option, Some, None, option_map, option_and_then, List, [], ◌∷◌, map, find, is_some, refl, sym, ap}
 use Rattle.std.proofs.lemmas.Bool.Decides.{Decides-eqb}
 use Rattle.std.proofs.lemmas.Slice.Eq.{slice_eq-Decides}
 use Rattle.std.specs.Prelude.{if◌then◌else◌}
 use Rattle.std.specs.List.{list_any}
 use Rattle.std.specs.Option.{option_map_or}
-use Rattle.rel_base.specs.Each.{each_or_none, put_before}
-use Rattle.rel_base.specs.Keys.{File, same_key}
+use Rattle.rel_base.specs.Each.{each_or_none}
+use Rattle.rel_base.specs.Keys.{File}
 use Rattle.rel_base.specs.Relations.{RelationState}
 use Rattle.rel_base.specs.declared.names.Key.{Key}
-use Rattle.rel_base.specs.declared.faults.RunFault.{RunFault}
 use Rattle.rel_base.specs.declared.faults.RunFault.TheVariants as fault
 use Rattle.myrial_ast.specs.declared.relations.FromItem.{FromItem}
 use Rattle.myrial_ast.specs.declared.relations.Operand.{Operand}
 use Rattle.myrial_ast.specs.declared.relations.Operand.TheVariants as operand
 use Rattle.myrial_ast.specs.Trees.{Name, RelTree, StatementTree}
 use Rattle.myrial_ast.specs.Trees as tree
-use Rattle.myrial_ast.specs.Bags.{union_all, distinct, difference}
+use Rattle.myrial_ast.specs.Bags.{distinct}
 use Rattle.myrial_ast.specs.CandidateFaults.{Uncounted, too_many, comprehension_fault}
 use Rattle.myrial_scopes.specs.Scopes.{same_name, scope_of}
 use Rattle.myrial_scopes.specs.Emits.{Resolved, resolved}
 use Rattle.myrial_meaning.specs.Environments.{assigned_to, kept_under, operand_of, with_key, with_name}
-use Rattle.myrial_meaning.specs.Meaning.{RelationEnvironment, ItemRelation, after, comprehension_over, items_of, of_one, of_two, relation_of, item_relation, tables_of}
-use Rattle.myrial_meaning.specs.Needed.{is_live, is_name, is_needed, mentions}
-use Rattle.myrial_ast.specs.Operands.{operands_of}
-use Rattle.myrial_meaning.specs.Faults.{relation_fault, statement_fault, widths_of}
+use Rattle.myrial_meaning.specs.Meaning.{RelationEnvironment, after, comprehension_over, items_of, of_one, relation_of, item_relation, tables_of}
+use Rattle.myrial_meaning.specs.Needed.{is_live, is_name, mentions}
+use Rattle.myrial_meaning.specs.Faults.{relation_fault, widths_of}
 use Rattle.myrial_meaning.proofs.BoolLemmas.{and-both, or-first, or-second}
 
 -- ---- names

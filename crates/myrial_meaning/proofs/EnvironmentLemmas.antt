@@ -1,5 +1,5 @@
 -- What a key and an item stand for.
-use Rattle.std.proofs.Common.{◌≡◌, ◌∙◌, Bool, Option, Some, None, option_map, List, ◌++◌, find, refl, sym, ap}
+use Rattle.std.proofs.Common.{◌≡◌, ◌∙◌, Option, Some, None, option_map, List, find, refl, sym, ap}
 use Rattle.std.proofs.lemmas.List.Folds.{find-append}
 use Rattle.std.specs.Option.{option_or}
 use Rattle.rel_base.specs.declared.names.Key.{Key}

@@ -1,6 +1,6 @@
 -- Which statements are needed, statement by statement.
-use Rattle.std.proofs.Common.{◌≡◌, ◌∙◌, ℕ, zero, suc, ◌+◌, ◌-◌, ◌<◌, ◌≤◌, Bool, List, [], ◌∷◌, length, get_or, take, drop, map, refl, sym, ap, arith, add-one, sub-one}
-use Rattle.std.proofs.lemmas.List.{drop_more, drop-map, take_rest, get_or-map, length-map, drop-set}
+use Rattle.std.proofs.Common.{◌≡◌, ℕ, zero, suc, ◌+◌, ◌<◌, Bool, List, [], ◌∷◌, length, get_or, drop, map, refl, ap}
+use Rattle.std.proofs.lemmas.List.{drop_more, drop-map}
 use Rattle.std.proofs.Common.{true, false, not, ◌&&◌, ◌||◌, ◌++◌}
 use Rattle.std.proofs.lemmas.List.Elements.{All-nil, All-cons, All-head, All-tail}
 use Rattle.std.specs.Prelude.{◌↔◌, All, IsTrue}
@@ -12,7 +12,7 @@ use Rattle.myrial_ast.specs.declared.statements.Stmt.{Stmt}
 use Rattle.myrial_ast.specs.declared.relations.FromItem.{FromItem}
 use Rattle.myrial_ast.specs.Trees.{Name, RelTree, StatementTree, statement_tree_of, trees_of}
 use Rattle.myrial_meaning.specs.Needed.{IsNeeded, assigns, is_live, is_name, is_needed, mentions, store, used, uses}
-use Rattle.myrial_meaning.proofs.BoolLemmas.{and-both, and-first, and-second, or-first, or-second}
+use Rattle.myrial_meaning.proofs.BoolLemmas.{and-both, or-first, or-second}
 use Rattle.myrial_meaning.specs.inner.NeededFlags.{needed_flags}
 
 pub length-needed_flags : (trees : List StatementTree) → length (needed_flags trees) ≡ length trees

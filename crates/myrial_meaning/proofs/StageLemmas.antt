@@ -1,9 +1,8 @@
 -- How far the evaluation of a script has come.
-use Rattle.std.proofs.Common.{◌≡◌, ◌∙◌, ℕ, suc, ◌+◌, ◌<◌, Bool, true, false, cond, ◌&&◌, Option, Some, None, List, [], ◌∷◌, length, reverse, fold, is_some, refl, sym, ap, subst, arith, add-one}
+use Rattle.std.proofs.Common.{◌≡◌, ◌∙◌, ℕ, suc, ◌+◌, ◌<◌, true, false, cond, Option, Some, None, List, [], ◌∷◌, length, reverse, fold, is_some, refl, sym, ap, arith, add-one}
 use Rattle.std.specs.Option.{option_map_or}
 use Rattle.rel_base.specs.Keys.{File}
 use Rattle.rel_base.specs.Relations.{RelationState}
-use Rattle.rel_base.specs.declared.names.Key.{Key}
 use Rattle.rel_base.specs.declared.faults.RunFault.{RunFault}
 use Rattle.rel_base.specs.declared.faults.RunFault.TheVariants as fault
 use Rattle.myrial_ast.specs.Trees.{Name, RelTree, StatementTree}
@@ -11,7 +10,7 @@ use Rattle.myrial_ast.specs.Trees as tree
 use Rattle.myrial_ast.specs.CandidateFaults.{Uncounted}
 use Rattle.myrial_meaning.specs.Environments.{assigned_to, nothing_yet, with_key, with_name}
 use Rattle.myrial_meaning.specs.Meaning.{RelationEnvironment, after, relation_of, stored_relations}
-use Rattle.myrial_meaning.specs.Needed.{is_live, is_needed}
+use Rattle.myrial_meaning.specs.Needed.{is_needed}
 use Rattle.myrial_meaning.specs.Faults.{fault_from, run_fault, statement_fault}
 use Rattle.myrial_meaning.specs.Runnable.{all_defined, has_meaning, is_defined}
 use Rattle.myrial_meaning.specs.Evaluating.{IsFault}

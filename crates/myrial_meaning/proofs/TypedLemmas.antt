@@ -1,11 +1,10 @@
 -- The rows that the nested loops list have the types of the emitted columns.
-use Rattle.std.proofs.Common.{◌≡◌, ◌∙◌, ℕ, zero, suc, ◌+◌, ◌<◌, Bool, true, false, cond, ◌&&◌, Some, List, [], ◌∷◌, ◌++◌, length, map, filter, get_or, unwrap_or, refl, sym, ap, subst, arith}
+use Rattle.std.proofs.Common.{◌≡◌, ◌∙◌, ℕ, zero, suc, ◌+◌, Bool, true, false, cond, List, [], ◌∷◌, ◌++◌, map, get_or, refl, sym, ap}
 use Rattle.std.proofs.lemmas.List.{append-nil, append_assoc, map-append}
 use Rattle.std.proofs.lemmas.List.Elements.{All-nil, All-cons, All-head, All-tail, All-append}
-use Rattle.std.specs.Prelude.{All, IsTrue}
+use Rattle.std.specs.Prelude.{All}
 use Rattle.std.specs.List.{flat_map, enumerate_from}
 use Rattle.rel_base.specs.declared.relations.Column.{Column}
-use Rattle.rel_base.specs.declared.values.Value.{Value}
 use Rattle.rel_base.specs.declared.values.ColType.{ColType}
 use Rattle.rel_base.specs.declared.values.ColType.TheVariants as kind
 use Rattle.rel_base.specs.Relations.{HasTypes, fits_schema, same_type, type_of}
@@ -17,7 +16,7 @@ use Rattle.myrial_meaning.specs.Meaning.{ItemRelation, items_of, schema_of_item,
 use Rattle.myrial_meaning.specs.inner.ItemRows.{HasTypedRows}
 use Rattle.myrial_meaning.specs.inner.Equijoins.{comprehension_of}
 use Rattle.myrial_meaning.specs.inner.Listing.{listed_behind}
-use Rattle.myrial_ast.specs.Combinations.{Row, Rows, Comprehension, all_hold, emitted}
+use Rattle.myrial_ast.specs.Combinations.{Row, Rows, all_hold, emitted}
 use Rattle.myrial_meaning.proofs.BoolLemmas.{and-first, and-second}
 
 -- ---- rows of types

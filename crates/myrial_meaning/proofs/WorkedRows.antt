@@ -1,6 +1,6 @@
 -- The worked scripts, computed from the definitions.
-use Rattle.std.proofs.Common.{◌≡◌, ℕ, Bool, true, false, List, [], ◌∷◌, Option, Some, None, refl}
-use Rattle.std.specs.Prelude.{ℤ, pos, map, codes}
+use Rattle.std.proofs.Common.{◌≡◌, ℕ, true, false, List, [], ◌∷◌, Option, Some, None, refl}
+use Rattle.std.specs.Prelude.{pos, map, codes}
 use Rattle.std.specs.Fmt.{digits}
 use Rattle.rel_base.specs.declared.values.Value.{Value}
 use Rattle.rel_base.specs.declared.values.Value.TheVariants as value
@@ -17,7 +17,7 @@ use Rattle.myrial_ast.specs.declared.relations.Operand.TheVariants as operand
 use Rattle.myrial_ast.specs.declared.expressions.ColRef.TheVariants as ref
 use Rattle.myrial_ast.specs.declared.operators.BinOp.TheVariants as op
 use Rattle.myrial_ast.specs.declared.operators.AggOp.TheVariants as agg
-use Rattle.myrial_ast.specs.Trees.{Name, Tree, EmitTree, RelTree, StatementTree, Lit, Col, Bin, Agg, AggAll, All, One, Copy, Distinct, UnionAll, Diff, From, Assign, Store, Nothing}
+use Rattle.myrial_ast.specs.Trees.{Name, Tree, EmitTree, StatementTree, Lit, Col, Bin, Agg, AggAll, One, Copy, Distinct, UnionAll, Diff, From, Assign, Store, Nothing}
 use Rattle.myrial_ast.specs.CandidateFaults.{Counted, Uncounted}
 use Rattle.myrial_meaning.specs.Meaning.{stored_relations}
 use Rattle.myrial_meaning.specs.Needed.{is_needed}

@@ -4,22 +4,19 @@
 --   relation_of files env r            the relation that a relation expression stands for
 --   after files env statement          the environment after a statement
 --   stored_relations files script      what the stores of a script store, in their order, each relation known as a bag
-use Rattle.std.specs.Prelude.{ℕ, List, [], ◌∷◌, ◌++◌, map, fold, reverse, length, find, Option, Some, None, option_map, option_and_then}
+use Rattle.std.specs.Prelude.{List, [], map, fold, reverse, Option, Some, option_map, option_and_then}
 use Rattle.std.specs.Option.{option_map_or}
 use Rattle.rel_base.specs.Each.{each_or_none}
-use Rattle.rel_base.specs.Keys.{File, same_key}
+use Rattle.rel_base.specs.Keys.{File}
 use Rattle.rel_base.specs.Relations.{RelationState}
-use Rattle.rel_base.specs.declared.names.Key.{Key}
 use Rattle.myrial_ast.specs.declared.relations.FromItem.{FromItem}
-use Rattle.myrial_ast.specs.declared.relations.Operand.{Operand}
-use Rattle.myrial_ast.specs.declared.relations.Operand.TheVariants as operand
 use Rattle.myrial_ast.specs.Trees.{Name, Tree, EmitTree, RelTree, StatementTree}
 use Rattle.myrial_ast.specs.Trees as tree
 use Rattle.myrial_ast.specs.Bags.{union_all, distinct, difference}
 use Rattle.myrial_ast.specs.Combinations.{Rows, listed_rows}
 use Rattle.myrial_ast.specs.Groups.{result_rows}
 use Rattle.myrial_meaning.specs.Environments.{Environment, nothing_yet, assigned_to, operand_of, with_name, with_key}
-use Rattle.myrial_scopes.specs.Scopes.{ItemSchema, scope_of, same_name}
+use Rattle.myrial_scopes.specs.Scopes.{ItemSchema, scope_of}
 use Rattle.myrial_scopes.specs.Emits.{Resolved, resolved}
 
 -- the relations of the names that were assigned, and of the keys that were stored

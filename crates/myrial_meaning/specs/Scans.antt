@@ -28,7 +28,7 @@ keys_of _ = []
 -- every scan of a key that is not stored before, in order
 abbrev pub scans_from : List Key → List StatementTree → List Key
 scans_from stored [] = []
-scans_from stored (tree.Store name key ∷ rest) = scans_from (key ∷ stored) rest
+scans_from stored (tree.Store name key ∷ rest) = scans_from (stored ++ key ∷ []) rest
 scans_from stored (s ∷ rest) = filter (λ key. not (has_key stored key)) (keys_of s) ++ scans_from stored rest
 
 -- each key where it stands first

@@ -26,13 +26,15 @@ mod laws;
 mod list_faults;
 mod loops;
 mod needed;
+mod scanned;
 mod stages;
 mod statements;
 
 pub use checking::has_meaning;
 pub use evaluating::evaluate;
-pub use stages::runs;
 pub use laws::needed_statements_are_the_least_set;
+pub use scanned::scanned_keys;
+pub use stages::runs;
 
 #[cfg(test)]
 mod tests;

@@ -1,9 +1,8 @@
-use Rattle.std.proofs.Common.{◌≡◌, ◌∙◌, ◌+◌, ◌<◌, ◌≤◌, ◌&&◌, ◌∷◌, true, false, List, length, get_or, drop, sym, ap, arith, refl}
+use Rattle.std.proofs.Common.{◌≡◌, ◌∙◌, ◌+◌, ◌<◌, ◌≤◌, true, false, length, drop, sym, ap, refl}
 use Rattle.std.proofs.lemmas.List.{drop_all, length-map}
-use Rattle.myrial_ast.specs.Trees.{StatementTree, statement_tree_of, trees_of}
-use Rattle.myrial_meaning.specs.Environments.{nothing_yet}
+use Rattle.myrial_ast.specs.Trees.{statement_tree_of, trees_of}
 use Rattle.myrial_meaning.specs.inner.Columns.{all_declared}
-use Rattle.myrial_meaning.specs.Runnable.{has_meaning, is_defined}
+use Rattle.myrial_meaning.specs.Runnable.{is_defined}
 use Rattle.myrial_meaning.proofs.ColumnLemmas.{has_meaning-declared, all_declared-here, all_declared-first}
 use Rattle.myrial_meaning.proofs.NeededLemmas.{trees-at}
 use Rattle.myrial_meaning.proofs.checking.has_meaning.Goals as goal

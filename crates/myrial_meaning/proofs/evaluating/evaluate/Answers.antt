@@ -1,7 +1,7 @@
-use Rattle.std.proofs.Common.{◌≡◌, ◌∙◌, ◌+◌, ◌<◌, ◌∷◌, Bool, true, false, List, length, get_or, drop, sym, ap, subst, arith, refl}
+use Rattle.std.proofs.Common.{◌≡◌, ◌∙◌, ◌+◌, ◌<◌, ◌∷◌, Bool, List, length, get_or, drop, sym, ap, subst, arith, refl}
 use Rattle.std.proofs.lemmas.List.{length-map}
 use Rattle.myrial_ast.specs.Trees.{StatementTree, statement_tree_of, trees_of}
-use Rattle.myrial_meaning.specs.Meaning.{RelationEnvironment, after}
+use Rattle.myrial_meaning.specs.Meaning.{RelationEnvironment}
 use Rattle.myrial_meaning.specs.Needed.{is_needed}
 use Rattle.myrial_meaning.specs.inner.NeededFlags.{needed_flags}
 use Rattle.myrial_meaning.specs.Runnable.{runs_statement}

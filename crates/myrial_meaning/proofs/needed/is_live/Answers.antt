@@ -1,4 +1,4 @@
-use Rattle.std.proofs.Common.{◌≡◌, ◌∙◌, ◌+◌, ◌<◌, Bool, false, length, get_or, drop, sym, ap, arith}
+use Rattle.std.proofs.Common.{◌≡◌, ◌∙◌, ◌+◌, false, get_or, drop, sym, ap}
 use Rattle.std.proofs.lemmas.List.{length-map}
 use Rattle.myrial_ast.specs.Trees.{statement_tree_of, trees_of}
 use Rattle.myrial_meaning.specs.Needed.{is_live, is_needed}

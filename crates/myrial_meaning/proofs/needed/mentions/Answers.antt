@@ -1,4 +1,4 @@
-use Rattle.std.proofs.Common.{◌∙◌, sym, refl}
+use Rattle.std.proofs.Common.{sym}
 use Rattle.myrial_meaning.proofs.NeededLemmas.{any-sources}
 use Rattle.myrial_meaning.proofs.needed.mentions.Goals as goal
 

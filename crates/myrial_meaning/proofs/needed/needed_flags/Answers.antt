@@ -1,7 +1,6 @@
-use Rattle.std.proofs.Common.{◌≡◌, ◌∙◌, ◌+◌, ◌-◌, ◌<◌, ◌∷◌, Bool, length, get_or, take, drop, sym, ap, arith, refl}
+use Rattle.std.proofs.Common.{◌≡◌, ◌+◌, ◌-◌, ◌<◌, length, arith, refl}
 use Rattle.std.proofs.lemmas.List.{drop-map, drop-set, length-set, take_rest}
-use Rattle.myrial_ast.specs.Trees.{statement_tree_of, trees_of}
-use Rattle.myrial_meaning.specs.inner.NeededFlags.{needed_flags}
+use Rattle.myrial_ast.specs.Trees.{statement_tree_of}
 use Rattle.myrial_meaning.proofs.NeededLemmas.{trees-at}
 use Rattle.myrial_meaning.proofs.needed.needed_flags.Goals as goal
 

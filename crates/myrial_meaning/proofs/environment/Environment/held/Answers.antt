@@ -1,4 +1,4 @@
-use Rattle.std.proofs.Common.{◌∙◌, refl}
+use Rattle.std.proofs.Common.{◌∙◌}
 use Rattle.myrial_meaning.proofs.EnvironmentLemmas.{kept_under-file, kept_under-stored}
 use Rattle.myrial_meaning.proofs.environment.Environment.held.Goals as goal
 
