@@ -4,7 +4,7 @@ ghost use Rattle.myrial_meaning.specs.Meaning.{items_of, schema_of_item};
 ghost use Rattle.myrial_meaning.specs.inner.ItemRows.{HasTypedRows};
 
 use myrial_scopes::ItemSchema;
-use rel_base::{Memory, Relation, Row, Schema, Text};
+use rel_base::{Memory, Relation, Rows, Schema, Text};
 use std::alloc::Global;
 use std::marker::Model;
 
@@ -13,7 +13,7 @@ use std::marker::Model;
 pub struct ItemRelation<'a> {
     alias: &'a Text,
     schema: &'a Schema,
-    rows: &'a [Row],
+    rows: &'a Rows,
 }
 
 impl<'a> Model for ItemRelation<'a> {
@@ -37,12 +37,12 @@ impl<'a> ItemRelation<'a> {
         ItemRelation {
             alias,
             schema: relation.schema(),
-            rows: relation.rows().as_slice(),
+            rows: relation.rows(),
         }
     }
 
     /// The rows, in the order in which they stand.
-    pub fn rows(&self) -> &'a [Row]
+    pub fn rows(&self) -> &'a Rows
         ensures { result.now ≡ self.now.table.rows }
     {
         self.rows
