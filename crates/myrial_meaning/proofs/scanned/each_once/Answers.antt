@@ -25,7 +25,7 @@ loop-key-preserved c =
             distinct = subst Distinct (sym pushed) (distinct-push c.loop-key.first k before.distinct new);
           }
       | else-not-is_among w ↦ record {
-          first = w.first-is ∙ (before.first ∙ sym (each_once-there keys i k c.loop-key-test.true c.key-item.is (said ∙ w.if-not-is_among.false)));
-          distinct = subst Distinct (sym w.first-is) before.distinct;
-        }
+        first = w.first-is ∙ (before.first ∙ sym (each_once-there keys i k c.loop-key-test.true c.key-item.is (said ∙ w.if-not-is_among.false)));
+        distinct = subst Distinct (sym w.first-is) before.distinct;
+      }
     ]
