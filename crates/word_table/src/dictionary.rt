@@ -2,11 +2,9 @@
 ghost use Rattle.std.specs.Prelude.{◌≡◌, ◌↔◌, All, Contains, FitsSigned, IsSome, IfSome, IfOk};
 ghost use Rattle.std.specs.Int.{w64};
 ghost use Rattle.std.specs.Option.{SomeIff};
-ghost use Rattle.std.specs.Ordering.{nat_cmp};
 ghost use Rattle.rel_base.specs.Relations.{type_of};
-ghost use Rattle.rel_base.specs.Values.{value_order};
 ghost use Rattle.rel_base.specs.declared.values.Value.{Value as Datum};
-ghost use Rattle.word_table.specs.Words.{IsAscending, IsDictionaryOf, rank, int_word, word_of, HasWord, IsHeld, IsWordOf};
+ghost use Rattle.word_table.specs.Words.{IsAscending, IsDictionaryOf, rank, int_word, word_of, HasWord, IsHeld, IsWordOf, WordsKeepOrder};
 
 use crate::entries::{Entry, entries_of};
 use crate::gathering::strings_of_parts;
@@ -94,15 +92,10 @@ impl Dictionary {
     }
 }
 
-/// Law: words of one type compare as their values do.
-pub fn words_keep_order(dictionary: &Dictionary, value: &Value, other: &Value)
-    requires typed { type_of value.now ≡ type_of other.now }
-    requires value_has_word { HasWord dictionary.now value.now }
-    requires other_has_word { HasWord dictionary.now other.now }
-    ensures { nat_cmp (word_of dictionary.now value.now) (word_of dictionary.now other.now) ≡ value_order value.now other.now }
-{
-    let _strings = &dictionary.entries;
-}
+/// Law: under any ascending strings, words of one type compare as their values do.
+pub fn words_keep_order()
+    ensures { WordsKeepOrder }
+{}
 
 /// The number with this word.
 fn int_of(word: u64) -> i64
