@@ -77,7 +77,8 @@ impl Shelf for MemShelf {
             into.old.items into.new.items) }
         ensures err { OnErr result (into.new.items ≡ into.old.items) }
         ensures failed { (result ≡ Err ShelfFault.Failed) ↔ IsTrue (fetch_fails self.old) }
-        ensures absent { (result ≡ Err ShelfFault.Absent) ↔ IsTrue (fetch_misses self.old name.now) }
+        ensures absent { (result ≡ Err ShelfFault.Absent)
+            ↔ IsTrue (fetch_misses self.old name.now) }
         ensures after { self.new ≡ shelf_after self.old name.now }
         ensures faults { self.old.faults ≤ self.new.faults }
         ensures misses { self.old.misses ≤ self.new.misses }

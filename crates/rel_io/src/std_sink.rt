@@ -69,7 +69,8 @@ impl<W: Write + Drop> StdSink<BufWriter<W>> {
     ///
     /// After `Ok` nothing is kept back. After a fault it may be called again.
     pub fn finish(&mut self) -> Result<(), SinkFault>
-        ensures taken { Keeps (writer_contents W.contents self.old.0) (writer_contents W.contents self.new.0) }
+        ensures taken { Keeps (writer_contents W.contents self.old.0)
+            (writer_contents W.contents self.new.0) }
         ensures ok { OnOk result (writer_buffer self.new.0 ≡ []) }
         ensures ok_faults { OnOk result (self.new.1 ≡ self.old.1) }
         ensures err { IfErr result (λ e. e ≡ SinkFault.Failed) }
@@ -91,7 +92,8 @@ impl<W: Write> Sink for StdSink<W> {
 
     fn write(&mut self, piece: &[u8]) -> Result<usize, SinkFault>
         requires { 0 < length piece.now }
-        ensures taken { WriteAppends (W.contents self.old.0) (W.contents self.new.0) result piece.now }
+        ensures taken { WriteAppends (W.contents self.old.0) (W.contents self.new.0)
+            result piece.now }
         ensures some { IfOk result (λ n. 0 < n) }
         ensures within { IfOk result (λ n. n ≤ length piece.now) }
 

@@ -69,7 +69,8 @@ impl Inbox {
     /// The answer to a post.
     fn send(&mut self, post: Post) -> Result<Stepped, Memory>
         ensures answer { IfOk result (λ answer. answer ≡ answer_to_post self.old post) }
-        ensures after { OnOk result (self.new ≡ after_post self.old post (answer_to_post self.old post)) }
+        ensures after { OnOk result
+            (self.new ≡ after_post self.old post (answer_to_post self.old post)) }
         ensures err { OnErr result (self.new ≡ self.old) }
         ensures was { IsInbox sender_of is_end self.old }
     {
