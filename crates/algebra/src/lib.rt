@@ -14,7 +14,9 @@
 //! Read `specs/Trees.antt`, `specs/Shapes.antt` and `specs/Meanings.antt`, then `shapes.rt` and `terms.rt`.
 #![tactic(auto)]
 
+mod conditions;
 mod joins;
+mod kinds;
 mod laws;
 mod notes;
 mod settings;
@@ -22,6 +24,7 @@ mod shapes;
 mod terms;
 
 pub use joins::{JoinFault, Listed, LocalJoin};
+pub use kinds::kind_in;
 pub use laws::{
     needed_by_rule, needed_is_needed, shape_faults_the_same, shape_keeps_the_same,
     shape_lists_the_same,
