@@ -1,16 +1,18 @@
 //! The meaning of scripts, and an evaluator that computes it as it is defined.
 //!
-//! Stands on `rel_base` for relations and files, and on `myrial_ast` for the trees of scripts and the meaning of
-//! expressions, comprehensions and groups. Nothing here reads text, reads a file or waits.
+//! Stands on `rel_base` for relations and files, on `myrial_ast` for the trees of scripts and the meaning of expressions,
+//! comprehensions and groups, and on `myrial_scopes` for what names mean. Nothing here reads text, reads a file or waits.
 //!
 //! Promises: `evaluate` gives what a script stores, each relation's rows in ascending order, or the fault of its run, as
 //! the definitions say; statements that no store needs are not run. `has_meaning` tells whether each name, key and
-//! reference of a script stands for something, which `evaluate` requires. Contracts see a script by `trees_of`.
+//! reference of a script stands for something, which `evaluate` requires beside `runs`; `scanned_keys` gives the keys whose
+//! files a script needs. That the test of needed statements tells what their rule says is a law. Contracts see a script by
+//! `trees_of`.
 //! Not promised: that memory is there; speed, since a comprehension goes over every combination of its items' rows.
 //! The definitions are of the whole language, and the scripts that are evaluated are those that `runs` admits: operands,
 //! and comprehensions that join items by equalities of columns and emit columns.
 //!
-//! Read `specs/Scopes.antt`, `specs/Emits.antt`, `specs/Meaning.antt`, `specs/Needed.antt`, `specs/Faults.antt` and
+//! Read `specs/Environments.antt`, `specs/Meaning.antt`, `specs/Needed.antt`, `specs/Faults.antt` and
 //! `specs/Runnable.antt`, then `evaluating.rt`, `statements.rt` and `loops.rt`.
 #![tactic(auto)]
 
