@@ -5,10 +5,10 @@ use Rattle.std.specs.List.{flat_map}
 use Rattle.std.specs.Option.{option_map_or}
 use Rattle.rel_base.specs.Keys.{File}
 use Rattle.rel_base.specs.declared.faults.RunFault.{RunFault}
-use Rattle.std.specs.Io.KnownBytes.{Appends}
 use Rattle.rel_io.specs.declared.sinks.SinkFault.{SinkFault}
 use Rattle.rel_io.specs.declared.sinks.SinkFault.TheVariants as fault
-use Rattle.rel_io.specs.Outside.{Content, Rose, TakesPart}
+use Rattle.rel_io.specs.Outside.{Content}
+use Rattle.rel_io.specs.Sinks.{FaultsRose, TookAll, TookPart, WantsRose, Written}
 use Rattle.rel_io.specs.Outside as outside
 use Rattle.myrial_ast.specs.Trees.{StatementTree}
 use Rattle.myrial_ast.specs.CandidateFaults.{Uncounted}
@@ -17,12 +17,13 @@ use Rattle.myrial_meaning.specs.Meaning.{stored_relations}
 use Rattle.myrial_meaning.specs.SortedFiles.{sorted_file}
 use Rattle.myrial_meaning.specs.Runnable.{has_meaning}
 use Rattle.myrial_meaning.specs.Scans.{scanned_keys}
+use Rattle.rel_io.specs.Shelves.{CallCounts}
 use Rattle.myria_top.specs.declared.outcomes.Outcome.{Outcome}
 use Rattle.myria_top.specs.declared.outcomes.Outcome.TheVariants as outcome
 use Rattle.myria_top.specs.declared.outcomes.Part.TheVariants as part
-use Rattle.myria_top.specs.Headline.{Run, Written, Decides, IsInPlace, Explains, FaultsRose, IsAskedOf, TellsLine, WantsRose, of_untold, a_relation}
+use Rattle.myria_top.specs.Headline.{Run, Decides, IsInPlace, Explains, IsAskedOf, TellsLine, of_untold, a_relation}
 use Rattle.myria_top.specs.OutputText.{output_text, relation_text_in_order}
-use Rattle.myria_top.specs.Reading.{Agrees, AgreesBy, AgreesRefused, Counts, HasCause, Meets, ReadsBy, ReadsStep, RefusesBy, script_name}
+use Rattle.myria_top.specs.Reading.{Agrees, AgreesBy, AgreesRefused, HasCause, Meets, ReadsBy, ReadsStep, RefusesBy, script_name}
 use Rattle.myria_top.specs.Scripts.{ScriptComesTo, TextComesTo, not_text, bad_token, bad_piece, not_built, built, not_told, no_script, too_long, short}
 use Rattle.myria_top.specs.Verdicts.{Verdict, untold, refused, passes, and_then, IfTold}
 use Rattle.myria_top.specs.Runs.{ComesTo, named, IsFileOf, files_verdict, printed_verdict, run_answer, run_verdict, types_fit}
@@ -131,19 +132,18 @@ module _ (words : List (List ℕ)) (content : List ℕ → Content) (name : List
   agrees_on script (Ok text) m h = printed_goes script text m h
   agrees_on script (Err answer) m h = printed_refuses script answer m h
 
-  cause_on : (script : List StatementTree) (part run : Counts) (r : Result (List ℕ) Outcome) → Meets (ScriptComesTo (content name)) (passes script) → LiesWithin part run
+  cause_on : (script : List StatementTree) (part run : CallCounts) (r : Result (List ℕ) Outcome) → Meets (ScriptComesTo (content name)) (passes script) → LiesWithin part run
       → IfErr r (HasCause part (IsFileOf (scanned_keys script))) → IfErr r (HasCause run (IsAskedOf words content))
   cause_on script part run (Ok text) m within h = tt
   cause_on script part run (Err answer) m within h = HasCause-part part run _ (IsAskedOf words content) answer within (λ file f. asked script file m f) h
 
   -- the script was read, and then its run was prepared on the same content
-  pub reads_on : (script : List StatementTree) (same : List ℕ → Content) (part run : Counts) (r : Result (List ℕ) Outcome) → Meets (ScriptComesTo (content name)) (passes script)
+  pub reads_on : (script : List StatementTree) (same : List ℕ → Content) (part run : CallCounts) (r : Result (List ℕ) Outcome) → Meets (ScriptComesTo (content name)) (passes script)
       → same ≡ content → LiesWithin part run → ReadsStep (printed_verdict same script) part (IsFileOf (scanned_keys script)) r → ReadsBy (ComesTo words content) run (IsAskedOf words content) r
   reads_on script same part run r m is within h = record {
     agrees = agrees_on script r m (subst (λ (con : List ℕ → Content). Agrees (printed_verdict con script) r) is h.agrees);
     cause = cause_on script part run r m within h.cause;
-    faults_kept = omega (arith, within.faults_from, within.faults_on, within.faults_to);
-    misses_kept = omega (arith, within.misses_from, within.misses_on, within.misses_to);
+    kept = record { faults = omega (arith, within.faults_from, within.faults_on, within.faults_to); misses = omega (arith, within.misses_from, within.misses_on, within.misses_to) };
   }
 
 -- ---- the words and the files decide the answer
@@ -188,7 +188,7 @@ decided run answer e step comes = decided_from run step comes answer e
 -- ---- the line of the answer
 
 pub told_line : (err : Written) (line : List ℕ) (r : Result (Unit {0}) SinkFault)
-    → OnOk r (Appends err.before err.after line) → OnErr r (TakesPart err.before err.after line)
+    → OnOk r (TookAll err line) → OnErr r (TookPart err line)
     → (r ≡ Err fault.Failed → FaultsRose err) → (r ≡ Err fault.Memory → WantsRose err) → TellsLine err line
 told_line err line (Ok x) ok part failed memory = inl ok
 told_line err line (Err fault.Failed) ok part failed memory = inr (inl (failed refl), part)

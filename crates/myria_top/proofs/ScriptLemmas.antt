@@ -6,9 +6,10 @@ use Rattle.rel_io.specs.Outside.{Content, IsGiven, MayBeMissing}
 use Rattle.rel_io.specs.Outside as outside
 use Rattle.myrial_ast.specs.declared.statements.Stmt.{Stmt}
 use Rattle.myrial_ast.specs.Trees.{StatementTree}
+use Rattle.rel_io.specs.Shelves.{CallCounts}
 use Rattle.myria_top.specs.declared.outcomes.Outcome.{Outcome}
 use Rattle.myria_top.specs.declared.outcomes.Outcome.TheVariants as outcome
-use Rattle.myria_top.specs.Reading.{AgreesBy, Counts, HasCause, Meets, RefusesBy}
+use Rattle.myria_top.specs.Reading.{AgreesBy, HasCause, Meets, RefusesBy}
 use Rattle.myria_top.specs.Scripts.{TextComesTo, ScriptComesTo, not_told, no_script, too_long, short, trees_read, IsOfTexts}
 use Rattle.myria_top.specs.Verdicts.{Verdict, untold, refused, passes}
 
@@ -71,7 +72,7 @@ text_read (outside.there file) bytes r given h a =
     (λ s comes. short file s fits (subst (λ (b : List ℕ). TextComesTo b s) same comes)) r a
 
 -- a refusal of the texts needs no count
-no_count : (counts : Counts) (P : List ℕ → Type 0) (answer : Outcome) → IsOfTexts answer → HasCause counts P answer
+no_count : (counts : CallCounts) (P : List ℕ → Type 0) (answer : Outcome) → IsOfTexts answer → HasCause counts P answer
 no_count counts P outcome.NoScript h = absurd h
 no_count counts P (outcome.NoRelation key) h = absurd h
 no_count counts P (outcome.RelTooLong key) h = absurd h
@@ -79,10 +80,10 @@ no_count counts P (outcome.BadRelation key fault) h = absurd h
 no_count counts P (outcome.ReadFault name) h = absurd h
 no_count counts P answer h = tt
 
-pub text_cause : (counts : Counts) (P : List ℕ → Type 0) (r : Result (List Stmt) Outcome) → IfErr r IsOfTexts → IfErr (trees_read r) (HasCause counts P)
+pub text_cause : (counts : CallCounts) (P : List ℕ → Type 0) (r : Result (List Stmt) Outcome) → IfErr r IsOfTexts → IfErr (trees_read r) (HasCause counts P)
 text_cause counts P (Ok x) h = tt
 text_cause counts P (Err answer) h = no_count counts P answer h
 
-pub run_cause : {X : Type 0} (counts : Counts) (P : List ℕ → Type 0) (r : Result X Outcome) → IfErr r IsOfTexts → IfErr r (HasCause counts P)
+pub run_cause : {X : Type 0} (counts : CallCounts) (P : List ℕ → Type 0) (r : Result X Outcome) → IfErr r IsOfTexts → IfErr r (HasCause counts P)
 run_cause counts P (Ok x) h = tt
 run_cause counts P (Err answer) h = no_count counts P answer h

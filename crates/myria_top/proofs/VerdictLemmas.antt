@@ -5,9 +5,10 @@ use Rattle.rel_base.specs.Relations.{RelationState}
 use Rattle.rel_base.specs.declared.names.Key.{Key}
 use Rattle.rel_io.specs.Outside.{Content}
 use Rattle.rel_io.proofs.OutsideLemmas.{Rose-part}
+use Rattle.rel_io.specs.Shelves.{CallCounts}
 use Rattle.myria_top.specs.declared.outcomes.Outcome.{Outcome}
 use Rattle.myria_top.specs.declared.outcomes.Outcome.TheVariants as outcome
-use Rattle.myria_top.specs.Reading.{AgreesRefused, Counts, HasCause, RefusesBy}
+use Rattle.myria_top.specs.Reading.{AgreesRefused, HasCause, RefusesBy}
 use Rattle.myria_top.specs.Verdicts.{Verdict, untold, refused, passes, and_then, IfTold}
 use Rattle.myria_top.specs.Runs.{files_verdict, one_file_more, relation_verdict}
 
@@ -102,16 +103,16 @@ module _ (content : List ℕ → Content) where
 -- ---- causes
 
 -- the counts of a part of a run lie within those of the run
-pub record LiesWithin (part run : Counts) : Type 0 where
-  pub faults_from : run.faults_before ≤ part.faults_before
-  pub faults_on : part.faults_before ≤ part.faults_after
-  pub faults_to : part.faults_after ≤ run.faults_after
-  pub misses_from : run.misses_before ≤ part.misses_before
-  pub misses_on : part.misses_before ≤ part.misses_after
-  pub misses_to : part.misses_after ≤ run.misses_after
+pub record LiesWithin (part run : CallCounts) : Type 0 where
+  pub faults_from : run.before.faults ≤ part.before.faults
+  pub faults_on : part.before.faults ≤ part.after.faults
+  pub faults_to : part.after.faults ≤ run.after.faults
+  pub misses_from : run.before.misses ≤ part.before.misses
+  pub misses_on : part.before.misses ≤ part.after.misses
+  pub misses_to : part.after.misses ≤ run.after.misses
 
 -- a cause in a part of a run is a cause in the run
-pub HasCause-part : (part run : Counts) (P Q : List ℕ → Type 0) (answer : Outcome) → LiesWithin part run → ((name : List ℕ) → P name → Q name) → HasCause part P answer → HasCause run Q answer
+pub HasCause-part : (part run : CallCounts) (P Q : List ℕ → Type 0) (answer : Outcome) → LiesWithin part run → ((name : List ℕ) → P name → Q name) → HasCause part P answer → HasCause run Q answer
 HasCause-part part run P Q outcome.NoScript w f h = Rose-part _ _ _ _ w.misses_from w.misses_on w.misses_to h
 HasCause-part part run P Q (outcome.NoRelation key) w f h =
     (Rose-part _ _ _ _ w.misses_from w.misses_on w.misses_to h.0, f (shelf_name_of key) h.1)
@@ -121,7 +122,7 @@ HasCause-part part run P Q (outcome.ReadFault name) w f h = (Rose-part _ _ _ _ w
 HasCause-part part run P Q answer w f h = tt
 
 -- a run is a part of itself
-pub within_itself : (counts : Counts) → counts.faults_before ≤ counts.faults_after → counts.misses_before ≤ counts.misses_after → LiesWithin counts counts
+pub within_itself : (counts : CallCounts) → counts.before.faults ≤ counts.after.faults → counts.before.misses ≤ counts.after.misses → LiesWithin counts counts
 within_itself counts f m = record {
   faults_from = omega arith;
   faults_on = f;

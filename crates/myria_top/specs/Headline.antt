@@ -4,10 +4,11 @@
 --   Explains run answer     why the answer came, and what the output then holds
 --   Headline run err answer  the promises
 use Rattle.std.specs.Prelude.{◌≡◌, ◌↔◌, ℕ, ◌⊎◌, ⊤, Option, List, Some, None, Contains}
-use Rattle.std.specs.Io.KnownBytes.{Appends, Keeps}
 use Rattle.rel_base.specs.Keys.{shelf_name_of}
 use Rattle.rel_base.specs.declared.names.Key.{Key}
-use Rattle.rel_io.specs.Outside.{Content, Rose, TakesPart}
+use Rattle.rel_io.specs.Outside.{Content}
+use Rattle.rel_io.specs.Shelves.{CallCounts}
+use Rattle.rel_io.specs.Sinks.{FaultsRose, TookAll, TookNothing, TookPart, WantsRose, Written}
 use Rattle.rel_io.specs.Outside as outside
 use Rattle.myrial_ast.specs.Trees.{StatementTree}
 use Rattle.myrial_meaning.specs.Scans.{scanned_keys}
@@ -15,46 +16,17 @@ use Rattle.myria_top.specs.declared.outcomes.Outcome.{Outcome}
 use Rattle.myria_top.specs.declared.outcomes.Outcome.TheVariants as outcome
 use Rattle.myria_top.specs.declared.outcomes.Part.TheVariants as part
 use Rattle.myria_top.specs.Outcomes.{line_of}
-use Rattle.myria_top.specs.Reading.{Counts, HasCause, RefusesBy, script_name}
+use Rattle.myria_top.specs.Reading.{HasCause, RefusesBy, script_name}
 use Rattle.myria_top.specs.Scripts.{ScriptComesTo}
 use Rattle.myria_top.specs.Verdicts.{Verdict, untold, refused, passes, IfTold}
 use Rattle.myria_top.specs.Runs.{ComesTo}
-
--- a sink before and after a run: what it took, where that is known, and its counts
-pub record Written : Type 0 where
-  pub before : Option (List ℕ)
-  pub after : Option (List ℕ)
-  pub faults_before : ℕ
-  pub faults_after : ℕ
-  pub wants_before : ℕ
-  pub wants_after : ℕ
 
 -- what a run was handed, and what it left in the shelf and in the output
 pub record Run : Type 0 where
   pub words : List (List ℕ)
   pub content : List ℕ → Content
-  pub shelf : Counts
+  pub shelf : CallCounts
   pub out : Written
-
--- a count of faults rose in the run
-abbrev pub FaultsRose : Written → Type 0
-FaultsRose sink = Rose sink.faults_before sink.faults_after
-
--- a count of wants rose in the run
-abbrev pub WantsRose : Written → Type 0
-WantsRose sink = Rose sink.wants_before sink.wants_after
-
--- the sink took this text whole
-abbrev pub TookAll : Written → List ℕ → Type 0
-TookAll sink text = Appends sink.before sink.after text
-
--- the sink took a beginning of this text, and not all of it
-abbrev pub TookPart : Written → List ℕ → Type 0
-TookPart sink text = TakesPart sink.before sink.after text
-
--- the sink took nothing
-abbrev pub TookNothing : Written → Type 0
-TookNothing sink = Keeps sink.before sink.after
 
 -- the words and the files come to a text, where the shelf tells enough, and this holds of it
 pub record OfText (run : Run) (P : List ℕ → Type 0) : Type 0 where

@@ -10,6 +10,7 @@ use Rattle.std.specs.Prelude.{◌≡◌, ℕ, ◌≤◌, List, [], ◌∷◌, le
 use Rattle.std.specs.List.{starts_with}
 use Rattle.rel_base.specs.Keys.{shelf_name_of}
 use Rattle.rel_io.specs.Outside.{Content, Rose}
+use Rattle.rel_io.specs.Shelves.{CallCounts, HaveNotFallen}
 use Rattle.rel_io.specs.Outside as outside
 use Rattle.myria_top.specs.declared.outcomes.Outcome.{Outcome}
 use Rattle.myria_top.specs.declared.outcomes.Outcome.TheVariants as outcome
@@ -40,29 +41,21 @@ abbrev pub Agrees : {X : Type 0} → Verdict X → Result X Outcome → Type 0
 Agrees step (Ok x) = IfTold step (λ s. s ≡ passes x)
 Agrees step (Err answer) = AgreesRefused step answer
 
--- the shelf's counts before and after a call
-pub record Counts : Type 0 where
-  pub faults_before : ℕ
-  pub faults_after : ℕ
-  pub misses_before : ℕ
-  pub misses_after : ℕ
-
 -- a refusal of the shelf has its cause in a count that rose, and what it names is one of these files
-abbrev pub HasCause : Counts → (List ℕ → Type 0) → Outcome → Type 0
-HasCause counts IsAsked outcome.NoScript = Rose counts.misses_before counts.misses_after
+abbrev pub HasCause : CallCounts → (List ℕ → Type 0) → Outcome → Type 0
+HasCause counts IsAsked outcome.NoScript = Rose counts.before.misses counts.after.misses
 HasCause counts IsAsked (outcome.NoRelation key) =
-    Rose counts.misses_before counts.misses_after × IsAsked (shelf_name_of key)
+    Rose counts.before.misses counts.after.misses × IsAsked (shelf_name_of key)
 HasCause counts IsAsked (outcome.RelTooLong key) = IsAsked (shelf_name_of key)
 HasCause counts IsAsked (outcome.BadRelation key fault) = IsAsked (shelf_name_of key)
-HasCause counts IsAsked (outcome.ReadFault name) = Rose counts.faults_before counts.faults_after × IsAsked name
+HasCause counts IsAsked (outcome.ReadFault name) = Rose counts.before.faults counts.after.faults × IsAsked name
 HasCause counts IsAsked _ = ⊤
 
 -- a call that reads the files that IsAsked names came to what the step comes to, each refusal has its cause, and no count fell
-pub record ReadsStep {X : Type 0} (step : Verdict X) (counts : Counts) (IsAsked : List ℕ → Type 0) (result : Result X Outcome) : Type 0 where
+pub record ReadsStep {X : Type 0} (step : Verdict X) (counts : CallCounts) (IsAsked : List ℕ → Type 0) (result : Result X Outcome) : Type 0 where
   pub agrees : Agrees step result
   pub cause : IfErr result (HasCause counts IsAsked)
-  pub faults_kept : counts.faults_before ≤ counts.faults_after
-  pub misses_kept : counts.misses_before ≤ counts.misses_after
+  pub kept : HaveNotFallen counts
 
 -- the files come to such a step, where enough is told
 pub record Meets {X : Type 0} (Comes : Verdict X → Type 0) (wanted : Verdict X) : Type 0 where
@@ -84,8 +77,7 @@ AgreesBy Comes (Ok x) = Meets Comes (passes x)
 AgreesBy Comes (Err answer) = RefusesBy Comes answer
 
 -- a call that reads the files that IsAsked names came to what they come to, each refusal has its cause, and no count fell
-pub record ReadsBy {X : Type 0} (Comes : Verdict X → Type 0) (counts : Counts) (IsAsked : List ℕ → Type 0) (result : Result X Outcome) : Type 0 where
+pub record ReadsBy {X : Type 0} (Comes : Verdict X → Type 0) (counts : CallCounts) (IsAsked : List ℕ → Type 0) (result : Result X Outcome) : Type 0 where
   pub agrees : AgreesBy Comes result
   pub cause : IfErr result (HasCause counts IsAsked)
-  pub faults_kept : counts.faults_before ≤ counts.faults_after
-  pub misses_kept : counts.misses_before ≤ counts.misses_after
+  pub kept : HaveNotFallen counts

@@ -4,6 +4,7 @@ ghost use Rattle.rel_base.specs.Keys.{holds_key, same_key};
 ghost use Rattle.myrial_ast.specs.Trees.{trees_of};
 ghost use Rattle.myria_top.specs.Forms as form;
 ghost use Rattle.myria_top.specs.Scripts.{ScriptComesTo, TextComesTo, trees_read, IsOfTexts};
+ghost use Rattle.rel_io.specs.Shelves.{HaveNotFallen, counts_of};
 ghost use Rattle.rel_io.specs.Outside.{IsGiven, MayBeMissing, Rose};
 ghost use Rattle.rel_base.specs.Keys.{shelf_name_of};
 ghost use Rattle.myria_top.specs.Reading as spec;
@@ -34,12 +35,7 @@ pub fn script_name(words: &[Text]) -> Option<&Text>
 /// The script of this name: one of those that are built.
 pub fn read_script<F: Shelf>(alloc: Global, shelf: &mut F, name: &Text) -> Result<Script, Outcome>
     ensures read { spec.ReadsBy (ScriptComesTo (F.content shelf.old name.now))
-        (record {
-          faults_before = F.faults shelf.old;
-          faults_after = F.faults shelf.new;
-          misses_before = F.misses shelf.old;
-          misses_after = F.misses shelf.new;
-        })
+        (counts_of F.Shelf shelf.old shelf.new)
         (λ asked. asked ≡ name.now) (trees_read result) }
     ensures built { IfOk result (λ script. form.is_built (trees_of script) ≡ true) }
     ensures part { result ≢ Err (Outcome.NotBuilt Part.Words) }
@@ -90,12 +86,7 @@ fn script_of_text(alloc: Global, bytes: &[u8]) -> Result<Script, Outcome>
 pub fn read_files<F: Shelf>(alloc: Global, shelf: &mut F, keys: &Keys) -> Result<Files, Outcome>
     requires { AllPairs (λ j k. same_key j k ≡ false) keys.now }
     ensures read { spec.ReadsStep (files_verdict (F.content shelf.old) keys.now)
-        (record {
-          faults_before = F.faults shelf.old;
-          faults_after = F.faults shelf.new;
-          misses_before = F.misses shelf.old;
-          misses_after = F.misses shelf.new;
-        })
+        (counts_of F.Shelf shelf.old shelf.new)
         (IsFileOf keys.now) result }
     ensures part { result ≢ Err (Outcome.NotBuilt Part.Words) }
     ensures content { F.content shelf.new ≡ F.content shelf.old }
@@ -126,12 +117,7 @@ fn add_file(alloc: Global, files: &mut Files, key: &Key, relation: Relation) -> 
 /// The relation of this key.
 pub fn read_scanned<F: Shelf>(alloc: Global, shelf: &mut F, key: &Key) -> Result<Relation, Outcome>
     ensures read { spec.ReadsStep (relation_verdict key.now (F.content shelf.old (shelf_name_of key.now)))
-        (record {
-          faults_before = F.faults shelf.old;
-          faults_after = F.faults shelf.new;
-          misses_before = F.misses shelf.old;
-          misses_after = F.misses shelf.new;
-        })
+        (counts_of F.Shelf shelf.old shelf.new)
         (λ asked. asked ≡ shelf_name_of key.now) result }
     ensures part { result ≢ Err (Outcome.NotBuilt Part.Words) }
     ensures content { F.content shelf.new ≡ F.content shelf.old }
@@ -191,8 +177,7 @@ fn fetched<F: Shelf>(
     ensures absent { result ≡ Err ShelfFault.Absent → Rose (F.misses shelf.old) (F.misses shelf.new) }
     ensures missing { result ≡ Err ShelfFault.Absent → MayBeMissing (F.content shelf.old name.now) }
     ensures content { F.content shelf.new ≡ F.content shelf.old }
-    ensures faults { F.faults shelf.old ≤ F.faults shelf.new }
-    ensures misses { F.misses shelf.old ≤ F.misses shelf.new }
+    ensures kept { HaveNotFallen (counts_of F.Shelf shelf.old shelf.new) }
 {
     let mut bytes = Vec::new(alloc);
     shelf.fetch(name.as_str(), most, &mut bytes)?;

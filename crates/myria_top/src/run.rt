@@ -3,6 +3,8 @@ ghost use Rattle.std.specs.Prelude.{◌≡◌, ◌≢◌, ◌↔◌, true, map, 
 ghost use Rattle.std.specs.List.{list_all, list_any};
 ghost use Rattle.myrial_ast.specs.Trees.{statement_tree_of, trees_of};
 ghost use Rattle.myrial_meaning.specs.Scans.{scanned_keys};
+ghost use Rattle.rel_io.specs.Shelves.{counts_of};
+ghost use Rattle.rel_io.specs.Sinks.{written_of};
 ghost use Rattle.rel_io.specs.Taps.{no_rows};
 ghost use Rattle.myria_top.specs.Headline.{Headline, Explains, IsAskedOf};
 ghost use Rattle.myria_top.specs.Reading as read;
@@ -46,29 +48,10 @@ pub fn run_words<R: Threads + Wait + Sync, F: Shelf, O: Sink, E: Sink, T: Tap + 
     ensures headline { Headline (record {
       words = words.now;
       content = F.content shelf.old;
-      shelf = record {
-        faults_before = F.faults shelf.old;
-        faults_after = F.faults shelf.new;
-        misses_before = F.misses shelf.old;
-        misses_after = F.misses shelf.new;
-      };
-      out = record {
-        before = O.taken out.old;
-        after = O.taken out.new;
-        faults_before = O.faults out.old;
-        faults_after = O.faults out.new;
-        wants_before = O.wants out.old;
-        wants_after = O.wants out.new;
-      };
+      shelf = counts_of F.Shelf shelf.old shelf.new;
+      out = written_of O.Sink out.old out.new;
     })
-        (record {
-          before = E.taken err.old;
-          after = E.taken err.new;
-          faults_before = E.faults err.old;
-          faults_after = E.faults err.new;
-          wants_before = E.wants err.old;
-          wants_after = E.wants err.new;
-        }) result }
+        (written_of E.Sink err.old err.new) result }
     ensures unasked { read.script_name words.now ≡ None → shelf.new ≡ shelf.old }
     ensures taps { taps.new.items ≡ taps.old.items }
 {
@@ -82,20 +65,8 @@ fn answer<F: Shelf, O: Sink>(alloc: Global, words: &[Text], shelf: &mut F, out: 
     ensures explained { Explains (record {
       words = words.now;
       content = F.content shelf.old;
-      shelf = record {
-        faults_before = F.faults shelf.old;
-        faults_after = F.faults shelf.new;
-        misses_before = F.misses shelf.old;
-        misses_after = F.misses shelf.new;
-      };
-      out = record {
-        before = O.taken out.old;
-        after = O.taken out.new;
-        faults_before = O.faults out.old;
-        faults_after = O.faults out.new;
-        wants_before = O.wants out.old;
-        wants_after = O.wants out.new;
-      };
+      shelf = counts_of F.Shelf shelf.old shelf.new;
+      out = written_of O.Sink out.old out.new;
     }) result }
     ensures words_exactly { (result ≡ Outcome.NotBuilt Part.Words) ↔ (read.script_name words.now ≡ None) }
     ensures unasked { read.script_name words.now ≡ None → shelf.new ≡ shelf.old }
@@ -114,12 +85,7 @@ fn answer<F: Shelf, O: Sink>(alloc: Global, words: &[Text], shelf: &mut F, out: 
 /// The text of a run, with nothing printed yet.
 fn prepared<F: Shelf>(alloc: Global, words: &[Text], shelf: &mut F) -> Result<Pieces, Outcome>
     ensures read { read.ReadsBy (ComesTo words.now (F.content shelf.old))
-        (record {
-          faults_before = F.faults shelf.old;
-          faults_after = F.faults shelf.new;
-          misses_before = F.misses shelf.old;
-          misses_after = F.misses shelf.new;
-        })
+        (counts_of F.Shelf shelf.old shelf.new)
         (IsAskedOf words.now (F.content shelf.old)) result }
     ensures words_exactly { (result ≡ Err (Outcome.NotBuilt Part.Words)) ↔ (read.script_name words.now ≡ None) }
     ensures unasked { read.script_name words.now ≡ None → shelf.new ≡ shelf.old }
@@ -142,12 +108,7 @@ fn prepared_script<F: Shelf>(
 ) -> Result<Pieces, Outcome>
     requires { is_built (trees_of script.now) ≡ true }
     ensures read { read.ReadsStep (printed_verdict (F.content shelf.old) (trees_of script.now))
-        (record {
-          faults_before = F.faults shelf.old;
-          faults_after = F.faults shelf.new;
-          misses_before = F.misses shelf.old;
-          misses_after = F.misses shelf.new;
-        })
+        (counts_of F.Shelf shelf.old shelf.new)
         (IsFileOf (scanned_keys (trees_of script.now))) result }
     ensures part { result ≢ Err (Outcome.NotBuilt Part.Words) }
 {

@@ -26,10 +26,10 @@ returns-in-Err-clause-read g c =
           HasCause-part _ _ _ (IsFileOf c.args.keys.now) c.in-Err.refusal
           (record {
             faults_from = kept.faults;
-            faults_on = read.faults_kept;
+            faults_on = read.kept.faults;
             faults_to = omega arith;
             misses_from = kept.misses;
-            misses_on = read.misses_kept;
+            misses_on = read.kept.misses;
             misses_to = omega arith;
           })
           (λ name asked. record {
@@ -39,8 +39,7 @@ returns-in-Err-clause-read g c =
                 (i, c.loop-key-test.true, sym c.key-item.is);
             is_named = asked;
           }) read.cause;
-      faults_kept = omega (arith, kept.faults, read.faults_kept);
-      misses_kept = omega (arith, kept.misses, read.misses_kept);
+      kept = record { faults = omega (arith, kept.faults, read.kept.faults); misses = omega (arith, kept.misses, read.kept.misses) };
     }
 
 pub add_file-requires-clause-new_key : goal.add_file-requires-clause-new_key

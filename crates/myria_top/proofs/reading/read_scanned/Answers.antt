@@ -1,9 +1,10 @@
 use Rattle.std.proofs.Common.{◌≡◌, ◌≢◌, ◌∙◌, refl, sym, ap, arith}
 use Rattle.relation_csv.specs.declared.faults.RelFault.TheVariants as why
 use Rattle.relation_csv.specs.Files.{relation_of_bytes}
+use Rattle.rel_io.specs.Shelves.{CallCounts, counts_of}
 use Rattle.myria_top.specs.declared.outcomes.Outcome.TheVariants as outcome
 use Rattle.rel_base.specs.Keys.{shelf_name_of}
-use Rattle.myria_top.specs.Reading.{AgreesRefused, Counts, HasCause}
+use Rattle.myria_top.specs.Reading.{AgreesRefused, HasCause}
 use Rattle.myria_top.specs.Runs.{relation_answer, relation_of, relation_verdict}
 use Rattle.myria_top.proofs.ReadingLemmas.{in_place, in_place_if, too_long, read_goes, read_refuses}
 use Rattle.myria_top.proofs.reading.read_scanned.Goals as goal
@@ -16,8 +17,7 @@ returns-in-Ok-read_relation-clause-read g c = record {
       (ap (relation_answer c.args.key.now)
       (sym (ap relation_of_bytes c.deref.ensures.value) ∙ c.in-Ok-read_relation.ensures (λ e. cc)));
   cause = tt;
-  faults_kept = c.fetched.ensures.faults;
-  misses_kept = c.fetched.ensures.misses;
+  kept = c.fetched.ensures.kept;
 }
 
 pub returns-then-len-gt-MOST_RELATION_BYTES-clause-read : goal.returns-then-len-gt-MOST_RELATION_BYTES-clause-read
@@ -25,12 +25,7 @@ returns-then-len-gt-MOST_RELATION_BYTES-clause-read g c =
     let key = c.args.key.now in
     let name = shelf_name_of key in
     let content = g.F.Shelf.content c.args.shelf.now name in
-    let counts : Counts = record {
-      faults_before = g.F.Shelf.faults c.args.shelf.now;
-      faults_after = g.F.Shelf.faults c.fetched.new.shelf;
-      misses_before = g.F.Shelf.misses c.args.shelf.now;
-      misses_after = g.F.Shelf.misses c.fetched.new.shelf;
-    } in
+    let counts : CallCounts = counts_of g.F.Shelf c.args.shelf.now c.fetched.new.shelf in
     record {
       agrees =
           in_place (AgreesRefused (relation_verdict key content)) c.too_long.result (outcome.RelTooLong key) c.too_long.ensures
@@ -39,8 +34,7 @@ returns-then-len-gt-MOST_RELATION_BYTES-clause-read g c =
       cause =
           in_place (HasCause counts (λ asked. asked ≡ name)) c.too_long.result (outcome.RelTooLong key) c.too_long.ensures
           refl tt;
-      faults_kept = c.fetched.ensures.faults;
-      misses_kept = c.fetched.ensures.misses;
+      kept = c.fetched.ensures.kept;
     }
 
 pub returns-clause-read : goal.returns-clause-read
@@ -49,12 +43,7 @@ returns-clause-read g c =
     let name = shelf_name_of key in
     let fault = c.in-Err-read_relation.fault in
     let content = g.F.Shelf.content c.args.shelf.now name in
-    let counts : Counts = record {
-      faults_before = g.F.Shelf.faults c.args.shelf.now;
-      faults_after = g.F.Shelf.faults c.fetched.new.shelf;
-      misses_before = g.F.Shelf.misses c.args.shelf.now;
-      misses_after = g.F.Shelf.misses c.fetched.new.shelf;
-    } in
+    let counts : CallCounts = counts_of g.F.Shelf c.args.shelf.now c.fetched.new.shelf in
     record {
       agrees =
           in_place_if (AgreesRefused (relation_verdict key content)) c.bad_relation.result (outcome.BadRelation key fault)
@@ -66,6 +55,5 @@ returns-clause-read g c =
       cause =
           in_place_if (HasCause counts (λ asked. asked ≡ name)) c.bad_relation.result (outcome.BadRelation key fault)
           (fault ≢ why.Memory) c.bad_relation.ensures (λ other. refl) tt;
-      faults_kept = c.fetched.ensures.faults;
-      misses_kept = c.fetched.ensures.misses;
+      kept = c.fetched.ensures.kept;
     }

@@ -1,5 +1,6 @@
 use Rattle.std.proofs.Common.{◌≡◌, subst, arith, List, ℕ}
-use Rattle.myria_top.specs.Reading.{AgreesBy, Counts}
+use Rattle.rel_io.specs.Shelves.{CallCounts, counts_of}
+use Rattle.myria_top.specs.Reading.{AgreesBy}
 use Rattle.myria_top.specs.Scripts.{TextComesTo, trees_read}
 use Rattle.myria_top.proofs.ScriptLemmas.{absent, long, text_read, text_cause}
 use Rattle.myria_top.proofs.reading.read_script.Goals as goal
@@ -8,31 +9,23 @@ pub returns-in-Err-Absent-clause-read : goal.returns-in-Err-Absent-clause-read
 returns-in-Err-Absent-clause-read g c = record {
   agrees = absent _ (c.fetched.ensures.missing (cc));
   cause = c.fetched.ensures.absent (cc);
-  faults_kept = c.fetched.ensures.faults;
-  misses_kept = c.fetched.ensures.misses;
+  kept = c.fetched.ensures.kept;
 }
 
 pub returns-then-len-gt-MOST_SCRIPT_BYTES-clause-read : goal.returns-then-len-gt-MOST_SCRIPT_BYTES-clause-read
 returns-then-len-gt-MOST_SCRIPT_BYTES-clause-read g c = record {
   agrees = long _ _ c.in-Ok.ensures.ok (omega arith);
   cause = tt;
-  faults_kept = c.fetched.ensures.faults;
-  misses_kept = c.fetched.ensures.misses;
+  kept = c.fetched.ensures.kept;
 }
 
 pub returns-clause-read : goal.returns-clause-read
 returns-clause-read g c =
-    let counts : Counts = record {
-      faults_before = g.F.Shelf.faults c.args.shelf.now;
-      faults_after = g.F.Shelf.faults c.fetched.new.shelf;
-      misses_before = g.F.Shelf.misses c.args.shelf.now;
-      misses_after = g.F.Shelf.misses c.fetched.new.shelf;
-    } in
+    let counts : CallCounts = counts_of g.F.Shelf c.args.shelf.now c.fetched.new.shelf in
     record {
       agrees =
           text_read _ c.in-Ok.bytes.items (trees_read c.script_of_text.result) c.in-Ok.ensures.ok (omega arith)
           (subst (λ (bytes : List ℕ). AgreesBy (TextComesTo bytes) (trees_read c.script_of_text.result)) c.deref.ensures.value c.script_of_text.ensures.agrees);
       cause = text_cause counts (λ asked. asked ≡ c.args.name.now) c.script_of_text.result c.script_of_text.ensures.kind;
-      faults_kept = c.fetched.ensures.faults;
-      misses_kept = c.fetched.ensures.misses;
+      kept = c.fetched.ensures.kept;
     }

@@ -18,8 +18,7 @@ returns-in_default-clause-read g c = record {
     is = refl;
   };
   cause = tt;
-  faults_kept = omega arith;
-  misses_kept = omega arith;
+  kept = record { faults = omega arith; misses = omega arith };
 }
 
 pub returns-in-Err-clause-read : goal.returns-in-Err-clause-read
@@ -32,10 +31,9 @@ returns-in-Err-clause-read g c =
     record {
       agrees = script_refuses words content name named c.in-Err.refusal read.agrees;
       cause =
-          HasCause-part _ _ _ (IsAskedOf words content) c.in-Err.refusal (within_itself _ read.faults_kept read.misses_kept)
+          HasCause-part _ _ _ (IsAskedOf words content) c.in-Err.refusal (within_itself _ read.kept.faults read.kept.misses)
           (λ file asked. subst (IsAskedOf words content) (sym asked) (the_script name named)) read.cause;
-      faults_kept = read.faults_kept;
-      misses_kept = read.misses_kept;
+      kept = record { faults = read.kept.faults; misses = read.kept.misses };
     }
 
 pub returns-clause-read : goal.returns-clause-read
@@ -50,11 +48,11 @@ returns-clause-read g c =
     let same : g.F.Shelf.content c.read_script.new.shelf ≡ content = c.in-Ok.ensures.content in
     reads_on words content name named script (g.F.Shelf.content c.read_script.new.shelf) _ _ c.prepared_script.result read.agrees same
     (record {
-      faults_from = read.faults_kept;
-      faults_on = run.faults_kept;
+      faults_from = read.kept.faults;
+      faults_on = run.kept.faults;
       faults_to = omega arith;
-      misses_from = read.misses_kept;
-      misses_on = run.misses_kept;
+      misses_from = read.kept.misses;
+      misses_on = run.kept.misses;
       misses_to = omega arith;
     })
     run
