@@ -1,5 +1,5 @@
 -- The shape of the scripts that are built, empty statements aside.
-use Rattle.std.proofs.Common.{◌≡◌, Bool, true, false, not, ◌&&◌, List, [], ◌∷◌, ◌++◌, filter, Option, Some, None, refl, sym, ◌∙◌, ap}
+use Rattle.std.proofs.Common.{◌≡◌, Bool, true, false, ◌&&◌, List, [], ◌∷◌, filter, Option, Some, None, refl, sym, ◌∙◌, ap}
 use Rattle.std.specs.Prelude.{if◌then◌else◌, is_some}
 use Rattle.std.specs.List.{list_all}
 use Rattle.std.specs.Cmp.{first_so, second_so}
@@ -10,12 +10,11 @@ use Rattle.myrial_ast.specs.declared.operators.BinOp.TheVariants as op
 use Rattle.myrial_ast.specs.declared.relations.FromItem.{FromItem}
 use Rattle.myrial_ast.specs.Trees as tree
 use Rattle.myrial_meaning.specs.Runnable.{runs, runs_statement, emits_a_column, is_join_condition, joins_by_equalities, runs_relation}
-use Rattle.myrial_meaning.specs.Scans.{has_key, keys_of, scans_from}
 use Rattle.myrial_scopes.specs.Scopes.{same_name}
 use Rattle.myria_top.specs.Forms.{assigned_in, emits_both, emits_column_of, equates, is_column_of, joins_two, is_built, is_built_relation, is_something, stored_at_once}
 
 -- a relation expression that is built is assigned to a name, and that name is stored
-pub record BuiltAs (script : List StatementTree) (r : RelTree) : Type 0 where
+record BuiltAs (script : List StatementTree) (r : RelTree) : Type 0 where
   pub name : Name
   pub stored : Name
   pub key : Key
@@ -28,7 +27,7 @@ chosen true true r s e = (refl, refl, cc)
 chosen true false r s e = cc
 chosen false b r s e = cc
 
-pub built_as : (script : List StatementTree) (r : RelTree) → stored_at_once script ≡ Some r → BuiltAs script r
+built_as : (script : List StatementTree) (r : RelTree) → stored_at_once script ≡ Some r → BuiltAs script r
 built_as (tree.Assign name s ∷ tree.Store stored key ∷ []) r e =
     let found = chosen (same_name name stored) (is_built_relation s) s r e in
     record {
@@ -43,14 +42,7 @@ built_as _ r e = cc
 
 -- ---- empty statements change nothing
 
-pub scans_from-something : (stored : List Key) (script : List StatementTree) → scans_from stored (filter is_something script) ≡ scans_from stored script
-scans_from-something stored [] = refl
-scans_from-something stored (tree.Nothing ∷ script) = scans_from-something stored script
-scans_from-something stored (tree.Store name key ∷ script) = scans_from-something (stored ++ key ∷ []) script
-scans_from-something stored (tree.Assign name r ∷ script) =
-    ap (λ keys. filter (λ key. not (has_key stored key)) (keys_of (tree.Assign name r)) ++ keys) (scans_from-something stored script)
-
-pub runs-something : (script : List StatementTree) → runs (filter is_something script) ≡ runs script
+runs-something : (script : List StatementTree) → runs (filter is_something script) ≡ runs script
 runs-something [] = refl
 runs-something (tree.Nothing ∷ script) = runs-something script
 runs-something (tree.Store name key ∷ script) = runs-something script
@@ -89,7 +81,7 @@ join_runs (left ∷ right ∷ []) condition emits h =
     λ i. joins i && columns i
 join_runs _ condition emits h = cc
 
-pub relation_runs : (r : RelTree) → is_built_relation r ≡ true → runs_relation r ≡ true
+relation_runs : (r : RelTree) → is_built_relation r ≡ true → runs_relation r ≡ true
 relation_runs (tree.Copy o) h = refl
 relation_runs (tree.From items condition emits) h = join_runs items condition emits h
 relation_runs _ h = cc

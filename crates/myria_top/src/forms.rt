@@ -8,7 +8,7 @@ use rel_base::Text;
 
 /// The relation expression of a script that assigns it to a name and stores that name; `None` where the script is of
 /// neither form.
-pub fn assigned_in(script: &Script) -> Option<&RelExpr>
+fn assigned_in(script: &Script) -> Option<&RelExpr>
     ensures { option_map (λ r. rel_tree_of r.now) result ≡ spec.assigned_in (trees_of script.now) }
 {
     let (first, rest) = next_statement(script.as_slice())?;

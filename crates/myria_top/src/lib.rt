@@ -17,7 +17,6 @@ mod outcomes;
 mod pieces;
 mod reading;
 mod run;
-mod scanning;
 #[cfg(test)]
 mod tests;
 

@@ -18,10 +18,9 @@ ghost use Rattle.myria_top.specs.Runs.{ComesTo, IsFileOf, printed_verdict, run_v
 use crate::messages::tell;
 use crate::pieces::Pieces;
 use crate::reading::{read_files, read_script, script_name};
-use crate::scanning::keys_of;
 use crate::{Outcome, Part};
 use myrial_ast::{RelExpr, Script, Stmt};
-use myrial_meaning::{evaluate, has_meaning};
+use myrial_meaning::{evaluate, has_meaning, scanned_keys};
 use rel_base::{ColType, Column, Files, Key, Relation, TAPS, Text};
 use rel_io::{Shelf, Sink, SinkFault, Tap};
 use std::alloc::Global;
@@ -32,8 +31,8 @@ use std::thread::Threads;
 ///
 /// The first word is the program's name. Everything is computed before the first byte passes out. Every answer but
 /// `Done` is told by a line on `err`; a fault of `err` changes nothing else and stops that line. Words that name no script
-/// leave the shelf as it was. The 128 taps, two for
-/// each of the most workers, stay as they are, since no row passes from worker to worker yet.
+/// leave the shelf as it was. The 128 taps, two for each of the most workers, stay as they are, since no row passes from
+/// worker to worker yet.
 pub fn run_words<R: Threads + Wait + Sync, F: Shelf, O: Sink, E: Sink, T: Tap + Send>(
     _rt: &R,
     alloc: Global,
@@ -112,7 +111,7 @@ fn prepared_script<F: Shelf>(
         (IsFileOf (scanned_keys (trees_of script.now))) result }
     ensures part { result ≢ Err (Outcome.NotBuilt Part.Words) }
 {
-    let keys = match keys_of(alloc, script) {
+    let keys = match scanned_keys(alloc, script) {
         Ok(keys) => keys,
         Err(_) => return Err(Outcome::Memory),
     };

@@ -39,7 +39,3 @@ each_once (key ∷ keys) = key ∷ filter (λ other. not (same_key key other)) (
 -- the keys whose files a script needs, in the order of their first scans
 abbrev pub scanned_keys : List StatementTree → List Key
 scanned_keys script = each_once (scans_from [] script)
-
--- the keys, and those of others that aren't among them, each where it stands first
-abbrev pub with_first : List Key → List Key → List Key
-with_first keys others = keys ++ filter (λ key. not (has_key keys key)) (each_once others)
