@@ -3,3 +3,4 @@ pub mod Strides
 pub mod Selections
 pub mod Starts
 pub mod Fronts
+pub mod Beginnings

@@ -2,6 +2,7 @@
 ghost use Rattle.std.specs.Prelude.{◌≡◌, ℕ, ◌+◌, ◌-◌, ◌*◌, ◌^◌, ◌<◌, ◌≤◌, ◌==◌, ◌↔◌, [], ◌∷◌, ◌++◌, length, take, map, IsSome, IfOk, IfSome, OnOk, OnErr, All, slice_index_or};
 ghost use Rattle.std.specs.Option.{option_to_list};
 ghost use Rattle.rel_base.specs.Bags.{IsSortedPermutation};
+ghost use Rattle.rel_base.specs.inner.Beginnings.{BeginsWith};
 ghost use Rattle.rel_base.specs.Picks.{items_at, every_nth};
 ghost use Rattle.rel_base.specs.inner.Strides.{stepped};
 
@@ -10,7 +11,7 @@ use crate::list::copies_of;
 use crate::row_iter::RowIter;
 use crate::shared_rows::{SharedRows, run_length};
 use crate::stretches::{Stretch, steps_below};
-use crate::{Duplicate, Memory, Row};
+use crate::{Duplicate, Memory, Row, Value};
 use std::alloc::Global;
 use std::cmp::Ordering;
 use std::marker::Model;
@@ -265,25 +266,45 @@ fn sorted_view(alloc: Global, rows: &Rows) -> Result<Rows, Memory>
     Ok(made)
 }
 
-/// Each row, with its number.
-fn numbered_rows(alloc: Global, rows: &Rows) -> Result<Vec<(&Row, u32)>, Memory>
-    ensures rows { IfOk result (λ made. map (λ e. e.0.now) made.items ≡ rows.now) }
+/// A row behind what it begins with, and its number. Most of them compare without a look at the row.
+type NumberedRow<'a> = (u8, i64, &'a Row, u32);
+
+/// Each row, with what it begins with and its number.
+fn numbered_rows(alloc: Global, rows: &Rows) -> Result<Vec<NumberedRow<'_>>, Memory>
+    ensures rows { IfOk result (λ made. map (λ e. e.2.now) made.items ≡ rows.now) }
     ensures few { IfOk result (λ made. length made.items < 2 ^ 32) }
-    ensures numbered { IfOk result (λ made. All (λ e. items_at rows.now (e.1 ∷ []) ≡ e.0.now ∷ []) made.items) }
+    ensures numbered { IfOk result (λ made. All (λ e. items_at rows.now (e.3 ∷ []) ≡ e.2.now ∷ []) made.items) }
+    ensures leading { IfOk result (λ made. All (λ e. BeginsWith e.2.now e.0 e.1) made.items) }
 {
     let mut numbered = Vec::with_capacity(alloc, rows.len() as usize)?;
     for row in rows {
-        numbered.push((row, numbered.len() as u32))?;
+        let item = numbered_row(row, numbered.len() as u32);
+        numbered.push(item)?;
     }
     Ok(numbered)
 }
 
+/// A row with its number, behind the rank of its first value's type, 0 where it has none, and that value's number, 0
+/// where it is none.
+fn numbered_row(row: &Row, number: u32) -> NumberedRow<'_>
+    ensures leading { BeginsWith row.now result.0 result.1 }
+    ensures row { result.2.now ≡ row.now }
+    ensures number { result.3 ≡ number }
+{
+    match row.as_slice().first() {
+        None => (0, 0, row, number),
+        Some(Value::Int(first)) => (1, *first, row, number),
+        Some(Value::Str(_)) => (2, 0, row, number),
+        Some(Value::Bool(_)) => (3, 0, row, number),
+    }
+}
+
 /// The numbers of rows, without the rows.
-fn numbers_of(alloc: Global, numbered: &[(&Row, u32)]) -> Result<Vec<u32>, Memory>
-    ensures { IfOk result (λ made. made.items ≡ map (λ e. e.1) numbered.now) }
+fn numbers_of(alloc: Global, numbered: &[NumberedRow<'_>]) -> Result<Vec<u32>, Memory>
+    ensures { IfOk result (λ made. made.items ≡ map (λ e. e.3) numbered.now) }
 {
     let mut numbers = Vec::with_capacity(alloc, numbered.len())?;
-    for (_, number) in numbered {
+    for (_, _, _, number) in numbered {
         numbers.push(*number)?;
     }
     Ok(numbers)
