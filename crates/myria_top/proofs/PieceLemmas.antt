@@ -1,45 +1,15 @@
 -- What a sink has taken of a text, piece after piece.
-use Rattle.std.proofs.Common.{◌≡◌, ℕ, ◌+◌, ◌-◌, ◌<◌, ◌≤◌, List, [], ◌∷◌, ◌++◌, get_or, length, take, drop, Option, Result, Ok, Err, OnOk, OnErr, sym, ◌∙◌, ap, subst, arith, add-one, append_assoc}
-use Rattle.std.proofs.Math.Seq.{take-add, take-append-add, take-suc}
+use Rattle.std.proofs.Common.{◌≡◌, ℕ, ◌+◌, ◌-◌, ◌<◌, ◌≤◌, List, [], ◌∷◌, ◌++◌, get_or, length, take, drop, Option, Result, Ok, Err, sym, ◌∙◌, ap, subst, arith, add-one, append_assoc}
+use Rattle.std.proofs.Math.Seq.{take-add, take-append-add, take-append-le, take-suc}
 use Rattle.std.specs.List.{flat_map}
-use Rattle.std.proofs.lemmas.List.{length-take, length-drop, length-append, append-nil, take-take, take_rest, take_all}
+use Rattle.std.proofs.lemmas.List.{length-append, append-nil, take_rest, take_all, take-append-drop}
 use Rattle.std.proofs.lemmas.List.Concat.{flat_map-append}
-use Rattle.std.proofs.KnownBytes.{Appends-trans}
+use Rattle.std.proofs.KnownBytes.{Appends-nil, Appends-trans}
 use Rattle.std.specs.Io.KnownBytes.{Appends}
 use Rattle.rel_io.specs.Outside.{TakesPart}
-
--- a fact that holds on each answer holds on a refusal
-pub on_refusal : {T E : Type 0} (r : Result T E) {P : Type 0} → P → OnErr r P
-on_refusal (Ok x) p = tt
-on_refusal (Err e) p = p
-
--- what holds on a refusal gives what follows from it
-pub refusal_gives : {T E : Type 0} (r : Result T E) {P Q : Type 0} → (P → Q) → OnErr r P → OnErr r Q
-refusal_gives (Ok x) f p = tt
-refusal_gives (Err e) f p = f p
-
-module _ (a b c : Option (List ℕ)) (text : List ℕ) where
-  -- a piece more
-  pub further : (done end : ℕ) → done ≤ end → Appends a b (take done text) → Appends b c (take (end - done) (drop done text)) → Appends a c (take end text)
-  further done end h p q =
-      let whole : done + (end - done) ≡ end = omega arith in
-      let next : take done text ++ take (end - done) (drop done text) ≡ take end text = sym (take-add done (end - done) text) ∙ ap (λ (k : ℕ). take k text) whole in
-      subst (Appends a c) next (Appends-trans a b c _ _ p q)
-
-  -- a part of a piece is a part of the text
-  pub part_of_text : (done n : ℕ) → Appends a b (take done text) → TakesPart b c (take n (drop done text)) → TakesPart a c text
-  part_of_text done n p part =
-      let size = length-take n (drop done text) in
-      let left = length-drop done text in
-      let short : part.count < length (take n (drop done text)) = part.short in
-      let within : part.count ≤ n = omega arith in
-      let same : take part.count (take n (drop done text)) ≡ take part.count (drop done text) = take-take part.count n (drop done text) within in
-      let next : take done text ++ take part.count (drop done text) ≡ take (done + part.count) text = sym (take-add done part.count text) in
-      record {
-        count = done + part.count;
-        short = omega arith;
-        appended = subst (Appends a c) next (Appends-trans a b c _ _ p (subst (Appends b c) same part.appended));
-      }
+use Rattle.rel_io.specs.Sinks.{Offers, SinkState, Written}
+use Rattle.rel_io.specs.declared.sinks.SinkFault.{SinkFault}
+use Rattle.rel_io.proofs.OutsideLemmas.{Rose-part}
 
 -- a part of what stands behind a whole piece
 pub part_behind : (a b c : Option (List ℕ)) (first rest whole : List ℕ) → whole ≡ first ++ rest → Appends a b first → TakesPart b c rest → TakesPart a c whole
@@ -54,19 +24,82 @@ part_behind a b c first rest whole is p part =
       appended = subst (Appends a c) next (Appends-trans a b c _ _ p part.appended);
     }
 
+-- ---- offers
+
+abbrev between : SinkState → SinkState → Written
+between a b = record { before = a; after = b }
+
+-- nothing was offered
+pub offers_nothing : (a : SinkState) → Offers (between a a) [] (Ok tt)
+offers_nothing a = record {
+  ok = Appends-nil a.taken;
+  err = tt;
+  failed = λ e. cc;
+  memory = λ e. cc;
+  faults_kept = omega arith;
+  wants_kept = omega arith;
+}
+
+-- the same text, said otherwise
+pub offers_line : (written : Written) (text line : List ℕ) (r : Result (Unit {0}) SinkFault) → text ≡ line → Offers written text r → Offers written line r
+offers_line written text line r is = subst (λ xs. Offers written xs r) is
+
+-- a text was taken, and then what stands behind it was offered
+pub offers_further : (a b c : SinkState) (first rest whole : List ℕ) (x : Unit {0}) (r : Result (Unit {0}) SinkFault) → whole ≡ first ++ rest
+    → Offers (between a b) first (Ok x) → Offers (between b c) rest r → Offers (between a c) whole r
+offers_further a b c first rest whole x (Ok y) is p q = record {
+  ok = subst (Appends a.taken c.taken) (sym is) (Appends-trans a.taken b.taken c.taken first rest p.ok q.ok);
+  err = tt;
+  failed = λ e. cc;
+  memory = λ e. cc;
+  faults_kept = omega (arith, p.faults_kept, q.faults_kept);
+  wants_kept = omega (arith, p.wants_kept, q.wants_kept);
+}
+offers_further a b c first rest whole x (Err fault) is p q = record {
+  ok = tt;
+  err = part_behind a.taken b.taken c.taken first rest whole is p.ok q.err;
+  failed = λ e. Rose-part a.faults b.faults c.faults c.faults p.faults_kept q.faults_kept (omega arith) (q.failed e);
+  memory = λ e. Rose-part a.wants b.wants c.wants c.wants p.wants_kept q.wants_kept (omega arith) (q.memory e);
+  faults_kept = omega (arith, p.faults_kept, q.faults_kept);
+  wants_kept = omega (arith, p.wants_kept, q.wants_kept);
+}
+
+-- a beginning of a text was refused
+pub offers_refused : (written : Written) (first rest whole : List ℕ) (fault : SinkFault) → whole ≡ first ++ rest → Offers written first (Err fault) → Offers written whole (Err fault)
+offers_refused written first rest whole fault is p =
+    let part = p.err in
+    let short = part.short in
+    let size : length whole ≡ length first + length rest = ap length is ∙ length-append first rest in
+    let same : take part.count first ≡ take part.count whole = sym (take-append-le part.count first rest (omega arith)) ∙ ap (take part.count) (sym is) in
+    record {
+      ok = tt;
+      err = record {
+        count = part.count;
+        short = omega (arith, short, size);
+        appended = subst (Appends written.before.taken written.after.taken) same part.appended;
+      };
+      failed = p.failed;
+      memory = p.memory;
+      faults_kept = p.faults_kept;
+      wants_kept = p.wants_kept;
+    }
+
+-- what was taken of a text, and the next piece of it
+pub next_piece : (text : List ℕ) (done end : ℕ) → done ≤ end → take end text ≡ take done text ++ take (end - done) (drop done text)
+next_piece text done end h =
+    let whole : done + (end - done) ≡ end = omega arith in
+    ap (λ (k : ℕ). take k text) (sym whole) ∙ take-add done (end - done) text
+
+-- what was taken of a text, and all that is left of it
+pub last_piece : (text : List ℕ) (done : ℕ) → text ≡ take done text ++ take (length text - done) (drop done text)
+last_piece text done = sym (take-append-drop done text) ∙ ap (λ rest. take done text ++ rest) (sym (take_rest text done))
+
 -- the first of some pieces, and the others
 pub flat_map-first : {X : Type 0} (f : X → List ℕ) (xs : List X) (d : X) (first : List ℕ) → 1 ≤ length xs → first ≡ f (get_or xs 0 d) → flat_map f xs ≡ first ++ flat_map f (take (length xs - 1) (drop 1 xs))
 flat_map-first f [] d first h e = absurd (omega arith)
 flat_map-first f (x ∷ xs) d first h e =
     let others : take (length (x ∷ xs) - 1) (drop 1 (x ∷ xs)) ≡ xs = take_rest (x ∷ xs) 1 in
     λ i. sym e i ++ flat_map f (sym others i)
-
--- the same bytes, said otherwise
-pub appends_line : {T E : Type 0} (r : Result T E) (a b : Option (List ℕ)) (bytes line : List ℕ) → bytes ≡ line → OnOk r (Appends a b bytes) → OnOk r (Appends a b line)
-appends_line r a b bytes line is = subst (λ xs. OnOk r (Appends a b xs)) is
-
-pub takes_line : {T E : Type 0} (r : Result T E) (a b : Option (List ℕ)) (bytes line : List ℕ) → bytes ≡ line → OnErr r (TakesPart a b bytes) → OnErr r (TakesPart a b line)
-takes_line r a b bytes line is = subst (λ xs. OnErr r (TakesPart a b xs)) is
 
 -- ---- a text that grows item by item
 

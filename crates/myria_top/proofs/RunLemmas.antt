@@ -1,6 +1,6 @@
 -- What a script comes to over its files, and what the words and the files come to.
 use Rattle.std.proofs.Common.{◌≡◌, ℕ, Bool, true, false, cond, ◌&&◌, List, map, Option, Some, None, Ok, Err, Result, refl, sym, ◌∙◌, ap, subst, inl, inr, arith}
-use Rattle.std.specs.Prelude.{IfErr, OnOk, OnErr}
+use Rattle.std.specs.Prelude.{IfErr}
 use Rattle.std.specs.List.{flat_map}
 use Rattle.std.specs.Option.{option_map_or}
 use Rattle.rel_base.specs.Keys.{File}
@@ -8,7 +8,7 @@ use Rattle.rel_base.specs.declared.faults.RunFault.{RunFault}
 use Rattle.rel_io.specs.declared.sinks.SinkFault.{SinkFault}
 use Rattle.rel_io.specs.declared.sinks.SinkFault.TheVariants as fault
 use Rattle.rel_io.specs.Outside.{Content}
-use Rattle.rel_io.specs.Sinks.{FaultsRose, TookAll, TookPart, WantsRose, Written}
+use Rattle.rel_io.specs.Sinks.{Offers, Written}
 use Rattle.rel_io.specs.Outside as outside
 use Rattle.myrial_ast.specs.Trees.{StatementTree}
 use Rattle.myrial_ast.specs.CandidateFaults.{Uncounted}
@@ -187,9 +187,7 @@ decided run answer e step comes = decided_from run step comes answer e
 
 -- ---- the line of the answer
 
-pub told_line : (err : Written) (line : List ℕ) (r : Result (Unit {0}) SinkFault)
-    → OnOk r (TookAll err line) → OnErr r (TookPart err line)
-    → (r ≡ Err fault.Failed → FaultsRose err) → (r ≡ Err fault.Memory → WantsRose err) → TellsLine err line
-told_line err line (Ok x) ok part failed memory = inl ok
-told_line err line (Err fault.Failed) ok part failed memory = inr (inl (failed refl), part)
-told_line err line (Err fault.Memory) ok part failed memory = inr (inr (memory refl), part)
+pub told_line : (err : Written) (line : List ℕ) (r : Result (Unit {0}) SinkFault) → Offers err line r → TellsLine err line
+told_line err line (Ok x) told = inl told.ok
+told_line err line (Err fault.Failed) told = inr (inl (told.failed refl), told.err)
+told_line err line (Err fault.Memory) told = inr (inr (told.memory refl), told.err)

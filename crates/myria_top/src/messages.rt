@@ -1,8 +1,7 @@
 //! The line on standard error.
-ghost use Rattle.std.specs.Prelude.{◌≡◌, ◌++◌, ◌≤◌, Err, OnOk, OnErr};
-ghost use Rattle.std.specs.Io.KnownBytes.{Appends};
+ghost use Rattle.std.specs.Prelude.{◌≡◌, ◌++◌};
 ghost use Rattle.std.specs.List.{flat_map};
-ghost use Rattle.rel_io.specs.Outside.{Rose, TakesPart};
+ghost use Rattle.rel_io.specs.Sinks.{Offers, written_of};
 ghost use Rattle.relation_csv.specs.Faults.{fault_text};
 ghost use Rattle.myria_top.specs.Outcomes as outcomes;
 
@@ -18,12 +17,7 @@ use relation_csv::RelFault;
 ///
 /// A fault of the sink stops the line.
 pub fn tell<E: Sink>(err: &mut E, words: &[Text], answer: &Outcome) -> Result<(), SinkFault>
-    ensures ok { OnOk result (Appends (E.taken err.old) (E.taken err.new) (outcomes.line_of words.now answer.now)) }
-    ensures err { OnErr result (TakesPart (E.taken err.old) (E.taken err.new) (outcomes.line_of words.now answer.now)) }
-
-    // Each refusal has its cause in this call.
-    ensures failed { result ≡ Err SinkFault.Failed → Rose (E.faults err.old) (E.faults err.new) }
-    ensures memory { result ≡ Err SinkFault.Memory → Rose (E.wants err.old) (E.wants err.new) }
+    ensures { Offers (written_of E.Sink err.old err.new) (outcomes.line_of words.now answer.now) result }
 {
     match answer {
         Outcome::Done => Ok(()),
@@ -62,10 +56,7 @@ pub fn tell<E: Sink>(err: &mut E, words: &[Text], answer: &Outcome) -> Result<()
 
 /// The line of a fault on a line of the script.
 fn tell_line<E: Sink>(err: &mut E, line: u32, words: &str) -> Result<(), SinkFault>
-    ensures ok { OnOk result (Appends (E.taken err.old) (E.taken err.new) (outcomes.lexical_line line words.now)) }
-    ensures err { OnErr result (TakesPart (E.taken err.old) (E.taken err.new) (outcomes.lexical_line line words.now)) }
-    ensures failed { result ≡ Err SinkFault.Failed → Rose (E.faults err.old) (E.faults err.new) }
-    ensures memory { result ≡ Err SinkFault.Memory → Rose (E.wants err.old) (E.wants err.new) }
+    ensures { Offers (written_of E.Sink err.old err.new) (outcomes.lexical_line line words.now) result }
 {
     let mut buffer = Buffer::new();
     offer_all(
@@ -81,10 +72,8 @@ fn tell_statement<E: Sink>(
     words: &str,
     others: &str,
 ) -> Result<(), SinkFault>
-    ensures ok { OnOk result (Appends (E.taken err.old) (E.taken err.new) (outcomes.statement_line statement (words.now ++ others.now))) }
-    ensures err { OnErr result (TakesPart (E.taken err.old) (E.taken err.new) (outcomes.statement_line statement (words.now ++ others.now))) }
-    ensures failed { result ≡ Err SinkFault.Failed → Rose (E.faults err.old) (E.faults err.new) }
-    ensures memory { result ≡ Err SinkFault.Memory → Rose (E.wants err.old) (E.wants err.new) }
+    ensures { Offers (written_of E.Sink err.old err.new)
+        (outcomes.statement_line statement (words.now ++ others.now)) result }
 {
     let mut buffer = Buffer::new();
     let number = buffer.format(statement);
@@ -96,10 +85,8 @@ fn tell_statement<E: Sink>(
 
 /// The line of a fault of a relation's file.
 fn tell_fault<E: Sink>(err: &mut E, key: &Key, fault: RelFault) -> Result<(), SinkFault>
-    ensures ok { OnOk result (Appends (E.taken err.old) (E.taken err.new) (outcomes.relation_line key.now (fault_text fault))) }
-    ensures err { OnErr result (TakesPart (E.taken err.old) (E.taken err.new) (outcomes.relation_line key.now (fault_text fault))) }
-    ensures failed { result ≡ Err SinkFault.Failed → Rose (E.faults err.old) (E.faults err.new) }
-    ensures memory { result ≡ Err SinkFault.Memory → Rose (E.wants err.old) (E.wants err.new) }
+    ensures { Offers (written_of E.Sink err.old err.new)
+        (outcomes.relation_line key.now (fault_text fault)) result }
 {
     let mut first = Buffer::new();
     let mut second = Buffer::new();
@@ -138,12 +125,8 @@ fn fault_words<'a>(fault: RelFault, first: &'a mut Buffer, second: &'a mut Buffe
 
 /// The line of a relation, in five pieces of words.
 fn tell_relation<E: Sink>(err: &mut E, key: &Key, words: Words<'_>) -> Result<(), SinkFault>
-    ensures ok { OnOk result (Appends (E.taken err.old) (E.taken err.new)
-        (outcomes.relation_line key.now (outcomes.joined_words words.entry))) }
-    ensures err { OnErr result (TakesPart (E.taken err.old) (E.taken err.new)
-        (outcomes.relation_line key.now (outcomes.joined_words words.entry))) }
-    ensures failed { result ≡ Err SinkFault.Failed → Rose (E.faults err.old) (E.faults err.new) }
-    ensures memory { result ≡ Err SinkFault.Memory → Rose (E.wants err.old) (E.wants err.new) }
+    ensures { Offers (written_of E.Sink err.old err.new)
+        (outcomes.relation_line key.now (outcomes.joined_words words.entry)) result }
 {
     let user = key.user.as_str();
     let program = key.program.as_str();
@@ -205,12 +188,7 @@ fn given_name(words: &[Text]) -> &str
 
 /// Offers piece after piece, each until the sink has taken it whole.
 fn offer_all<S: Sink>(sink: &mut S, pieces: &[&str]) -> Result<(), SinkFault>
-    ensures ok { OnOk result (Appends (S.taken sink.old) (S.taken sink.new) (flat_map (λ p. p.now) pieces.now)) }
-    ensures err { OnErr result (TakesPart (S.taken sink.old) (S.taken sink.new) (flat_map (λ p. p.now) pieces.now)) }
-    ensures failed { result ≡ Err SinkFault.Failed → Rose (S.faults sink.old) (S.faults sink.new) }
-    ensures memory { result ≡ Err SinkFault.Memory → Rose (S.wants sink.old) (S.wants sink.new) }
-    ensures faults { S.faults sink.old ≤ S.faults sink.new }
-    ensures wants { S.wants sink.old ≤ S.wants sink.new }
+    ensures { Offers (written_of S.Sink sink.old sink.new) (flat_map (λ p. p.now) pieces.now) result }
 {
     match pieces {
         [] => Ok(()),

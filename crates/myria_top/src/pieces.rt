@@ -1,8 +1,7 @@
 //! The text of a run, in the pieces in which it is offered to the sink.
-ghost use Rattle.std.specs.Prelude.{◌≡◌, ◌++◌, ◌≤◌, [], Err, IfOk, OnOk, OnErr};
-ghost use Rattle.std.specs.Io.KnownBytes.{Appends};
+ghost use Rattle.std.specs.Prelude.{◌≡◌, ◌++◌, IfOk, OnOk};
 ghost use Rattle.std.specs.List.{flat_map};
-ghost use Rattle.rel_io.specs.Outside.{Rose, TakesPart};
+ghost use Rattle.rel_io.specs.Sinks.{Offers, written_of};
 
 use rel_base::{Key, Memory, Relation, Rows, Schema, Stored};
 use rel_io::{Sink, SinkFault, offer};
@@ -30,8 +29,8 @@ impl Pieces {
     ghost use Rattle.relation_csv.specs.RecordTexts.{header_record, row_record};
     ghost use Rattle.myria_top.specs.OutputText.{relation_text_in_order, store_line};
 
-    /// The text of the stored relations, one after another: of each its line, its header, and its rows as they stand, each
-    /// a piece.
+    /// The text of the stored relations, one after another: of each its line, its header, and its rows as they stand,
+    /// each a piece.
     pub fn of_stored(alloc: Global, stored: &Stored) -> Result<Pieces, Memory>
         ensures { IfOk result (λ text. text ≡ flat_map (λ file. relation_text_in_order file.0 file.1) stored.now) }
     {
@@ -90,16 +89,7 @@ impl Pieces {
 
     /// Offers piece after piece, each until the sink has taken it whole.
     pub fn print<O: Sink>(&self, out: &mut O) -> Result<(), SinkFault>
-        ensures ok { OnOk result (Appends (O.taken out.old) (O.taken out.new) self.now) }
-        ensures err { OnErr result (TakesPart (O.taken out.old) (O.taken out.new) self.now) }
-
-        // Each refusal has its cause in this call.
-        ensures failed { result ≡ Err SinkFault.Failed → Rose (O.faults out.old) (O.faults out.new) }
-        ensures memory { result ≡ Err SinkFault.Memory → Rose (O.wants out.old) (O.wants out.new) }
-
-        // No count falls.
-        ensures faults { O.faults out.old ≤ O.faults out.new }
-        ensures wants { O.wants out.old ≤ O.wants out.new }
+        ensures { Offers (written_of O.Sink out.old out.new) self.now result }
     {
         let text = self.text.as_slice();
         let mut done = 0;

@@ -6,5 +6,5 @@ returns-clause-headline g c = record {
   explained = c.answer-answer.ensures.explained;
   words_exactly = c.answer-answer.ensures.words_exactly;
   decided = decided _ c.answer-answer.result c.answer-answer.ensures.explained;
-  told = told_line _ _ c.tell.result c.tell.ensures.ok c.tell.ensures.err c.tell.ensures.failed c.tell.ensures.memory;
+  told = told_line _ _ c.tell.result c.tell.ensures;
 }
