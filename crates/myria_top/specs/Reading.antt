@@ -6,12 +6,14 @@
 --   ReadsStep step names ..         a call on the shelf came to the step, and each refusal has its cause
 --   Meets Comes step                the files come to this step, by a relation
 --   ReadsBy Comes names ..          a call on the shelf came to what the files come to, and each refusal has its cause
-use Rattle.std.specs.Prelude.{◌≡◌, ℕ, ◌≤◌, List, [], ◌∷◌, length, nat_lt, if◌then◌else◌, Option, Some, None, Result, Ok, Err, IfErr, ⊤, codes, nat_eq}
+use Rattle.std.specs.Prelude.{◌≡◌, ℕ, List, [], ◌∷◌, length, nat_lt, if◌then◌else◌, Option, Some, None, Result, Ok, Err, IfErr, ⊤, codes, nat_eq}
 use Rattle.std.specs.List.{starts_with}
 use Rattle.rel_base.specs.Keys.{shelf_name_of}
-use Rattle.rel_io.specs.Outside.{Content, Rose}
+use Rattle.rel_io.specs.Outside.{Content, MayBeMissing, Rose}
 use Rattle.rel_io.specs.Shelves.{CallCounts, HaveNotFallen}
 use Rattle.rel_io.specs.Outside as outside
+use Rattle.rel_io.specs.declared.shelves.ShelfFault.{ShelfFault}
+use Rattle.rel_io.specs.declared.shelves.ShelfFault.TheVariants as refusal
 use Rattle.myria_top.specs.declared.outcomes.Outcome.{Outcome}
 use Rattle.myria_top.specs.declared.outcomes.Outcome.TheVariants as outcome
 use Rattle.myria_top.specs.Verdicts.{Verdict, untold, refused, passes, IfTold}
@@ -40,6 +42,12 @@ AgreesRefused step answer = IfTold step (λ s. s ≡ refused answer)
 abbrev pub Agrees : {X : Type 0} → Verdict X → Result X Outcome → Type 0
 Agrees step (Ok x) = IfTold step (λ s. s ≡ passes x)
 Agrees step (Err answer) = AgreesRefused step answer
+
+-- a refusal of a fetch has its cause in a count that rose, and a name that is told to be there is not absent
+abbrev pub HasFetchCause : CallCounts → Content → ShelfFault → Type 0
+HasFetchCause counts content refusal.Failed = Rose counts.before.faults counts.after.faults
+HasFetchCause counts content refusal.Absent = Rose counts.before.misses counts.after.misses × MayBeMissing content
+HasFetchCause counts content refusal.Memory = ⊤
 
 -- a refusal of the shelf has its cause in a count that rose, and what it names is one of these files
 abbrev pub HasCause : CallCounts → (List ℕ → Type 0) → Outcome → Type 0

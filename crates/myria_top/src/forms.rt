@@ -28,7 +28,8 @@ pub fn is_built(script: &Script) -> bool
 
 /// The relation expression that the first statement assigns, where the second stores it.
 fn stored_at_once<'a>(first: &'a Stmt, second: &Stmt) -> Option<&'a RelExpr>
-    ensures { option_map (λ r. rel_tree_of r.now) result ≡ spec.stored_at_once (statement_tree_of first.now ∷ statement_tree_of second.now ∷ []) }
+    ensures { option_map (λ r. rel_tree_of r.now) result
+        ≡ spec.stored_at_once (statement_tree_of first.now ∷ statement_tree_of second.now ∷ []) }
 {
     let Stmt::Assign(name, relation) = first else {
         return None;
@@ -47,7 +48,8 @@ fn stored_at_once<'a>(first: &'a Stmt, second: &Stmt) -> Option<&'a RelExpr>
 fn next_statement(script: &[Stmt]) -> Option<(&Stmt, &[Stmt])>
     ensures found { IfSome result (λ p. filter spec.is_something (map statement_tree_of script.now)
         ≡ statement_tree_of p.0.now ∷ filter spec.is_something (map statement_tree_of p.1.now)) }
-    ensures none { IfNone result (filter spec.is_something (map statement_tree_of script.now) ≡ []) }
+    ensures none { IfNone result
+        (filter spec.is_something (map statement_tree_of script.now) ≡ []) }
 {
     match script {
         [] => None,
@@ -110,7 +112,8 @@ fn emits_both(left: &Text, right: &Text, emits: &[EmitItem]) -> bool
 
 /// Whether two scans are joined by an equality of a column of each, and a column of each is emitted.
 fn joins_two(items: &[FromItem], condition: &Option<Expr>, emits: &[EmitItem]) -> bool
-    ensures { result ≡ spec.joins_two items.now (option_map tree_of condition.now) (map emit_tree_of emits.now) }
+    ensures { result ≡ spec.joins_two items.now (option_map tree_of condition.now)
+        (map emit_tree_of emits.now) }
 {
     match items {
         [left, right] => {

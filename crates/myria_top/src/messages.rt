@@ -17,7 +17,8 @@ use relation_csv::RelFault;
 ///
 /// A fault of the sink stops the line.
 pub fn tell<E: Sink>(err: &mut E, words: &[Text], answer: &Outcome) -> Result<(), SinkFault>
-    ensures { Offers (written_of E.Sink err.old err.new) (outcomes.line_of words.now answer.now) result }
+    ensures { Offers (written_of E.Sink err.old err.new)
+        (outcomes.line_of words.now answer.now) result }
 {
     match answer {
         Outcome::Done => Ok(()),
@@ -56,7 +57,8 @@ pub fn tell<E: Sink>(err: &mut E, words: &[Text], answer: &Outcome) -> Result<()
 
 /// The line of a fault on a line of the script.
 fn tell_line<E: Sink>(err: &mut E, line: u32, words: &str) -> Result<(), SinkFault>
-    ensures { Offers (written_of E.Sink err.old err.new) (outcomes.lexical_line line words.now) result }
+    ensures { Offers (written_of E.Sink err.old err.new)
+        (outcomes.lexical_line line words.now) result }
 {
     let mut buffer = Buffer::new();
     offer_all(
@@ -188,7 +190,8 @@ fn given_name(words: &[Text]) -> &str
 
 /// Offers piece after piece, each until the sink has taken it whole.
 fn offer_all<S: Sink>(sink: &mut S, pieces: &[&str]) -> Result<(), SinkFault>
-    ensures { Offers (written_of S.Sink sink.old sink.new) (flat_map (λ p. p.now) pieces.now) result }
+    ensures { Offers (written_of S.Sink sink.old sink.new)
+        (flat_map (λ p. p.now) pieces.now) result }
 {
     match pieces {
         [] => Ok(()),

@@ -32,7 +32,8 @@ impl Pieces {
     /// The text of the stored relations, one after another: of each its line, its header, and its rows as they stand,
     /// each a piece.
     pub fn of_stored(alloc: Global, stored: &Stored) -> Result<Pieces, Memory>
-        ensures { IfOk result (λ text. text ≡ flat_map (λ file. relation_text_in_order file.0 file.1) stored.now) }
+        ensures { IfOk result (λ text. text
+            ≡ flat_map (λ file. relation_text_in_order file.0 file.1) stored.now) }
     {
         let mut pieces = Pieces {
             text: Vec::new(alloc),

@@ -1,12 +1,12 @@
 //! Reads the words, the script and the relations that it scans.
-ghost use Rattle.std.specs.Prelude.{◌≡◌, ◌≢◌, ◌≤◌, ◌<◌, ◌^◌, ◌-◌, ◌++◌, ◌∷◌, [], ◌⊎◌, true, false, map, length, AllPairs, Err, IfOk, IfErr, OnOk, option_map};
-ghost use Rattle.rel_base.specs.Keys.{holds_key, same_key};
+ghost use Rattle.std.specs.Prelude.{◌≡◌, ◌≢◌, ◌≤◌, ◌<◌, ◌^◌, ◌-◌, ◌++◌, ◌∷◌, [], ◌⊎◌};
+ghost use Rattle.std.specs.Prelude.{true, false, length, AllPairs, Err, IfOk, IfErr, OnOk, option_map};
+ghost use Rattle.rel_base.specs.Keys.{holds_key, same_key, shelf_name_of};
 ghost use Rattle.myrial_ast.specs.Trees.{trees_of};
 ghost use Rattle.myria_top.specs.Forms as form;
 ghost use Rattle.myria_top.specs.Scripts.{ScriptComesTo, TextComesTo, trees_read, IsOfTexts};
 ghost use Rattle.rel_io.specs.Shelves.{HaveNotFallen, counts_of};
-ghost use Rattle.rel_io.specs.Outside.{IsGiven, MayBeMissing, Rose};
-ghost use Rattle.rel_base.specs.Keys.{shelf_name_of};
+ghost use Rattle.rel_io.specs.Outside.{IsGiven};
 ghost use Rattle.myria_top.specs.Reading as spec;
 ghost use Rattle.myria_top.specs.Runs.{files_verdict, relation_verdict, IsFileOf};
 
@@ -116,7 +116,8 @@ fn add_file(alloc: Global, files: &mut Files, key: &Key, relation: Relation) -> 
 
 /// The relation of this key.
 pub fn read_scanned<F: Shelf>(alloc: Global, shelf: &mut F, key: &Key) -> Result<Relation, Outcome>
-    ensures read { spec.ReadsStep (relation_verdict key.now (F.content shelf.old (shelf_name_of key.now)))
+    ensures read { spec.ReadsStep
+        (relation_verdict key.now (F.content shelf.old (shelf_name_of key.now)))
         (counts_of F.Shelf shelf.old shelf.new)
         (λ asked. asked ≡ shelf_name_of key.now) result }
     ensures part { result ≢ Err (Outcome.NotBuilt Part.Words) }
@@ -154,7 +155,8 @@ fn too_long(alloc: Global, key: &Key) -> Outcome
 
 /// The answer to a file that is no relation, or of memory where it was refused or the key can't be kept.
 fn bad_relation(alloc: Global, key: &Key, fault: RelFault) -> Outcome
-    ensures { ((fault ≢ RelFault.Memory) × (result ≡ Outcome.BadRelation key.now fault)) ⊎ (result ≡ Outcome.Memory) }
+    ensures { ((fault ≢ RelFault.Memory) × (result ≡ Outcome.BadRelation key.now fault))
+        ⊎ (result ≡ Outcome.Memory) }
 {
     if fault == RelFault::Memory {
         return Outcome::Memory;
@@ -173,9 +175,8 @@ fn fetched<F: Shelf>(
     most: u64,
 ) -> Result<Vec<u8>, ShelfFault>
     ensures ok { IfOk result (λ bytes. IsGiven (F.content shelf.old name.now) most bytes.items) }
-    ensures failed { result ≡ Err ShelfFault.Failed → Rose (F.faults shelf.old) (F.faults shelf.new) }
-    ensures absent { result ≡ Err ShelfFault.Absent → Rose (F.misses shelf.old) (F.misses shelf.new) }
-    ensures missing { result ≡ Err ShelfFault.Absent → MayBeMissing (F.content shelf.old name.now) }
+    ensures refused { IfErr result (spec.HasFetchCause (counts_of F.Shelf shelf.old shelf.new)
+        (F.content shelf.old name.now)) }
     ensures content { F.content shelf.new ≡ F.content shelf.old }
     ensures kept { HaveNotFallen (counts_of F.Shelf shelf.old shelf.new) }
 {

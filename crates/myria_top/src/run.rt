@@ -30,9 +30,9 @@ use std::thread::Threads;
 /// Runs the script that the words name, over the files of the shelf, and prints what it stores.
 ///
 /// The first word is the program's name. Everything is computed before the first byte passes out. Every answer but
-/// `Done` is told by a line on `err`; a fault of `err` changes nothing else and stops that line. Words that name no script
-/// leave the shelf as it was. The 128 taps, two for each of the most workers, stay as they are, since no row passes from
-/// worker to worker yet.
+/// `Done` is told by a line on `err`; a fault of `err` changes nothing else and stops that line. Words that name no
+/// script leave the shelf as it was. The 128 taps, two for each of the most workers, stay as they are, since no row
+/// passes from worker to worker yet.
 pub fn run_words<R: Threads + Wait + Sync, F: Shelf, O: Sink, E: Sink, T: Tap + Send>(
     _rt: &R,
     alloc: Global,
@@ -67,7 +67,8 @@ fn answer<F: Shelf, O: Sink>(alloc: Global, words: &[Text], shelf: &mut F, out: 
       shelf = counts_of F.Shelf shelf.old shelf.new;
       out = written_of O.Sink out.old out.new;
     }) result }
-    ensures words_exactly { (result ≡ Outcome.NotBuilt Part.Words) ↔ (read.script_name words.now ≡ None) }
+    ensures words_exactly { (result ≡ Outcome.NotBuilt Part.Words)
+        ↔ (read.script_name words.now ≡ None) }
     ensures unasked { read.script_name words.now ≡ None → shelf.new ≡ shelf.old }
 {
     let text = match prepared(alloc, words, shelf) {
@@ -86,7 +87,8 @@ fn prepared<F: Shelf>(alloc: Global, words: &[Text], shelf: &mut F) -> Result<Pi
     ensures read { read.ReadsBy (ComesTo words.now (F.content shelf.old))
         (counts_of F.Shelf shelf.old shelf.new)
         (IsAskedOf words.now (F.content shelf.old)) result }
-    ensures words_exactly { (result ≡ Err (Outcome.NotBuilt Part.Words)) ↔ (read.script_name words.now ≡ None) }
+    ensures words_exactly { (result ≡ Err (Outcome.NotBuilt Part.Words))
+        ↔ (read.script_name words.now ≡ None) }
     ensures unasked { read.script_name words.now ≡ None → shelf.new ≡ shelf.old }
 {
     let Some(name) = script_name(words) else {
@@ -125,7 +127,9 @@ fn prepared_script<F: Shelf>(
 /// The text of the script's run over its files.
 fn text_of_run(alloc: Global, script: &Script, files: &Files) -> Result<Pieces, Outcome>
     requires { is_built (trees_of script.now) ≡ true }
-    ensures agrees { read.Agrees (and_then (run_verdict (trees_of script.now) files.now) (λ stored. passes (output_text stored))) result }
+    ensures agrees { read.Agrees
+        (and_then (run_verdict (trees_of script.now) files.now) (λ stored. passes (output_text stored)))
+        result }
     ensures kind { IfErr result IsOfTexts }
 {
     if !types_fit(script, files) {

@@ -1,16 +1,21 @@
 use Rattle.std.proofs.Common.{◌≡◌, subst, arith, List, ℕ}
 use Rattle.rel_io.specs.Shelves.{CallCounts, counts_of}
-use Rattle.myria_top.specs.Reading.{AgreesBy}
+use Rattle.rel_io.specs.declared.shelves.ShelfFault.TheVariants as refusal
+use Rattle.myria_top.specs.Reading.{AgreesBy, HasFetchCause}
 use Rattle.myria_top.specs.Scripts.{TextComesTo, trees_read}
 use Rattle.myria_top.proofs.ScriptLemmas.{absent, long, text_read, text_cause}
 use Rattle.myria_top.proofs.reading.read_script.Goals as goal
 
 pub returns-in-Err-Absent-clause-read : goal.returns-in-Err-Absent-clause-read
-returns-in-Err-Absent-clause-read g c = record {
-  agrees = absent _ (c.fetched.ensures.missing (cc));
-  cause = c.fetched.ensures.absent (cc);
-  kept = c.fetched.ensures.kept;
-}
+returns-in-Err-Absent-clause-read g c =
+    let counts : CallCounts = counts_of g.F.Shelf c.args.shelf.now c.fetched.new.shelf in
+    let content = g.F.Shelf.content c.args.shelf.now c.args.name.now in
+    let refused : HasFetchCause counts content refusal.Absent = subst (HasFetchCause counts content) c.in-Err-Absent.field-0-is c.in-Err-Absent.ensures.refused in
+    record {
+      agrees = absent content refused.1;
+      cause = refused.0;
+      kept = c.fetched.ensures.kept;
+    }
 
 pub returns-then-len-gt-MOST_SCRIPT_BYTES-clause-read : goal.returns-then-len-gt-MOST_SCRIPT_BYTES-clause-read
 returns-then-len-gt-MOST_SCRIPT_BYTES-clause-read g c = record {
