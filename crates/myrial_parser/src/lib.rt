@@ -14,7 +14,6 @@ mod expressions;
 mod faults;
 mod laws;
 mod limits;
-mod loads;
 mod relations;
 mod scripts;
 mod separated;
