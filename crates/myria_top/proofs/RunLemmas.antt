@@ -4,6 +4,7 @@ use Rattle.std.specs.Prelude.{IfErr}
 use Rattle.std.specs.List.{flat_map}
 use Rattle.std.specs.Option.{option_map_or}
 use Rattle.rel_base.specs.Keys.{File}
+use Rattle.rel_base.specs.declared.names.Key.{Key}
 use Rattle.rel_base.specs.declared.faults.RunFault.{RunFault}
 use Rattle.rel_io.specs.declared.sinks.SinkFault.{SinkFault}
 use Rattle.rel_io.specs.declared.sinks.SinkFault.TheVariants as fault
@@ -29,7 +30,7 @@ use Rattle.myria_top.specs.Verdicts.{Verdict, untold, refused, passes, and_then,
 use Rattle.myria_top.specs.Runs.{ComesTo, named, IsFileOf, files_verdict, printed_verdict, run_answer, run_verdict, types_fit}
 use Rattle.myria_top.proofs.OneAnswerLemmas.{comes_to_one}
 use Rattle.myria_top.proofs.OutputLemmas.{output_text-sorted}
-use Rattle.myria_top.proofs.VerdictLemmas.{LiesWithin, HasCause-part, met, met_further, goes_second, refused_first, refused_second}
+use Rattle.myria_top.proofs.VerdictLemmas.{LiesWithin, HasCause-part, met, met_further, goes_second, step_met, meets_step, refused_first, refused_second}
 
 -- ---- the run of a script
 
@@ -82,6 +83,17 @@ run_goes content script files text read h =
     subst (λ (s : Verdict (List ℕ)). IfTold s (λ t. t ≡ passes text)) (sym (regrouped (files_verdict content (scanned_keys script)) (run_verdict script) (λ stored. passes (output_text stored))))
     (goes_second (files_verdict content (scanned_keys script)) (λ fs. and_then (run_verdict script fs) (λ stored. passes (output_text stored))) files text read h)
 
+-- what the run comes to over the files that were read for these keys
+pub run_agrees : (content : List ℕ → Content) (script : List StatementTree) (keys : List Key) (files : List File) (r : Result (List ℕ) Outcome) → keys ≡ scanned_keys script
+    → Meets (λ s. s ≡ files_verdict content keys) (passes files)
+    → Agrees (and_then (run_verdict script files) (λ stored. passes (output_text stored))) r → Agrees (printed_verdict content script) r
+run_agrees content script keys files (Ok text) same read h =
+    let told = subst (λ ks. IfTold (files_verdict content ks) (λ s. s ≡ passes files)) same (step_met (files_verdict content keys) (passes files) read) in
+    meets_step (printed_verdict content script) (passes text) (run_goes content script files text told (step_met _ (passes text) h))
+run_agrees content script keys files (Err answer) same read h =
+    let told = subst (λ ks. IfTold (files_verdict content ks) (λ s. s ≡ passes files)) same (step_met (files_verdict content keys) (passes files) read) in
+    run_refuses content script files answer told h
+
 -- ---- the script, and then its run
 
 told_text : (bytes : List ℕ) (s : Verdict (List StatementTree)) → TextComesTo bytes s → s ≡ untold → ⊥
@@ -129,7 +141,7 @@ module _ (words : List (List ℕ)) (content : List ℕ → Content) (name : List
           (a_relation name script f.key is_named (subst (λ t. ScriptComesTo (content name) (passes t)) same comes) f.is_one)
 
   agrees_on : (script : List StatementTree) (r : Result (List ℕ) Outcome) → Meets (ScriptComesTo (content name)) (passes script) → Agrees (printed_verdict content script) r → AgreesBy (ComesTo words content) r
-  agrees_on script (Ok text) m h = printed_goes script text m h
+  agrees_on script (Ok text) m h = printed_goes script text m (step_met (printed_verdict content script) (passes text) h)
   agrees_on script (Err answer) m h = printed_refuses script answer m h
 
   cause_on : (script : List StatementTree) (part run : CallCounts) (r : Result (List ℕ) Outcome) → Meets (ScriptComesTo (content name)) (passes script) → LiesWithin part run

@@ -8,7 +8,7 @@ use Rattle.rel_io.proofs.OutsideLemmas.{Rose-part}
 use Rattle.rel_io.specs.Shelves.{CallCounts}
 use Rattle.myria_top.specs.declared.outcomes.Outcome.{Outcome}
 use Rattle.myria_top.specs.declared.outcomes.Outcome.TheVariants as outcome
-use Rattle.myria_top.specs.Reading.{AgreesRefused, HasCause, RefusesBy}
+use Rattle.myria_top.specs.Reading.{AgreesRefused, HasCause, Meets, RefusesBy}
 use Rattle.myria_top.specs.Verdicts.{Verdict, untold, refused, passes, and_then, IfTold}
 use Rattle.myria_top.specs.Runs.{files_verdict, one_file_more, relation_verdict}
 
@@ -19,20 +19,27 @@ carried untold f answer h = tt
 carried (refused other) f answer h = let same : other ≡ answer = cc in ap refused same
 carried (passes x) f answer h = cc
 
+-- what a step is told to be, and that it is met so
+pub meets_step : {X : Type 0} (s wanted : Verdict X) → IfTold s (λ t. t ≡ wanted) → Meets (λ t. t ≡ s) wanted
+meets_step s wanted h = record { step = s; comes = refl; is = h }
+
+pub step_met : {X : Type 0} (s wanted : Verdict X) → Meets (λ t. t ≡ s) wanted → IfTold s (λ t. t ≡ wanted)
+step_met s wanted m = subst (λ t. IfTold t (λ u. u ≡ wanted)) m.comes m.is
+
 -- a refusal of the first step is a refusal of both
 pub refused_first : {X Y : Type 0} (s : Verdict X) (f : X → Verdict Y) (answer : Outcome) → AgreesRefused s answer → AgreesRefused (and_then s f) answer
 refused_first s f outcome.Done h = h
 refused_first s f outcome.WriteFault h = h
 refused_first s f (outcome.ReadFault name) h = tt
 refused_first s f outcome.Memory h = tt
-refused_first s f answer h = carried s f answer h
+refused_first s f answer h = meets_step (and_then s f) (refused answer) (carried s f answer (step_met s (refused answer) h))
 
 nothing_told : {X : Type 0} (Y : Type 0) (s : Verdict X) (answer : Outcome) → AgreesRefused s answer → AgreesRefused {X = Y} untold answer
 nothing_told Y s outcome.Done h = h
 nothing_told Y s outcome.WriteFault h = h
 nothing_told Y s (outcome.ReadFault name) h = tt
 nothing_told Y s outcome.Memory h = tt
-nothing_told Y s answer h = tt
+nothing_told Y s answer h = meets_step untold (refused answer) tt
 
 -- a refusal of the second step, on the value of the first, is a refusal of both
 pub refused_second : {X Y : Type 0} (s : Verdict X) (f : X → Verdict Y) (x : X) (answer : Outcome) → IfTold s (λ t. t ≡ passes x) → AgreesRefused (f x) answer → AgreesRefused (and_then s f) answer
@@ -54,7 +61,7 @@ met Comes s outcome.Done comes h = h
 met Comes s outcome.WriteFault comes h = h
 met Comes s (outcome.ReadFault name) comes h = tt
 met Comes s outcome.Memory comes h = tt
-met Comes s answer comes h = record { step = s; comes = comes; is = h }
+met Comes s answer comes h = record { step = s; comes = comes; is = step_met s (refused answer) h }
 
 -- what holds of a refusal of one relation holds of another that follows it
 pub met_further : {X Y : Type 0} (Comes : Verdict X → Type 0) (Further : Verdict Y → Type 0) (f : X → Verdict Y) → ((s : Verdict X) → Comes s → Further (and_then s f)) → (answer : Outcome) → RefusesBy Comes answer → RefusesBy Further answer

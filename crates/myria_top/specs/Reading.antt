@@ -30,19 +30,6 @@ file_verdict most if_missing if_long read outside.missing = refused if_missing
 file_verdict most if_missing if_long read (outside.there bytes) =
     if nat_lt most (length bytes) then refused if_long else read bytes
 
--- a refusal agrees with a step that refuses so; a fault of reading and want of memory may come of any step
-abbrev pub AgreesRefused : {X : Type 0} → Verdict X → Outcome → Type 0
-AgreesRefused step outcome.Done = ⊥
-AgreesRefused step outcome.WriteFault = ⊥
-AgreesRefused step (outcome.ReadFault name) = ⊤
-AgreesRefused step outcome.Memory = ⊤
-AgreesRefused step answer = IfTold step (λ s. s ≡ refused answer)
-
--- a call came to what the step comes to
-abbrev pub Agrees : {X : Type 0} → Verdict X → Result X Outcome → Type 0
-Agrees step (Ok x) = IfTold step (λ s. s ≡ passes x)
-Agrees step (Err answer) = AgreesRefused step answer
-
 -- a refusal of a fetch has its cause in a count that rose, and a name that is told to be there is not absent
 abbrev pub HasFetchCause : CallCounts → Content → ShelfFault → Type 0
 HasFetchCause counts content refusal.Failed = Rose counts.before.faults counts.after.faults
@@ -58,12 +45,6 @@ HasCause counts IsAsked (outcome.RelTooLong key) = IsAsked (shelf_name_of key)
 HasCause counts IsAsked (outcome.BadRelation key fault) = IsAsked (shelf_name_of key)
 HasCause counts IsAsked (outcome.ReadFault name) = Rose counts.before.faults counts.after.faults × IsAsked name
 HasCause counts IsAsked _ = ⊤
-
--- a call that reads the files that IsAsked names came to what the step comes to, each refusal has its cause, and no count fell
-pub record ReadsStep {X : Type 0} (step : Verdict X) (counts : CallCounts) (IsAsked : List ℕ → Type 0) (result : Result X Outcome) : Type 0 where
-  pub agrees : Agrees step result
-  pub cause : IfErr result (HasCause counts IsAsked)
-  pub kept : HaveNotFallen counts
 
 -- the files come to such a step, where enough is told
 pub record Meets {X : Type 0} (Comes : Verdict X → Type 0) (wanted : Verdict X) : Type 0 where
@@ -89,3 +70,15 @@ pub record ReadsBy {X : Type 0} (Comes : Verdict X → Type 0) (counts : CallCou
   pub agrees : AgreesBy Comes result
   pub cause : IfErr result (HasCause counts IsAsked)
   pub kept : HaveNotFallen counts
+
+-- a refusal agrees with this step; a fault of reading and want of memory may come of any step
+abbrev pub AgreesRefused : {X : Type 0} → Verdict X → Outcome → Type 0
+AgreesRefused step = RefusesBy (λ s. s ≡ step)
+
+-- a call came to what this step comes to
+abbrev pub Agrees : {X : Type 0} → Verdict X → Result X Outcome → Type 0
+Agrees step = AgreesBy (λ s. s ≡ step)
+
+-- a call that reads the files that IsAsked names came to what this step comes to
+abbrev pub ReadsStep : {X : Type 0} → Verdict X → CallCounts → (List ℕ → Type 0) → Result X Outcome → Type 0
+ReadsStep step = ReadsBy (λ s. s ≡ step)

@@ -2,6 +2,7 @@ use Rattle.std.proofs.Common.{◌∙◌, sym}
 use Rattle.myrial_ast.specs.Trees.{trees_of}
 use Rattle.myria_top.proofs.FormLemmas.{runs-built}
 use Rattle.myria_top.proofs.RunLemmas.{run_prints}
+use Rattle.myria_top.proofs.VerdictLemmas.{meets_step}
 use Rattle.myria_top.proofs.run.text_of_run.Goals as goal
 
 pub evaluate-requires-clause-runs : goal.evaluate-requires-clause-runs
@@ -9,5 +10,5 @@ evaluate-requires-clause-runs c = runs-built (trees_of c.args.script.now) c.requ
 
 pub returns-in-Ok-of_stored-clause-agrees : goal.returns-in-Ok-of_stored-clause-agrees
 returns-in-Ok-of_stored-clause-agrees c =
-    run_prints (trees_of c.args.script.now) c.args.files.now c.in-Ok.stored c.in-Ok-of_stored.text
-    (sym c.types_fit.ensures ∙ c.if-not-types_fit.false) (sym c.in-Ok-true.ensures ∙ c.in-Ok-true.field-0-test) c.in-Ok.ensures.no_fault c.in-Ok.ensures.stored c.in-Ok-of_stored.ensures
+    meets_step _ _ (run_prints (trees_of c.args.script.now) c.args.files.now c.in-Ok.stored c.in-Ok-of_stored.text
+    (sym c.types_fit.ensures ∙ c.if-not-types_fit.false) (sym c.in-Ok-true.ensures ∙ c.in-Ok-true.field-0-test) c.in-Ok.ensures.no_fault c.in-Ok.ensures.stored c.in-Ok-of_stored.ensures)

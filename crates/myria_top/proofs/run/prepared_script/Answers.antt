@@ -1,0 +1,20 @@
+use Rattle.std.proofs.Common.{ℕ, List}
+use Rattle.myrial_ast.specs.Trees.{trees_of}
+use Rattle.myrial_meaning.specs.Scans.{scanned_keys}
+use Rattle.rel_io.specs.Shelves.{CallCounts, counts_of}
+use Rattle.myria_top.specs.Runs.{IsFileOf}
+use Rattle.myria_top.proofs.RunLemmas.{run_agrees}
+use Rattle.myria_top.proofs.ScriptLemmas.{run_cause}
+use Rattle.myria_top.proofs.run.prepared_script.Goals as goal
+
+pub returns-clause-read : goal.returns-clause-read
+returns-clause-read g c =
+    let read = c.in-Ok-read_files.ensures.read in
+    let counts : CallCounts = counts_of g.F.Shelf c.args.shelf.now c.read_files.new.shelf in
+    record {
+      agrees =
+          run_agrees (g.F.Shelf.content c.args.shelf.now) (trees_of c.args.script.now) c.in-Ok.keys c.in-Ok-read_files.files c.text_of_run.result c.in-Ok.ensures.keys
+          read.agrees c.text_of_run.ensures.agrees;
+      cause = run_cause {X = List ℕ} counts (IsFileOf (scanned_keys (trees_of c.args.script.now))) c.text_of_run.result c.text_of_run.ensures.kind;
+      kept = read.kept;
+    }
