@@ -3,7 +3,7 @@
 --   Run                     what a run was handed, and what it left behind
 --   Explains run answer     why the answer came, and what the output then holds
 --   Headline run err answer  the promises
-use Rattle.std.specs.Prelude.{◌≡◌, ◌↔◌, ℕ, ◌⊎◌, ⊤, Option, List, Some, None, Contains}
+use Rattle.std.specs.Prelude.{◌≡◌, ◌↔◌, ℕ, ◌⊎◌, ⊤, List, Some, None, Contains}
 use Rattle.rel_base.specs.Keys.{shelf_name_of}
 use Rattle.rel_base.specs.declared.names.Key.{Key}
 use Rattle.rel_io.specs.Outside.{Content}

@@ -1,4 +1,4 @@
-use Rattle.std.proofs.Common.{◌≡◌, List, ℕ, append_assoc, refl}
+use Rattle.std.proofs.Common.{◌≡◌, List, ℕ, append_assoc}
 use Rattle.std.specs.Prelude.{◌++◌, codes}
 use Rattle.rel_base.specs.declared.names.Key.{Key}
 use Rattle.myria_top.specs.Outcomes.{relation_line}
