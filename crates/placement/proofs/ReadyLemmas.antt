@@ -19,7 +19,8 @@ use Rattle.algebra.specs.declared.terms.Source.TheVariants as source
 use Rattle.algebra.specs.Trees.{AtomTree, Shape, TermTree, Same, Empty, UnionAll, Diff, Distinct, Join, Group, StepTree}
 use Rattle.algebra.specs.Shapes.{widths_of}
 use Rattle.algebra.specs.Conditions.{has_kinds, emitted_kind, emits_columns, is_term, are_steps, source_kinds, kinds_of_columns}
-use Rattle.algebra.specs.ShapeConditions.{is_kind, kind_in, kinds_of, is_atom, is_plain_test, is_variable, all_different, is_shape}
+use Rattle.rel_base.specs.Limits.{most_variables}
+use Rattle.algebra.specs.ShapeConditions.{is_kind, kind_in, kinds_of, is_variable, all_different, is_shape, are_atoms, are_scalars}
 use Rattle.algebra.proofs.ShapeLemmas.{both}
 use Rattle.placement.specs.Layouts.{PlacedRelation, Placing, rows_of, placed_nothing, placed_source, placed_step, placed_steps}
 use Rattle.placement.specs.Laws.{IsPlaced, AreWide, IsColumns, IsReady, HasReadyItems, JoinsAreReady}
@@ -33,13 +34,12 @@ length-kinds [] = refl
 length-kinds (a ∷ atoms) =
     omega (arith, length-append a.kinds (flat_map (λ (a : AtomTree). a.kinds) atoms), length-kinds atoms, sum_by-cons (λ (n : ℕ). n) (length a.kinds) (map (λ (a : AtomTree). length a.kinds) atoms))
 
-fifth-of : (a b c d e f g h i : Bool) → (a && b && c && d && e && f && g && h && i) ≡ true → e ≡ true
-fifth-of true true true true true f g h i k = refl
-fifth-of true true true true false f g h i k = k
-fifth-of true true true false e f g h i k = absurd (cc)
-fifth-of true true false d e f g h i k = absurd (cc)
-fifth-of true false c d e f g h i k = absurd (cc)
-fifth-of false b c d e f g h i k = absurd (cc)
+-- the second of the middle part
+middle-of : (a b c d e : Bool) → (a && (b && c && d) && e) ≡ true → c ≡ true
+middle-of true true true d e k = refl
+middle-of true true false d e k = k
+middle-of true false c d e k = absurd (cc)
+middle-of false b c d e k = absurd (cc)
 
 below-each : (n : ℕ) (cs : List ℕ) → list_all (λ c. nat_lt c n) cs ≡ true → All (λ c. c < n) cs
 below-each n [] h = All-nil (λ c. c < n)
@@ -47,7 +47,7 @@ below-each n (c ∷ cs) h =
     let parts = both (nat_lt c n) (list_all (λ c. nat_lt c n) cs) h in
     All-cons (λ c. c < n) c cs (ltb-true c n parts.0) (below-each n cs parts.1)
 
-variable-columns : (shape : Shape) (v : List ℕ) → is_variable shape v ≡ true → IsColumns shape v
+variable-columns : (shape : Shape) (v : List ℕ) → is_variable (kinds_of shape) (widths_of shape) v ≡ true → IsColumns shape v
 variable-columns shape v h =
     let parts = three (list_all (λ c. nat_lt c (length (kinds_of shape))) v) _ (joins_items (widths_of shape) v) h in
     (some v parts.2, All-weaker (λ c. c < length (kinds_of shape)) (λ c. c < sum (widths_of shape)) (λ c l. omega (arith, l, length-kinds shape.atoms)) v (below-each (length (kinds_of shape)) v parts.0))
@@ -59,17 +59,14 @@ variable-columns shape v h =
 shape-columns : (shape : Shape) → is_shape shape ≡ true → All (IsColumns shape) shape.variables
 shape-columns shape k =
     each shape.variables
-    (fifth-of (nat_lt 0 (length shape.atoms)) (nat_le (length shape.atoms) 8) (list_all is_atom shape.atoms)
-    (nat_le (length shape.variables) 8) (list_all (is_variable shape) shape.variables)
-    (all_different (flat_map (λ v. v) shape.variables))
-    (list_all (is_plain_test (kinds_of shape)) shape.plain)
-    (list_all (λ e. is_kind kind.Bool (kind_in (kinds_of shape) e)) shape.arith)
-    (list_all (λ e. is_some (kind_in (kinds_of shape) e)) shape.emits) k)
+    (middle-of (are_atoms shape.atoms) (nat_le (length shape.variables) most_variables)
+    (list_all (is_variable (kinds_of shape) (widths_of shape)) shape.variables) (all_different (flat_map (λ v. v) shape.variables))
+    (are_scalars (kinds_of shape) shape.plain shape.arith shape.emits) k)
   where
-    each : (vs : List (List ℕ)) → list_all (is_variable shape) vs ≡ true → All (IsColumns shape) vs
+    each : (vs : List (List ℕ)) → list_all (is_variable (kinds_of shape) (widths_of shape)) vs ≡ true → All (IsColumns shape) vs
     each [] h = All-nil (IsColumns shape)
     each (v ∷ vs) h =
-        let parts = both (is_variable shape v) (list_all (is_variable shape) vs) h in
+        let parts = both (is_variable (kinds_of shape) (widths_of shape) v) (list_all (is_variable (kinds_of shape) (widths_of shape)) vs) h in
         All-cons (IsColumns shape) v vs (variable-columns shape v parts.0) (each vs parts.1)
 
 -- ---- one term

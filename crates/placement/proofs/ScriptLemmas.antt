@@ -9,7 +9,8 @@ use Rattle.std.specs.Prelude.{is_some}
 use Rattle.std.specs.List.{flat_map}
 use Rattle.algebra.specs.ShapeConditions.{all_different}
 use Rattle.algebra.specs.Conditions.{has_kinds, emits_columns}
-use Rattle.algebra.specs.ShapeConditions.{is_atom, is_variable, is_shape, is_plain_test, is_kind, kind_in, kinds_of}
+use Rattle.algebra.specs.ShapeConditions.{is_atom, is_shape, is_plain_test, is_kind, kind_in, kinds_of, are_variables, are_scalars}
+use Rattle.rel_base.specs.Limits.{most_items}
 use Rattle.algebra.specs.Trees.{AtomTree}
 use Rattle.std.specs.List.{range_with_len, enumerate_from, zip}
 use Rattle.std.proofs.lemmas.Nat.{mod_below, mul-add-lt}
@@ -190,18 +191,15 @@ All-made P f h [] = All-nil P
 All-made P f h (x ∷ xs) = All-cons P (f x) (map f xs) (h x) (All-made P f h xs)
 
 -- a shape has an atom at least
-first-of : (a b c d e f g h i : Bool) → (a && b && c && d && e && f && g && h && i) ≡ true → a ≡ true
-first-of true b c d e f g h i k = refl
-first-of false b c d e f g h i k = k
+first-of : (a b c d e : Bool) → (((a && b && c) && d) && e) ≡ true → a ≡ true
+first-of true b c d e k = refl
+first-of false b c d e k = k
 
 pub first-of-shape : (shape : Shape) → is_shape shape ≡ true → nat_lt 0 (length shape.atoms) ≡ true
 first-of-shape shape k =
-    first-of (nat_lt 0 (length shape.atoms)) (nat_le (length shape.atoms) 8) (list_all is_atom shape.atoms)
-    (nat_le (length shape.variables) 8) (list_all (is_variable shape) shape.variables)
-    (all_different (flat_map (λ v. v) shape.variables))
-    (list_all (is_plain_test (kinds_of shape)) shape.plain)
-    (list_all (λ e. is_kind kind.Bool (kind_in (kinds_of shape) e)) shape.arith)
-    (list_all (λ e. is_some (kind_in (kinds_of shape) e)) shape.emits) k
+    first-of (nat_lt 0 (length shape.atoms)) (nat_le (length shape.atoms) most_items) (list_all is_atom shape.atoms)
+    (are_variables (kinds_of shape) (widths_of shape) shape.variables)
+    (are_scalars (kinds_of shape) shape.plain shape.arith shape.emits) k
 
 shape-sources : (shape : Shape) (sources : List Source) (test : Source → AtomTree → Bool) → is_shape shape ≡ true → pointwise test sources shape.atoms ≡ true → 1 ≤ length sources
 shape-sources shape sources test h k =
