@@ -18,6 +18,15 @@ pub enum Operand {
     Load(Text, Schema, u64),
 }
 
+/// How the file of a load is read.
+#[derive(Debug, Drop)]
+pub struct LoadForm {
+    /// The columns that the script writes.
+    pub schema: Schema,
+    /// How many records are passed over.
+    pub skip: u64,
+}
+
 /// An item of a comprehension.
 #[derive(Debug, Drop)]
 pub struct FromItem {
@@ -71,6 +80,15 @@ impl Duplicate for Operand {
                 Ok(Operand::Load(name, schema.copy(alloc)?, *skip))
             }
         }
+    }
+}
+
+impl Duplicate for LoadForm {
+    fn copy(&self, alloc: Global) -> Result<LoadForm, Memory> {
+        Ok(LoadForm {
+            schema: self.schema.copy(alloc)?,
+            skip: self.skip,
+        })
     }
 }
 

@@ -3,7 +3,7 @@ use Rattle.std.proofs.Common.{◌≡◌, ℕ, zero, suc, ◌+◌, ◌<◌, Bool,
 use Rattle.std.specs.Prelude.{nat_lt}
 use Rattle.std.specs.Str.{bytes_eq, str_to_ascii_lowercase}
 use Rattle.std.proofs.lemmas.Slice.Eq.{bytes_eq-Decides}
-use Rattle.myrial_parser.specs.declared.loads.Form.{Form}
+use Rattle.myrial_ast.specs.declared.relations.LoadForm.{LoadForm}
 use Rattle.myrial_parser.specs.declared.loads.Load.{Load}
 use Rattle.std.proofs.lemmas.Bool.Decides.{nat_tests}
 use Rattle.rel_base.specs.declared.values.ColType.{ColType}
@@ -119,7 +119,7 @@ skip-all _ _ rest no_skip st = ap (λ t. cond {A = Parsed ℕ} t (d.word (codes 
 skip-all _ _ rest (a_skip word n is) st =
     ap (λ t. cond {A = Parsed (Unit {0})} t (Some (tt, Fixed s.Eq ∷ Number n ∷ rest)) None >>= λ _ rest. expect s.Eq rest >>= λ _ rest. d.number rest) is
 
-form-all : (ts : Input) (f : Form) (rest : Input) → IsForm ts f → stops is_comma rest ≡ true → d.form (ts ++ rest) ≡ Some (f, rest)
+form-all : (ts : Input) (f : LoadForm) (rest : Input) → IsForm ts f → stops is_comma rest ≡ true → d.form (ts ++ rest) ≡ Some (f, rest)
 unfolding d.form
 form-all _ _ rest (formed ts us columns n h k) st =
     ap d.form (append_assoc ts us rest)
@@ -134,7 +134,7 @@ comma-apart_closing = refl
 load-all : (ts : Input) (l : Load) (rest : Input) → IsLoad ts l → stops nothing rest ≡ true → d.load (ts ++ rest) ≡ Some (l, rest)
 unfolding d.load same_symbol
 load-all _ _ rest (loaded file ts f h) st =
-    ap (λ (o : Parsed Form). o >>= λ f end. Some (record { file = file; form = f }, end)) (called-all (codes "csv") d.form IsForm is_comma (record { reads = form-all }) comma-apart_closing ts f rest h)
+    ap (λ (o : Parsed LoadForm). o >>= λ f end. Some (record { file = file; form = f }, end)) (called-all (codes "csv") d.form IsForm is_comma (record { reads = form-all }) comma-apart_closing ts f rest h)
 
 -- ---- operands
 

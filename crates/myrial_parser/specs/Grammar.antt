@@ -27,7 +27,7 @@ use Rattle.myrial_lexer.specs.declared.kinds.Sign.TheVariants as sign
 use Rattle.myrial_parser.specs.declared.terminals.Keyword.{Keyword}
 use Rattle.myrial_parser.specs.declared.terminals.Keyword.TheVariants as keyword
 use Rattle.myrial_parser.specs.declared.terminals.Symbol.TheVariants.{Keyword as Word, Sign}
-use Rattle.myrial_parser.specs.declared.loads.Form.{Form}
+use Rattle.myrial_ast.specs.declared.relations.LoadForm.{LoadForm}
 use Rattle.myrial_parser.specs.declared.loads.Load.{Load}
 use Rattle.myrial_parser.specs.Symbols as s
 use Rattle.myrial_parser.specs.Terminals as t
@@ -162,13 +162,13 @@ pub data IsSkip : List Terminal → ℕ → Type 0 where
   a_skip : (word : Name) (n : ℕ) → is_word (codes "skip") word ≡ true → IsSkip (Fixed s.Comma ∷ t.Name word ∷ Fixed s.Eq ∷ t.Number n ∷ []) n
 
 -- the columns of a file without a header, and how many of its records are passed over
-pub data IsForm : List Terminal → Form → Type 0 where
+pub data IsForm : List Terminal → LoadForm → Type 0 where
   formed : (ts us : List Terminal) (columns : List Column) (n : ℕ) → Called (codes "schema") (Separated IsColumnDefinition) ts columns → IsSkip us n
       → IsForm (ts ++ us) (record { schema = columns; skip = n })
 
 -- the name of a file without a header, and its form
 pub data IsLoad : List Terminal → Load → Type 0 where
-  loaded : (file : List ℕ) (ts : List Terminal) (f : Form) → Called (codes "csv") IsForm ts f → IsLoad (t.Quoted file ∷ Fixed s.Comma ∷ ts) (record { file = file; form = f })
+  loaded : (file : List ℕ) (ts : List Terminal) (f : LoadForm) → Called (codes "csv") IsForm ts f → IsLoad (t.Quoted file ∷ Fixed s.Comma ∷ ts) (record { file = file; form = f })
 
 -- the operand of a load
 abbrev pub operand_of : Load → Operand

@@ -1,14 +1,6 @@
 //! Files without a header: `load`, the name of a file, and its form.
-use rel_base::{Schema, Text};
-
-/// The form of a file without a header.
-#[derive(Drop)]
-pub struct Form {
-    /// Its columns.
-    pub schema: Schema,
-    /// How many records are passed over.
-    pub skip: u64,
-}
+use myrial_ast::LoadForm;
+use rel_base::Text;
 
 /// A file without a header.
 #[derive(Drop)]
@@ -16,5 +8,5 @@ pub struct Load {
     /// Its name.
     pub file: Text,
     /// How it is read.
-    pub form: Form,
+    pub form: LoadForm,
 }

@@ -4,17 +4,17 @@ ghost use Rattle.myrial_ast.specs.Trees.{EmitTree, tree_of, emit_tree_of, rel_tr
 ghost use Rattle.myrial_parser.specs.Grammar as grammar;
 ghost use Rattle.rel_base.specs.declared.relations.Column.{Column as ColumnSeen};
 ghost use Rattle.myrial_ast.specs.declared.relations.FromItem.{FromItem as ItemSeen};
-ghost use Rattle.myrial_parser.specs.declared.loads.Form.{Form as FormSeen};
+ghost use Rattle.myrial_ast.specs.declared.relations.LoadForm.{LoadForm as FormSeen};
 ghost use Rattle.myrial_parser.specs.declared.loads.Load.{Load as LoadSeen};
 ghost use Rattle.myrial_parser.specs.inner.Descent as spec;
 ghost use Rattle.myrial_parser.specs.inner.Descent.{Parses};
 
 use crate::cursor::Cursor;
 use crate::faults::Refusal;
-use crate::loads::{Form, Load};
+use crate::loads::Load;
 use crate::separated::Phrase;
 use crate::terminals::{Keyword, Symbol, Terminal, same_word};
-use myrial_ast::{EmitItem, Expr, FromItem, Operand, RelExpr, Stmt};
+use myrial_ast::{EmitItem, Expr, FromItem, LoadForm, Operand, RelExpr, Stmt};
 use myrial_lexer::Sign;
 use rel_base::{ColType, Column, Duplicate, Key, Schema, Text};
 use std::alloc::Global;
@@ -70,7 +70,7 @@ impl Phrase for Schema {
     }
 }
 
-impl Phrase for Form {
+impl Phrase for LoadForm {
     ghost Tree = { FormSeen };
 
     ghost tree_of = { λ form. form };
@@ -78,10 +78,10 @@ impl Phrase for Form {
     ghost parser = { spec.form };
 
     #[tactic(auto, unfolding(crate::specs::inner::Descent::form))]
-    fn read(cursor: &mut Cursor<'_>, alloc: Global) -> Result<Form, Refusal> {
+    fn read(cursor: &mut Cursor<'_>, alloc: Global) -> Result<LoadForm, Refusal> {
         let schema = cursor.called(alloc, b"schema")?;
         let skip = cursor.records_to_skip()?;
-        Ok(Form { schema, skip })
+        Ok(LoadForm { schema, skip })
     }
 }
 

@@ -35,7 +35,7 @@ use Rattle.myrial_parser.specs.declared.terminals.Keyword.{Keyword}
 use Rattle.myrial_parser.specs.declared.terminals.Keyword.TheVariants as keyword
 use Rattle.myrial_parser.specs.declared.faults.Refusal.{Refusal}
 use Rattle.myrial_parser.specs.declared.faults.Refusal.TheVariants as refusal
-use Rattle.myrial_parser.specs.declared.loads.Form.{Form}
+use Rattle.myrial_ast.specs.declared.relations.LoadForm.{LoadForm}
 use Rattle.myrial_parser.specs.declared.loads.Load.{Load}
 use Rattle.myrial_parser.specs.declared.expressions.Level.{Level}
 use Rattle.myrial_parser.specs.declared.expressions.Level.TheVariants as level
@@ -354,7 +354,7 @@ quoted i = quoted_by (first i) (drop 1 i)
 unfoldable pub skip : Parser ℕ
 skip i = if sees s.Comma i then (word (codes "skip") (drop 1 i) >>= λ _ rest. expect s.Eq rest >>= λ _ rest. number rest) else Some (0, i)
 
-unfoldable pub form : Parser Form
+unfoldable pub form : Parser LoadForm
 form i = called (codes "schema") (separated column_definition) i >>= λ columns rest. skip rest >>= λ n end. Some (record { schema = columns; skip = n }, end)
 
 unfoldable pub load : Parser Load
