@@ -17,7 +17,7 @@ use Rattle.myrial_meaning.specs.Faults.{run_fault}
 use Rattle.myrial_meaning.specs.Meaning.{stored_relations}
 use Rattle.myrial_meaning.specs.SortedFiles.{sorted_file}
 use Rattle.myrial_meaning.specs.Runnable.{has_meaning}
-use Rattle.myrial_meaning.specs.Scans.{scanned_keys}
+use Rattle.myrial_meaning.specs.Fetches.{fetched_keys}
 use Rattle.rel_io.specs.Shelves.{CallCounts}
 use Rattle.myria_top.specs.declared.outcomes.Outcome.{Outcome}
 use Rattle.myria_top.specs.declared.outcomes.Outcome.TheVariants as outcome
@@ -58,10 +58,10 @@ module _ (script : List StatementTree) (files : List File) where
 -- ---- the files of a script, and then its run
 
 -- a refusal of the files
-pub files_refuse : (content : List ℕ → Content) (script : List StatementTree) (answer : Outcome) → AgreesRefused (files_verdict content (scanned_keys script)) answer → AgreesRefused (printed_verdict content script) answer
+pub files_refuse : (content : List ℕ → Content) (script : List StatementTree) (answer : Outcome) → AgreesRefused (files_verdict content (fetched_keys script)) answer → AgreesRefused (printed_verdict content script) answer
 files_refuse content script answer h =
-    refused_first (and_then (files_verdict content (scanned_keys script)) (run_verdict script)) (λ stored. passes (output_text stored)) answer
-    (refused_first (files_verdict content (scanned_keys script)) (run_verdict script) answer h)
+    refused_first (and_then (files_verdict content (fetched_keys script)) (run_verdict script)) (λ stored. passes (output_text stored)) answer
+    (refused_first (files_verdict content (fetched_keys script)) (run_verdict script) answer h)
 
 -- a step behind two others
 regrouped : {X Y Z : Type 0} (s : Verdict X) (f : X → Verdict Y) (g : Y → Verdict Z) → and_then (and_then s f) g ≡ and_then s (λ x. and_then (f x) g)
@@ -70,21 +70,21 @@ regrouped (refused answer) f g = refl
 regrouped (passes x) f g = refl
 
 -- a refusal of the run over the files that were read
-pub run_refuses : (content : List ℕ → Content) (script : List StatementTree) (files : List File) (answer : Outcome) → IfTold (files_verdict content (scanned_keys script)) (λ s. s ≡ passes files)
+pub run_refuses : (content : List ℕ → Content) (script : List StatementTree) (files : List File) (answer : Outcome) → IfTold (files_verdict content (fetched_keys script)) (λ s. s ≡ passes files)
     → AgreesRefused (and_then (run_verdict script files) (λ stored. passes (output_text stored))) answer → AgreesRefused (printed_verdict content script) answer
 run_refuses content script files answer read h =
-    subst (λ s. AgreesRefused s answer) (sym (regrouped (files_verdict content (scanned_keys script)) (run_verdict script) (λ stored. passes (output_text stored))))
-    (refused_second (files_verdict content (scanned_keys script)) (λ fs. and_then (run_verdict script fs) (λ stored. passes (output_text stored))) files answer read h)
+    subst (λ s. AgreesRefused s answer) (sym (regrouped (files_verdict content (fetched_keys script)) (run_verdict script) (λ stored. passes (output_text stored))))
+    (refused_second (files_verdict content (fetched_keys script)) (λ fs. and_then (run_verdict script fs) (λ stored. passes (output_text stored))) files answer read h)
 
 -- the text of the run over them
-pub run_goes : (content : List ℕ → Content) (script : List StatementTree) (files : List File) (text : List ℕ) → IfTold (files_verdict content (scanned_keys script)) (λ s. s ≡ passes files)
+pub run_goes : (content : List ℕ → Content) (script : List StatementTree) (files : List File) (text : List ℕ) → IfTold (files_verdict content (fetched_keys script)) (λ s. s ≡ passes files)
     → IfTold (and_then (run_verdict script files) (λ stored. passes (output_text stored))) (λ s. s ≡ passes text) → IfTold (printed_verdict content script) (λ s. s ≡ passes text)
 run_goes content script files text read h =
-    subst (λ (s : Verdict (List ℕ)). IfTold s (λ t. t ≡ passes text)) (sym (regrouped (files_verdict content (scanned_keys script)) (run_verdict script) (λ stored. passes (output_text stored))))
-    (goes_second (files_verdict content (scanned_keys script)) (λ fs. and_then (run_verdict script fs) (λ stored. passes (output_text stored))) files text read h)
+    subst (λ (s : Verdict (List ℕ)). IfTold s (λ t. t ≡ passes text)) (sym (regrouped (files_verdict content (fetched_keys script)) (run_verdict script) (λ stored. passes (output_text stored))))
+    (goes_second (files_verdict content (fetched_keys script)) (λ fs. and_then (run_verdict script fs) (λ stored. passes (output_text stored))) files text read h)
 
 -- what the run comes to over the files that were read for these keys
-pub run_agrees : (content : List ℕ → Content) (script : List StatementTree) (keys : List Key) (files : List File) (r : Result (List ℕ) Outcome) → keys ≡ scanned_keys script
+pub run_agrees : (content : List ℕ → Content) (script : List StatementTree) (keys : List Key) (files : List File) (r : Result (List ℕ) Outcome) → keys ≡ fetched_keys script
     → Meets (λ s. s ≡ files_verdict content keys) (passes files)
     → Agrees (and_then (run_verdict script files) (λ stored. passes (output_text stored))) r → Agrees (printed_verdict content script) r
 run_agrees content script keys files (Ok text) same read h =
@@ -129,7 +129,7 @@ module _ (words : List (List ℕ)) (content : List ℕ → Content) (name : List
     is = goes_second m.step (printed_verdict content) script text m.is h;
   }
 
-  pub asked : (script : List StatementTree) (file : List ℕ) → Meets (ScriptComesTo (content name)) (passes script) → IsFileOf (scanned_keys script) file → IsAskedOf words content file
+  pub asked : (script : List StatementTree) (file : List ℕ) → Meets (ScriptComesTo (content name)) (passes script) → IsFileOf (fetched_keys script) file → IsAskedOf words content file
   asked script file m f = told m.step m.comes m.is
     where
       told : (s : Verdict (List StatementTree)) → ScriptComesTo (content name) s → IfTold s (λ t. t ≡ passes script) → IsAskedOf words content file
@@ -145,13 +145,13 @@ module _ (words : List (List ℕ)) (content : List ℕ → Content) (name : List
   agrees_on script (Err answer) m h = printed_refuses script answer m h
 
   cause_on : (script : List StatementTree) (part run : CallCounts) (r : Result (List ℕ) Outcome) → Meets (ScriptComesTo (content name)) (passes script) → LiesWithin part run
-      → IfErr r (HasCause part (IsFileOf (scanned_keys script))) → IfErr r (HasCause run (IsAskedOf words content))
+      → IfErr r (HasCause part (IsFileOf (fetched_keys script))) → IfErr r (HasCause run (IsAskedOf words content))
   cause_on script part run (Ok text) m within h = tt
   cause_on script part run (Err answer) m within h = HasCause-part part run _ (IsAskedOf words content) answer within (λ file f. asked script file m f) h
 
   -- the script was read, and then its run was prepared on the same content
   pub reads_on : (script : List StatementTree) (same : List ℕ → Content) (part run : CallCounts) (r : Result (List ℕ) Outcome) → Meets (ScriptComesTo (content name)) (passes script)
-      → same ≡ content → LiesWithin part run → ReadsStep (printed_verdict same script) part (IsFileOf (scanned_keys script)) r → ReadsBy (ComesTo words content) run (IsAskedOf words content) r
+      → same ≡ content → LiesWithin part run → ReadsStep (printed_verdict same script) part (IsFileOf (fetched_keys script)) r → ReadsBy (ComesTo words content) run (IsAskedOf words content) r
   reads_on script same part run r m is within h = record {
     agrees = agrees_on script r m (subst (λ (con : List ℕ → Content). Agrees (printed_verdict con script) r) is h.agrees);
     cause = cause_on script part run r m within h.cause;

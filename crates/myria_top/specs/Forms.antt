@@ -17,6 +17,7 @@ use Rattle.myrial_scopes.specs.Scopes.{same_name}
 abbrev pub is_scan : Operand → Bool
 is_scan (operand.Scan key) = true
 is_scan (operand.Named name) = false
+is_scan (operand.Load file schema skip) = false
 
 -- whether it is a column of the item with this alias, by its name
 abbrev pub is_column_of : Name → Tree → Bool

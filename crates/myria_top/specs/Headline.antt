@@ -11,7 +11,7 @@ use Rattle.rel_io.specs.Shelves.{CallCounts}
 use Rattle.rel_io.specs.Sinks.{FaultsRose, TookAll, TookNothing, TookPart, WantsRose, Written}
 use Rattle.rel_io.specs.Outside as outside
 use Rattle.myrial_ast.specs.Trees.{StatementTree}
-use Rattle.myrial_meaning.specs.Scans.{scanned_keys}
+use Rattle.myrial_meaning.specs.Fetches.{fetched_keys}
 use Rattle.myria_top.specs.declared.outcomes.Outcome.{Outcome}
 use Rattle.myria_top.specs.declared.outcomes.Outcome.TheVariants as outcome
 use Rattle.myria_top.specs.declared.outcomes.Part.TheVariants as part
@@ -39,7 +39,7 @@ pub data IsAskedOf (words : List (List ℕ)) (content : List ℕ → Content) : 
   the_script : (name : List ℕ) → script_name words ≡ Some name → IsAskedOf words content name
   of_untold : (name asked : List ℕ) → script_name words ≡ Some name → content name ≡ outside.untold → IsAskedOf words content asked
   a_relation : (name : List ℕ) (trees : List StatementTree) (key : Key) → script_name words ≡ Some name
-      → ScriptComesTo (content name) (passes trees) → Contains (scanned_keys trees) key → IsAskedOf words content (shelf_name_of key)
+      → ScriptComesTo (content name) (passes trees) → Contains (fetched_keys trees) key → IsAskedOf words content (shelf_name_of key)
 
 -- a refusal before the output: it is what the words and the files come to, a count shows its cause, and nothing is printed
 pub record ExplainsRefusal (run : Run) (answer : Outcome) : Type 0 where

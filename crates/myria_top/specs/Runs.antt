@@ -25,7 +25,7 @@ use Rattle.myrial_ast.specs.Trees as tree
 use Rattle.myrial_meaning.specs.Faults.{run_fault}
 use Rattle.myrial_meaning.specs.Meaning.{stored_relations}
 use Rattle.myrial_meaning.specs.Runnable.{has_meaning}
-use Rattle.myrial_meaning.specs.Scans.{scanned_keys}
+use Rattle.myrial_meaning.specs.Fetches.{fetched_keys}
 use Rattle.myria_top.specs.declared.outcomes.Outcome.{Outcome}
 use Rattle.myria_top.specs.declared.outcomes.Outcome.TheVariants as outcome
 use Rattle.myria_top.specs.declared.outcomes.Part.TheVariants as part
@@ -97,7 +97,7 @@ run_verdict script files =
 -- what the script comes to: the text that is printed
 abbrev pub printed_verdict : (List ℕ → Content) → List StatementTree → Verdict (List ℕ)
 printed_verdict content script =
-    and_then (and_then (files_verdict content (scanned_keys script)) (run_verdict script)) (λ stored. passes (output_text stored))
+    and_then (and_then (files_verdict content (fetched_keys script)) (run_verdict script)) (λ stored. passes (output_text stored))
 
 -- what the words and the files come to: the text that is printed, or an answer that refuses
 pub data ComesTo (words : List (List ℕ)) (content : List ℕ → Content) : Verdict (List ℕ) → Type 0 where

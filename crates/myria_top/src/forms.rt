@@ -65,6 +65,7 @@ fn is_scan(operand: &Operand) -> bool
     match operand {
         Operand::Scan(_) => true,
         Operand::Named(_) => false,
+        Operand::Load(_, _, _) => false,
     }
 }
 

@@ -2,7 +2,7 @@
 ghost use Rattle.std.specs.Prelude.{◌≡◌, ◌≢◌, ◌↔◌, true, map, All, None, Err, IfErr, vec_len};
 ghost use Rattle.std.specs.List.{list_all, list_any};
 ghost use Rattle.myrial_ast.specs.Trees.{statement_tree_of, trees_of};
-ghost use Rattle.myrial_meaning.specs.Scans.{scanned_keys};
+ghost use Rattle.myrial_meaning.specs.Fetches.{fetched_keys};
 ghost use Rattle.rel_io.specs.Shelves.{counts_of};
 ghost use Rattle.rel_io.specs.Sinks.{written_of};
 ghost use Rattle.rel_io.specs.Taps.{no_rows};
@@ -20,7 +20,7 @@ use crate::pieces::Pieces;
 use crate::reading::{read_files, read_script, script_name};
 use crate::{Outcome, Part};
 use myrial_ast::{RelExpr, Script, Stmt};
-use myrial_meaning::{evaluate, has_meaning, scanned_keys};
+use myrial_meaning::{evaluate, has_meaning, fetched_keys};
 use rel_base::{ColType, Column, Files, Key, Relation, TAPS, Text};
 use rel_io::{Shelf, Sink, SinkFault, Tap};
 use std::alloc::Global;
@@ -110,10 +110,10 @@ fn prepared_script<F: Shelf>(
     requires { is_built (trees_of script.now) ≡ true }
     ensures read { read.ReadsStep (printed_verdict (F.content shelf.old) (trees_of script.now))
         (counts_of F.Shelf shelf.old shelf.new)
-        (IsFileOf (scanned_keys (trees_of script.now))) result }
+        (IsFileOf (fetched_keys (trees_of script.now))) result }
     ensures part { result ≢ Err (Outcome.NotBuilt Part.Words) }
 {
-    let keys = match scanned_keys(alloc, script) {
+    let keys = match fetched_keys(alloc, script) {
         Ok(keys) => keys,
         Err(_) => return Err(Outcome::Memory),
     };

@@ -3,6 +3,7 @@ use Rattle.std.proofs.Common.{◌≡◌, ℕ, Bool, true, false, List, [], ◌�
 use Rattle.std.specs.Prelude.{ℤ, pos, negsuc, ◌+◌, map, codes}
 use Rattle.rel_base.specs.declared.values.Value.TheVariants as value
 use Rattle.rel_base.specs.declared.faults.RunFault.TheVariants as fault
+use Rattle.myrial_ast.specs.Loads.{load_key, is_load_key}
 use Rattle.myrial_ast.specs.declared.operators.BinOp.{BinOp}
 use Rattle.myrial_ast.specs.declared.operators.BinOp.TheVariants as op
 use Rattle.myrial_ast.specs.declared.operators.AggOp.TheVariants as agg
@@ -313,3 +314,15 @@ pub fault-of_a_product : map (λ rows. comprehension_fault Counted 1 (3 ∷ 1 �
     (record { conjuncts = with_product; emits = At 0 ∷ []; aggregates = None ∷ [] }) (with_large ∷ rows ∷ [])) (column (1 ∷ []) ∷ column (2 ∷ []) ∷ [])
     ≡ None ∷ Some (fault.Overflow 1) ∷ []
 fault-of_a_product = refl
+
+-- ---- loaded files
+
+-- the key of a loaded file is no key of a script's user
+pub loaded-own_key : is_load_key (codes "p") (load_key (codes "p")) ≡ true
+loaded-own_key = refl
+
+pub loaded-other_name : is_load_key (codes "p") (load_key (codes "q")) ≡ false
+loaded-other_name = refl
+
+pub loaded-scanned_key : is_load_key (codes "p") (record { user = codes "public"; program = codes "adhoc"; name = codes "p" }) ≡ false
+loaded-scanned_key = refl

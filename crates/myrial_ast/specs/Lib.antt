@@ -1,6 +1,7 @@
 -- The words of this crate, lowest first.
 pub mod Trees
 pub mod Operands
+pub mod Loads
 pub mod Scalars
 pub mod ScalarTrees
 pub mod Combinations

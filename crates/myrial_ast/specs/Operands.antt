@@ -1,13 +1,13 @@
 -- The operands of relation expressions.
 --
---   operands_of r             the names and keys that a relation expression uses, in order
+--   operands_of r             the names, keys and loaded files that a relation expression uses, in order
 use Rattle.std.specs.Prelude.{List, [], ◌∷◌, map}
 use Rattle.myrial_ast.specs.declared.relations.FromItem.{FromItem}
 use Rattle.myrial_ast.specs.declared.relations.Operand.{Operand}
 use Rattle.myrial_ast.specs.Trees.{RelTree}
 use Rattle.myrial_ast.specs.Trees as tree
 
--- the names and keys that a relation expression uses, in order
+-- the names, keys and loaded files that a relation expression uses, in order
 abbrev pub operands_of : RelTree → List Operand
 operands_of (tree.Copy o) = o ∷ []
 operands_of (tree.Empty schema) = []

@@ -18,7 +18,7 @@ mod statements;
 pub use expressions::{ColRef, Expr};
 pub use laws::linked_columns_share_a_class;
 pub use operators::{AggOp, BinOp};
-pub use relations::{EmitItem, EmitItems, FromItem, FromItems, Operand, RelExpr};
+pub use relations::{EmitItem, EmitItems, FromItem, FromItems, LoadForm, Operand, RelExpr};
 pub use scalars::{Scalar, Scalars};
 pub use statements::{Script, Stmt};
 

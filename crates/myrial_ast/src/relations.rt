@@ -7,13 +7,24 @@ use crate::expressions::Expr;
 use rel_base::{Duplicate, Items, Key, Memory, Schema, Text};
 use std::alloc::Global;
 
-/// A relation that is named: one that an earlier statement assigned, or a stored one.
+/// A relation that is named: one that an earlier statement assigned, a stored one, or a file without a header.
 #[derive(Debug, Drop)]
 pub enum Operand {
     /// The relation that was assigned to a name.
     Named(Text),
     /// The relation that is stored under a key.
     Scan(Key),
+    /// The file of a name, without a header: read by these columns, behind so many records.
+    Load(Text, Schema, u64),
+}
+
+/// How the file of a load is read.
+#[derive(Debug, Drop)]
+pub struct LoadForm {
+    /// The columns that the script writes.
+    pub schema: Schema,
+    /// How many records are passed over.
+    pub skip: u64,
 }
 
 /// An item of a comprehension.
@@ -64,7 +75,20 @@ impl Duplicate for Operand {
         match self {
             Operand::Named(name) => Ok(Operand::Named(name.copy(alloc)?)),
             Operand::Scan(key) => Ok(Operand::Scan(key.copy(alloc)?)),
+            Operand::Load(name, schema, skip) => {
+                let name = name.copy(alloc)?;
+                Ok(Operand::Load(name, schema.copy(alloc)?, *skip))
+            }
         }
+    }
+}
+
+impl Duplicate for LoadForm {
+    fn copy(&self, alloc: Global) -> Result<LoadForm, Memory> {
+        Ok(LoadForm {
+            schema: self.schema.copy(alloc)?,
+            skip: self.skip,
+        })
     }
 }
 

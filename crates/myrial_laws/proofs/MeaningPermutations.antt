@@ -11,6 +11,7 @@ use Rattle.rel_base.specs.declared.names.Key.{Key}
 use Rattle.myrial_ast.specs.declared.relations.FromItem.{FromItem}
 use Rattle.myrial_ast.specs.declared.relations.Operand.{Operand}
 use Rattle.myrial_ast.specs.declared.relations.Operand.TheVariants as operand
+use Rattle.myrial_ast.specs.Loads.{is_load_key}
 use Rattle.myrial_ast.specs.Trees.{Name, Tree, EmitTree, RelTree, StatementTree}
 use Rattle.myrial_ast.specs.Trees as tree
 use Rattle.myrial_ast.specs.Bags.{union_all, distinct, difference}
@@ -153,6 +154,7 @@ module _ (files others : List File) (there here : RelationEnvironment) (files-sa
   operand-same : (o : Operand) → Matched SameTable (operand_of files there o) (operand_of others here o)
   operand-same (operand.Named name) = found-same (λ n. same_name n name) same.assigned
   operand-same (operand.Scan key) = found-same (λ k. same_key k key) (Alike-append SameEntry same.stored files-same)
+  operand-same (operand.Load name schema skip) = found-same (is_load_key name) files-same
 
   source-same : (item : FromItem) → Matched SameSource (item_relation files there item) (item_relation others here item)
   source-same item =

@@ -45,6 +45,7 @@ module _ (files : List File) (there here : RelationEnvironment) where
   operand-agrees (operand.Named name) agrees = agrees.names name (same_name-itself name)
   operand-agrees (operand.Scan key) agrees =
       ap (λ stored. kept_under files (let env : RelationEnvironment = record { assigned = []; stored = stored } in env) key) agrees.stored
+  operand-agrees (operand.Load name schema skip) agrees = refl
 
   -- what agrees on more names agrees on fewer
   fewer : (uses others : Name → Bool) → ((name : Name) → others name ≡ true → uses name ≡ true) → AgreesOn uses there here → AgreesOn others there here

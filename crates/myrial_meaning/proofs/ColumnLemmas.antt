@@ -94,6 +94,7 @@ module _ (files : List File) (there here : RelationEnvironment) (same : columns_
   operand-columns : (o : Operand) → option_map bare (operand_of files there o) ≡ option_map bare (operand_of files here o)
   operand-columns (operand.Named name) = name-columns name
   operand-columns (operand.Scan key) = key-columns key
+  operand-columns (operand.Load name schema skip) = refl
 
   source-columns : (item : FromItem) → option_map bare_source (item_relation files there item) ≡ option_map bare_source (item_relation files here item)
   unfolding bare_source

@@ -9,5 +9,5 @@ pub mod EnvironmentLemmas
 pub mod AgreementLemmas
 pub mod StageLemmas
 pub mod ColumnLemmas
-pub mod ScanLemmas
+pub mod FetchLemmas
 mod WorkedRows

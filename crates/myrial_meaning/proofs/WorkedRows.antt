@@ -18,10 +18,11 @@ use Rattle.myrial_ast.specs.declared.expressions.ColRef.TheVariants as ref
 use Rattle.myrial_ast.specs.declared.operators.BinOp.TheVariants as op
 use Rattle.myrial_ast.specs.declared.operators.AggOp.TheVariants as agg
 use Rattle.myrial_ast.specs.Trees.{Name, Tree, EmitTree, StatementTree, Lit, Col, Bin, Agg, AggAll, One, Copy, Distinct, UnionAll, Diff, From, Assign, Store, Nothing}
+use Rattle.myrial_ast.specs.Loads.{load_key}
 use Rattle.myrial_ast.specs.CandidateFaults.{Counted, Uncounted}
 use Rattle.myrial_meaning.specs.Meaning.{stored_relations}
 use Rattle.myrial_meaning.specs.Needed.{is_needed}
-use Rattle.myrial_meaning.specs.Scans.{scanned_keys}
+use Rattle.myrial_meaning.specs.Fetches.{fetched_keys, fetches}
 use Rattle.myrial_meaning.specs.Faults.{run_fault}
 use Rattle.myrial_meaning.specs.Runnable.{runs, has_meaning}
 
@@ -216,19 +217,45 @@ fault-aggregate = refl
 pub fault-overflow_first : fault_of (emitted (Agg agg.Sum v) ∷ emitted (Bin op.Add v one) ∷ []) None ≡ Some (fault.Overflow 1)
 fault-overflow_first = refl
 
--- ---- the keys whose files are needed
+-- ---- the files that are needed
 
 -- A = scan(S); store(A, K); B = [from scan(K) as k, scan(S) as s, scan(T) as t emit k.x]; C = unionall(scan(T), scan(K));
-pub scanned-keys : scanned_keys
+pub fetched-keys : fetched_keys
     (Assign (codes "A") (Copy (scanned (codes "S"))) ∷ Store (codes "A") (adhoc (codes "K"))
     ∷ Assign (codes "B") (From (item (scanned (codes "K")) (codes "k") ∷ item (scanned (codes "S")) (codes "s") ∷ item (scanned (codes "T")) (codes "t") ∷ []) None
     (emitted (column (codes "k") (codes "x")) ∷ []))
     ∷ Assign (codes "C") (UnionAll (scanned (codes "T")) (scanned (codes "K"))) ∷ [])
     ≡ adhoc (codes "S") ∷ adhoc (codes "T") ∷ []
-scanned-keys = refl
+fetched-keys = refl
 
 -- a key that is stored after its scan has a file to be read; one that a name stands for has none
-pub scanned-keys_before_store : scanned_keys
+pub fetched-before_store : fetched_keys
     (Assign (codes "A") (Copy (scanned (codes "S"))) ∷ Assign (codes "B") (Distinct (operand.Named (codes "A"))) ∷ Store (codes "B") (adhoc (codes "S"))
     ∷ Assign (codes "C") (Copy (scanned (codes "S"))) ∷ []) ≡ adhoc (codes "S") ∷ []
-scanned-keys_before_store = refl
+fetched-before_store = refl
+
+-- ---- loaded files
+
+abbrev loaded : Name → List Name → ℕ → Operand
+loaded name columns skip = operand.Load name (int_columns columns) skip
+
+-- A = load("S", csv(schema(x:int), skip=1)); store(A, K); B = [from load("K", csv(schema(y:int))) as k, scan(K) as l, scan(S) as s
+-- emit k.y]; C = load("S", csv(schema(z:int))): a load has a file of its own, whatever is scanned or stored, and the form of its first load
+abbrev loads_and_scans : List StatementTree
+loads_and_scans =
+    Assign (codes "A") (Copy (loaded (codes "S") (codes "x" ∷ []) 1)) ∷ Store (codes "A") (adhoc (codes "K"))
+    ∷ Assign (codes "B") (From (item (loaded (codes "K") (codes "y" ∷ []) 0) (codes "k") ∷ item (scanned (codes "K")) (codes "l") ∷ item (scanned (codes "S")) (codes "s") ∷ []) None
+    (emitted (column (codes "k") (codes "y")) ∷ []))
+    ∷ Assign (codes "C") (Copy (loaded (codes "S") (codes "z" ∷ []) 0)) ∷ []
+
+pub fetched-loads : fetches loads_and_scans
+    ≡ record { key = load_key (codes "S"); form = Some (record { schema = int_columns (codes "x" ∷ []); skip = 1 }) }
+    ∷ record { key = load_key (codes "K"); form = Some (record { schema = int_columns (codes "y" ∷ []); skip = 0 }) }
+    ∷ record { key = adhoc (codes "S"); form = None } ∷ []
+fetched-loads = refl
+
+-- A = load("S", csv(schema(x:int))); store(A, Out); -- the loaded file, though a file is scanned under this name
+pub stored-loaded : stored_relations (file (codes "S") (table (codes "x" ∷ []) ((1 ∷ []) ∷ [])) ∷ (load_key (codes "S"), table (codes "x" ∷ []) ((7 ∷ []) ∷ [])) ∷ [])
+    (Assign (codes "A") (Copy (loaded (codes "S") (codes "x" ∷ []) 0)) ∷ Store (codes "A") (adhoc (codes "Out")) ∷ [])
+    ≡ file (codes "Out") (table (codes "x" ∷ []) ((7 ∷ []) ∷ [])) ∷ []
+stored-loaded = refl

@@ -3,11 +3,13 @@
 --   Environment X                what the names that were assigned and the keys that were stored stand for
 --   assigned_to env name         what the latest assignment of the name assigned
 --   kept_under files env key     what the latest store of the key stored, or else its file
+--   loaded_from files name       the loaded file of the name
 use Rattle.std.specs.Prelude.{List, [], ◌∷◌, ◌++◌, find, Option, option_map}
 use Rattle.rel_base.specs.Keys.{same_key}
 use Rattle.rel_base.specs.declared.names.Key.{Key}
 use Rattle.myrial_ast.specs.declared.relations.Operand.{Operand}
 use Rattle.myrial_ast.specs.declared.relations.Operand.TheVariants as operand
+use Rattle.myrial_ast.specs.Loads.{is_load_key}
 use Rattle.myrial_ast.specs.Trees.{Name}
 use Rattle.myrial_scopes.specs.Scopes.{same_name}
 
@@ -29,10 +31,15 @@ module _ {X : Type 0} where
   abbrev pub kept_under : List (Key × X) → Environment X → Key → Option X
   kept_under files env key = option_map (λ (p : Key × X). p.1) (find (λ (p : Key × X). same_key p.0 key) (env.stored ++ files))
 
+  -- the loaded file of this name, whatever was stored
+  abbrev pub loaded_from : List (Key × X) → Name → Option X
+  loaded_from files name = option_map (λ (p : Key × X). p.1) (find (λ (p : Key × X). is_load_key name p.0) files)
+
   -- what an operand stands for
   abbrev pub operand_of : List (Key × X) → Environment X → Operand → Option X
   operand_of files env (operand.Named name) = assigned_to env name
   operand_of files env (operand.Scan key) = kept_under files env key
+  operand_of files env (operand.Load name schema skip) = loaded_from files name
 
   -- the environment with one name more, and with one stored key more
   abbrev pub with_name : Environment X → Name → X → Environment X

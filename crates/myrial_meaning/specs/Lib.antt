@@ -5,6 +5,6 @@ pub mod SortedFiles
 pub mod Needed
 pub mod Faults
 pub mod Runnable
-pub mod Scans
+pub mod Fetches
 pub mod Evaluating
 pub mod inner

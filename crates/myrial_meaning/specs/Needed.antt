@@ -18,6 +18,7 @@ use Rattle.myrial_scopes.specs.Scopes.{same_name}
 abbrev pub is_name : Name → Operand → Bool
 is_name name (operand.Named n) = same_name n name
 is_name name (operand.Scan key) = false
+is_name name (operand.Load file schema skip) = false
 
 -- whether the relation expression uses what the name stands for
 abbrev pub mentions : Name → RelTree → Bool

@@ -3,7 +3,7 @@ ghost use Rattle.std.specs.Prelude.{◌≡◌, ◌^◌, ◌<◌, IfOk, OnOk, opt
 ghost use Rattle.std.specs.Option.{option_copied, option_map_or};
 ghost use Rattle.rel_base.specs.Each.{each_or_none};
 ghost use Rattle.rel_base.specs.Keys.{same_key};
-ghost use Rattle.myrial_meaning.specs.Environments.{nothing_yet, assigned_to, kept_under, operand_of, with_name, with_key};
+ghost use Rattle.myrial_meaning.specs.Environments.{nothing_yet, assigned_to, kept_under, loaded_from, operand_of, with_name, with_key};
 ghost use Rattle.myrial_meaning.specs.Meaning.{item_relation};
 ghost use Rattle.myrial_meaning.specs.SortedFiles.{sorted_file};
 ghost use Rattle.myrial_meaning.specs.inner.Assignments.{table_of};
@@ -92,6 +92,7 @@ impl<'a> Environment<'a> {
                 None => None,
             },
             Operand::Scan(key) => self.kept_under(files, key),
+            Operand::Load(name, _, _) => loaded_from(files, name),
         }
     }
 
@@ -113,6 +114,10 @@ impl<'a> Environment<'a> {
             Operand::Scan(key) => match self.stored_under(key) {
                 Some(relation) => Ok(Some(Held::Made(relation.copy(alloc)?))),
                 None => Ok(lent_from(files, key)),
+            },
+            Operand::Load(name, _, _) => match loaded_from(files, name) {
+                Some(relation) => Ok(Some(Held::Lent(relation))),
+                None => Ok(None),
             },
         }
     }
@@ -186,6 +191,19 @@ fn file_under<'a>(files: &'a Files, key: &Key) -> Option<&'a Relation>
 {
     for file in files.as_slice() {
         if file.0 == *key {
+            return Some(&file.1);
+        }
+    }
+    None
+}
+
+/// The relation of the loaded file of a name.
+fn loaded_from<'a>(files: &'a Files, name: &Text) -> Option<&'a Relation>
+    ensures { option_copied result ≡ loaded_from files.entry.now name.now }
+{
+    for file in files.as_slice() {
+        let Key { user, program, name: own } = &file.0;
+        if user.as_str().is_empty() && program.as_str().is_empty() && *own == *name {
             return Some(&file.1);
         }
     }

@@ -5,8 +5,8 @@
 //!
 //! Promises: `evaluate` gives what a script stores, each relation's rows in ascending order, or the fault of its run, as
 //! the definitions say; statements that no store needs are not run. `has_meaning` tells whether each name, key and
-//! reference of a script stands for something, which `evaluate` requires beside `runs`; `scanned_keys` gives the keys whose
-//! files a script needs. That the test of needed statements tells what their rule says is a law. Contracts see a script by
+//! reference of a script stands for something, which `evaluate` requires beside `runs`; `fetched_keys` gives the keys whose
+//! files a script scans or loads. That the test of needed statements tells what their rule says is a law. Contracts see a script by
 //! `trees_of`.
 //! Not promised: that memory is there; speed, since a comprehension goes over every combination of its items' rows.
 //! The definitions are of the whole language, and the scripts that are evaluated are those that `runs` admits: operands,
@@ -28,14 +28,14 @@ mod laws;
 mod list_faults;
 mod loops;
 mod needed;
-mod scanned;
+mod needed_files;
 mod stages;
 mod statements;
 
 pub use checking::has_meaning;
 pub use evaluating::evaluate;
 pub use laws::needed_statements_are_the_least_set;
-pub use scanned::scanned_keys;
+pub use needed_files::{Fetch, Fetches, fetched_keys};
 pub use stages::runs;
 
 #[cfg(test)]

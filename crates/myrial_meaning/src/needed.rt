@@ -16,6 +16,7 @@ fn is_name(name: &Text, operand: &Operand) -> bool
     match operand {
         Operand::Named(named) => *named == *name,
         Operand::Scan(_) => false,
+        Operand::Load(_, _, _) => false,
     }
 }
 

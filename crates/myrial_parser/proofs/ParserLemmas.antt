@@ -11,8 +11,9 @@ use Rattle.myrial_parser.specs.declared.terminals.Symbol.{Symbol}
 use Rattle.myrial_parser.specs.declared.terminals.Symbol.TheVariants.{Keyword as Word, Sign}
 use Rattle.myrial_parser.specs.Terminals.{Terminal, Fixed}
 use Rattle.myrial_parser.specs.Symbols as s
-use Rattle.myrial_parser.specs.Phrases.{Chain, alone, joined, Pair, single, compared, Prefixed, plain, behind}
-use Rattle.myrial_parser.specs.inner.Descent.{Input, Parsed, Parser, ◌>>=◌, operator_ahead, chain, chain_from, chain_by, pair, pair_by, prefixed, is_symbol, same_symbol, sees, expect, name, number, in_parens, symbol_ahead}
+use Rattle.myrial_parser.specs.Phrases.{Chain, alone, joined, Pair, single, compared, Prefixed, plain, behind, is_word, Called, called}
+use Rattle.myrial_parser.specs.inner.Descent.{Input, Parsed, Parser, ◌>>=◌, operator_ahead, chain, chain_from, chain_by, pair, pair_by, prefixed, is_symbol, same_symbol, sees, expect, name, number, in_parens, symbol_ahead, word}
+use Rattle.myrial_parser.specs.inner.Descent as d
 
 -- what a rule reads at a place: a phrase, and the rest
 pub record Reading {A : Type 0} (Is : Input → A → Type 0) (i : Input) (a : A) (rest : Input) : Type 0 where
@@ -434,3 +435,51 @@ word-reads {A = A} symbol Is node Phrase make i a rest r = record { front = Fixe
   where
     by : (ts : Input) (a : A) → IsEnclosed Is ts a → Phrase (Fixed symbol ∷ ts) (node a)
     by _ _ (enclosed ts a h) = make ts a h
+
+-- ---- a word that isn't reserved, and what stands in parentheses behind it
+
+pub record Worded {B : Type 0} (wanted : List ℕ) (f : Parser B) (i : Input) (b : B) (rest : Input) : Type 0 where
+  pub text : List ℕ
+  pub is : is_word wanted text ≡ true
+  pub behind : Input
+  pub split : i ≡ Name text ∷ behind
+  pub on : f behind ≡ Some (b, rest)
+
+pub word-then : {B : Type 0} (wanted : List ℕ) (f : Parser B) (i : Input) (b : B) (rest : Input) → (word wanted i >>= λ _ behind. f behind) ≡ Some (b, rest) → Worded wanted f i b rest
+word-then wanted f [] b rest e = absurd (cc)
+word-then wanted f (Number n ∷ i) b rest e = absurd (cc)
+word-then wanted f (Quoted n ∷ i) b rest e = absurd (cc)
+word-then wanted f (Fixed n ∷ i) b rest e = absurd (cc)
+word-then {B = B} wanted f (Name text ∷ i) b rest e = by (is_word wanted text) refl e
+  where
+    by : (t : Bool) → is_word wanted text ≡ t → (cond {A = Parsed (Unit {0})} t (Some (tt, i)) None >>= λ _ behind. f behind) ≡ Some (b, rest) → Worded wanted f (Name text ∷ i) b rest
+    by true is e = record { text = text; is = is; behind = i; split = refl; on = e }
+    by false is e = absurd (cc)
+
+enclosed-Called : {A : Type 0} (wanted : List ℕ) (Is : Input → A → Type 0) (text : List ℕ) → is_word wanted text ≡ true → (ts : Input) (a : A) → IsEnclosed Is ts a → Called wanted Is (Name text ∷ ts) a
+enclosed-Called wanted Is text is _ _ (enclosed ts a h) = called text ts a is h
+
+module _ {A : Type 0} (wanted : List ℕ) (inside : Parser A) (Is : Input → A → Type 0) where
+  pub called-sound : Sound inside Is → Sound (d.called wanted inside) (Called wanted Is)
+  called-sound sound = record {
+    reads = λ i a rest e.
+        let w = word-then wanted (in_parens inside) i a rest e in
+        let r = (in_parens-sound inside Is sound).reads w.behind a rest w.on in
+        record {
+          front = Name w.text ∷ r.front;
+          split = w.split ∙ ap (λ (ts : Input). Name w.text ∷ ts) r.split;
+          is = enclosed-Called wanted Is w.text w.is r.front a r.is;
+        };
+  }
+
+  pub called-all : (goes_on : Terminal → Bool) → Complete inside Is goes_on → goes_on (Fixed s.CloseParen) ≡ false → (ts : Input) (a : A) (rest : Input) → Called wanted Is ts a → d.called wanted inside (ts ++ rest) ≡ Some (a, rest)
+  called-all goes_on complete closing _ _ rest (called text ts a is h) =
+      ap (λ t. cond {A = Parsed (Unit {0})} t (Some (tt, Fixed s.OpenParen ∷ (ts ++ Fixed s.CloseParen ∷ []) ++ rest)) None >>= λ _ behind. in_parens inside behind) is
+      ∙ in_parens-all inside Is goes_on complete closing ts a rest h
+
+pub quoted-is : (i : Input) (text : List ℕ) (rest : Input) → d.quoted i ≡ Some (text, rest) → i ≡ Quoted text ∷ rest
+quoted-is [] n rest e = absurd (cc)
+quoted-is (Quoted m ∷ i) n rest e = λ k. Quoted (same_value m n i rest e k) ∷ same_rest m n i rest e k
+quoted-is (Name m ∷ i) n rest e = absurd (cc)
+quoted-is (Number m ∷ i) n rest e = absurd (cc)
+quoted-is (Fixed m ∷ i) n rest e = absurd (cc)

@@ -1,6 +1,10 @@
 -- Relation expressions: each phrase is read by the descent.
 use Rattle.std.proofs.Common.{◌≡◌, ℕ, zero, suc, ◌+◌, ◌<◌, Bool, true, false, cond, ◌&&◌, List, [], ◌∷◌, ◌++◌, drop, length, Option, Some, None, unwrap_or, codes, refl, sym, ap, subst, ◌∙◌, append_assoc, append-nil, add-one, length-append, arith}
 use Rattle.std.specs.Prelude.{nat_lt}
+use Rattle.std.specs.Str.{bytes_eq, str_to_ascii_lowercase}
+use Rattle.std.proofs.lemmas.Slice.Eq.{bytes_eq-Decides}
+use Rattle.myrial_ast.specs.declared.relations.LoadForm.{LoadForm}
+use Rattle.myrial_parser.specs.declared.loads.Load.{Load}
 use Rattle.std.proofs.lemmas.Bool.Decides.{nat_tests}
 use Rattle.rel_base.specs.declared.values.ColType.{ColType}
 use Rattle.rel_base.specs.declared.names.Key.{Key}
@@ -18,12 +22,12 @@ use Rattle.myrial_parser.specs.declared.terminals.Symbol.{Symbol}
 use Rattle.myrial_parser.specs.declared.terminals.Symbol.TheVariants.{Keyword as Word, Sign}
 use Rattle.myrial_parser.specs.Symbols as s
 use Rattle.myrial_parser.specs.Terminals.{Terminal, Fixed, Name, Number, Quoted}
-use Rattle.myrial_parser.specs.Phrases.{Separated}
+use Rattle.myrial_parser.specs.Phrases.{Separated, is_word, Called, called}
 use Rattle.myrial_parser.specs.Grammar as g
-use Rattle.myrial_parser.specs.Grammar.{IsKey, own_key, program_key, user_key, IsSource, named_source, scanned_source, IsColumnDefinition, typed, IsItem, unaliased, aliased, IsCondition, absent, present, IsEmit, all_columns, columns_of, unnamed, named, IsExpression, IsArgument, IsRelation, type_of, own_name, is_word}
+use Rattle.myrial_parser.specs.Grammar.{IsKey, own_key, program_key, user_key, IsSkip, no_skip, a_skip, IsForm, formed, IsLoad, loaded, operand_of, IsSource, named_source, scanned_source, loaded_source, IsColumnDefinition, typed, IsItem, unaliased, aliased, IsCondition, absent, present, IsEmit, all_columns, columns_of, unnamed, named, IsExpression, IsArgument, IsRelation, type_of, own_name}
 use Rattle.myrial_parser.specs.inner.Descent as d
 use Rattle.myrial_parser.specs.inner.Descent.{Input, Parsed, Parser, ◌>>=◌, is_symbol, sees, expect, name, in_parens, key_behind, key_behind_two, kind_of, name_behind_as, separated, same_symbol}
-use Rattle.myrial_parser.proofs.ParserLemmas.{Complete, stops, either, stops-left, stops-right, same_rest, sees-is, in_parens-all, chain-none, pair-none}
+use Rattle.myrial_parser.proofs.ParserLemmas.{Complete, stops, either, stops-left, stops-right, same_rest, sees-is, in_parens-all, called-all, chain-none, pair-none}
 use Rattle.myrial_parser.proofs.SeparatedLemmas.{is_comma, separated-complete}
 use Rattle.myrial_parser.proofs.ExpressionLemmas.{is_dot}
 use Rattle.myrial_parser.proofs.LevelLemmas.{past_product, past_sum, past_comparison, past_conjunction, past_expression, expression-read, expression-refuses_star}
@@ -73,24 +77,6 @@ colon-apart : is_it s.Colon (Fixed s.CloseParen) ≡ false
 unfolding same_symbol
 colon-apart = refl
 
-source-all : (ts : Input) (o : Operand) (rest : Input) → IsSource ts o → stops nothing rest ≡ true → d.source (ts ++ rest) ≡ Some (o, rest)
-unfolding d.source same_symbol
-source-all _ _ rest (named_source n) st = refl
-source-all _ _ rest (scanned_source ts k h) st = ap (λ (r : Parsed Key). r >>= λ k rest. Some (source.Scan k, rest)) (in_parens-all d.key IsKey (is_it s.Colon) key-complete colon-apart ts k rest h)
-
-pub source-complete : Complete d.source IsSource nothing
-source-complete = record { reads = source-all }
-
-two_sources-all : (ts : Input) (p : Operand × Operand) (rest : Input) → IsTwo ts p → stops nothing rest ≡ true → d.two_sources (ts ++ rest) ≡ Some (p, rest)
-unfolding d.two_sources same_symbol
-two_sources-all _ _ rest (both_sources ts us o p h k) st =
-    ap d.two_sources (append_assoc ts (Fixed s.Comma ∷ us) rest)
-    ∙ ap (λ (r : Parsed Operand). r >>= λ left rest. expect s.Comma rest >>= λ _ behind. d.source behind >>= λ right end. Some ((left, right), end)) (source-all ts o (Fixed s.Comma ∷ us ++ rest) h refl)
-    ∙ ap (λ (r : Parsed Operand). r >>= λ right end. Some ((o, right), end)) (source-all us p rest k st)
-
-pub two_sources-complete : Complete d.two_sources IsTwo nothing
-two_sources-complete = record { reads = two_sources-all }
-
 -- ---- columns of `empty`
 
 column_definition-all : (ts : Input) (c : Column) (rest : Input) → IsColumnDefinition ts c → stops nothing rest ≡ true → d.column_definition (ts ++ rest) ≡ Some (c, rest)
@@ -104,37 +90,106 @@ no_column : d.column_definition [] ≡ None
 unfolding d.column_definition
 no_column = refl
 
-columns-complete : Complete (separated d.column_definition) (Separated IsColumnDefinition) (either nothing is_comma)
+-- an opening parenthesis goes on with a name
+abbrev opens : Terminal → Bool
+opens = is_it s.OpenParen
+
+-- a phrase that is read wherever it stands is read where some terminals don't follow it
+anywhere : {A : Type 0} (rule : Parser A) (Is : Input → A → Type 0) (goes_on : Terminal → Bool) → Complete rule Is nothing → Complete rule Is goes_on
+anywhere rule Is goes_on complete = record { reads = λ ts a rest h st. complete.reads ts a rest h (stops-nothing rest) }
+
+comma-opens : opens (Fixed s.Comma) ≡ false
+unfolding same_symbol
+comma-opens = refl
+
+columns-complete : Complete (separated d.column_definition) (Separated IsColumnDefinition) (either opens is_comma)
 columns-complete =
-    separated-complete d.column_definition IsColumnDefinition nothing column_definition-complete refl (some-from_complete d.column_definition IsColumnDefinition nothing column_definition-complete no_column)
+    separated-complete d.column_definition IsColumnDefinition opens (anywhere d.column_definition IsColumnDefinition opens column_definition-complete) comma-opens
+    (some-from_complete d.column_definition IsColumnDefinition nothing column_definition-complete no_column)
+
+columns-apart : either opens is_comma (Fixed s.CloseParen) ≡ false
+unfolding same_symbol
+columns-apart = refl
+
+-- ---- loads
+
+skip-all : (ts : Input) (n : ℕ) (rest : Input) → IsSkip ts n → stops is_comma rest ≡ true → d.skip (ts ++ rest) ≡ Some (n, rest)
+unfolding d.skip same_symbol
+skip-all _ _ rest no_skip st = ap (λ t. cond {A = Parsed ℕ} t (d.word (codes "skip") (drop 1 rest) >>= λ _ rest. expect s.Eq rest >>= λ _ rest. d.number rest) (Some (0, rest))) (unseen s.Comma rest st)
+skip-all _ _ rest (a_skip word n is) st =
+    ap (λ t. cond {A = Parsed (Unit {0})} t (Some (tt, Fixed s.Eq ∷ Number n ∷ rest)) None >>= λ _ rest. expect s.Eq rest >>= λ _ rest. d.number rest) is
+
+form-all : (ts : Input) (f : LoadForm) (rest : Input) → IsForm ts f → stops is_comma rest ≡ true → d.form (ts ++ rest) ≡ Some (f, rest)
+unfolding d.form
+form-all _ _ rest (formed ts us columns n h k) st =
+    ap d.form (append_assoc ts us rest)
+    ∙ ap (λ (o : Parsed (List Column)). o >>= λ columns rest. d.skip rest >>= λ n end. Some (record { schema = columns; skip = n }, end))
+    (called-all (codes "schema") (separated d.column_definition) (Separated IsColumnDefinition) (either opens is_comma) columns-complete columns-apart ts columns (us ++ rest) h)
+    ∙ ap (λ (o : Parsed ℕ). o >>= λ n end. Some (record { schema = columns; skip = n }, end)) (skip-all us n rest k st)
+
+comma-apart_closing : is_comma (Fixed s.CloseParen) ≡ false
+unfolding same_symbol
+comma-apart_closing = refl
+
+load-all : (ts : Input) (l : Load) (rest : Input) → IsLoad ts l → stops nothing rest ≡ true → d.load (ts ++ rest) ≡ Some (l, rest)
+unfolding d.load same_symbol
+load-all _ _ rest (loaded file ts f h) st =
+    ap (λ (o : Parsed LoadForm). o >>= λ f end. Some (record { file = file; form = f }, end)) (called-all (codes "csv") d.form IsForm is_comma (record { reads = form-all }) comma-apart_closing ts f rest h)
+
+-- ---- operands
+
+and-false : (b : Bool) → (b && false) ≡ false
+and-false true = refl
+and-false false = refl
+
+source-all : (ts : Input) (o : Operand) (rest : Input) → IsSource ts o → stops opens rest ≡ true → d.source (ts ++ rest) ≡ Some (o, rest)
+unfolding d.source same_symbol
+source-all _ _ rest (named_source n) st =
+    ap (λ t. cond {A = Parsed Operand} (is_word (codes "load") n && t) (d.called (codes "load") d.load (Name n ∷ rest) >>= λ l rest. Some (operand_of l, rest)) (Some (source.Named n, rest))) (unseen s.OpenParen rest st)
+    ∙ ap (λ t. cond {A = Parsed Operand} t (d.called (codes "load") d.load (Name n ∷ rest) >>= λ l rest. Some (operand_of l, rest)) (Some (source.Named n, rest))) (and-false (is_word (codes "load") n))
+source-all _ _ rest (scanned_source ts k h) st = ap (λ (r : Parsed Key). r >>= λ k rest. Some (source.Scan k, rest)) (in_parens-all d.key IsKey (is_it s.Colon) key-complete colon-apart ts k rest h)
+source-all _ _ rest (loaded_source _ _ (called w ts l is h)) st =
+    let all = Name w ∷ Fixed s.OpenParen ∷ (ts ++ Fixed s.CloseParen ∷ []) ++ rest in
+    ap (λ t. cond {A = Parsed Operand} (t && true) (d.called (codes "load") d.load all >>= λ l rest. Some (operand_of l, rest)) (name all >>= λ n rest. Some (source.Named n, rest))) is
+    ∙ ap (λ (o : Parsed Load). o >>= λ l rest. Some (operand_of l, rest)) (called-all (codes "load") d.load IsLoad nothing (record { reads = load-all }) refl _ l rest (called w ts l is h))
+
+source-complete : Complete d.source IsSource opens
+source-complete = record { reads = source-all }
+
+two_sources-all : (ts : Input) (p : Operand × Operand) (rest : Input) → IsTwo ts p → stops opens rest ≡ true → d.two_sources (ts ++ rest) ≡ Some (p, rest)
+unfolding d.two_sources same_symbol
+two_sources-all _ _ rest (both_sources ts us o p h k) st =
+    ap d.two_sources (append_assoc ts (Fixed s.Comma ∷ us) rest)
+    ∙ ap (λ (r : Parsed Operand). r >>= λ left rest. expect s.Comma rest >>= λ _ behind. d.source behind >>= λ right end. Some ((left, right), end)) (source-all ts o (Fixed s.Comma ∷ us ++ rest) h refl)
+    ∙ ap (λ (r : Parsed Operand). r >>= λ right end. Some ((o, right), end)) (source-all us p rest k st)
 
 -- ---- items
 
 name_behind_as-none : (rest : Input) → stops (is_it s.As) rest ≡ true → name_behind_as rest ≡ Some (None, rest)
 name_behind_as-none rest st = ap (λ t. cond t (name (drop 1 rest) >>= λ n end. Some (Some n, end)) (Some (None, rest))) (unseen s.As rest st)
 
-item-all : (ts : Input) (b : FromItem) (rest : Input) → IsItem ts b → stops (is_it s.As) rest ≡ true → d.item (ts ++ rest) ≡ Some (b, rest)
+item-all : (ts : Input) (b : FromItem) (rest : Input) → IsItem ts b → stops (either opens (is_it s.As)) rest ≡ true → d.item (ts ++ rest) ≡ Some (b, rest)
 unfolding d.item same_symbol
 item-all ts _ rest (unaliased _ o h) st =
-    ap (λ (r : Parsed Operand). r >>= λ o rest. name_behind_as rest >>= λ alias end. Some (record { source = o; alias = unwrap_or alias (own_name o) }, end)) (source-all ts o rest h (stops-nothing rest))
-    ∙ ap (λ (r : Parsed (Option (List ℕ))). r >>= λ alias end. Some (record { source = o; alias = unwrap_or alias (own_name o) }, end)) (name_behind_as-none rest st)
+    ap (λ (r : Parsed Operand). r >>= λ o rest. name_behind_as rest >>= λ alias end. Some (record { source = o; alias = unwrap_or alias (own_name o) }, end)) (source-all ts o rest h (stops-left opens (is_it s.As) rest st))
+    ∙ ap (λ (r : Parsed (Option (List ℕ))). r >>= λ alias end. Some (record { source = o; alias = unwrap_or alias (own_name o) }, end)) (name_behind_as-none rest (stops-right opens (is_it s.As) rest st))
 item-all _ _ rest (aliased ts o n h) st =
     ap d.item (append_assoc ts (Fixed s.As ∷ Name n ∷ []) rest)
     ∙ ap (λ (r : Parsed Operand). r >>= λ o rest. name_behind_as rest >>= λ alias end. Some (record { source = o; alias = unwrap_or alias (own_name o) }, end)) (source-all ts o (Fixed s.As ∷ Name n ∷ rest) h refl)
 
-pub item-complete : Complete d.item IsItem (is_it s.As)
+item-complete : Complete d.item IsItem (either opens (is_it s.As))
 item-complete = record { reads = item-all }
 
 no_item : d.item [] ≡ None
 unfolding d.item d.source
 no_item = refl
 
-as-apart : is_it s.As (Fixed s.Comma) ≡ false
+as-apart : either opens (is_it s.As) (Fixed s.Comma) ≡ false
 unfolding same_symbol
 as-apart = refl
 
-items-complete : Complete (separated d.item) (Separated IsItem) (either (is_it s.As) is_comma)
-items-complete = separated-complete d.item IsItem (is_it s.As) item-complete as-apart (some-from_complete d.item IsItem (is_it s.As) item-complete no_item)
+items-complete : Complete (separated d.item) (Separated IsItem) (either (either opens (is_it s.As)) is_comma)
+items-complete = separated-complete d.item IsItem (either opens (is_it s.As)) item-complete as-apart (some-from_complete d.item IsItem (either opens (is_it s.As)) item-complete no_item)
 
 -- ---- conditions and emit items
 
@@ -248,7 +303,7 @@ emits-complete =
 -- ---- relation expressions
 
 -- a condition or the word `emit` ends the items
-condition-stops : (us : Input) (c : Option Tree) (rest : Input) → IsCondition us c → stops (either (is_it s.As) is_comma) (us ++ Fixed s.Emit ∷ rest) ≡ true
+condition-stops : (us : Input) (c : Option Tree) (rest : Input) → IsCondition us c → stops (either (either opens (is_it s.As)) is_comma) (us ++ Fixed s.Emit ∷ rest) ≡ true
 unfolding same_symbol
 condition-stops _ _ rest absent = refl
 condition-stops _ _ rest (present ts e h) = refl
@@ -267,23 +322,19 @@ comprehension-all ts us vs items condition emits rest h k l =
     joined : (((ts ++ us) ++ (Fixed s.Emit ∷ vs)) ++ (Fixed s.CloseBracket ∷ [])) ++ rest ≡ ts ++ (us ++ (Fixed s.Emit ∷ (vs ++ (Fixed s.CloseBracket ∷ rest))))
     joined = simp append_assoc
 
-columns-apart : either nothing is_comma (Fixed s.CloseParen) ≡ false
-unfolding same_symbol
-columns-apart = refl
-
 -- an argument is read in front of the closing parenthesis
-argument-all : (word : Keyword) (ts : Input) (b : RelTree) (rest : Input) → IsArgument word ts b → stops (either nothing is_comma) rest ≡ true → d.argument word (ts ++ rest) ≡ Some (b, rest)
+argument-all : (word : Keyword) (ts : Input) (b : RelTree) (rest : Input) → IsArgument word ts b → stops (either opens is_comma) rest ≡ true → d.argument word (ts ++ rest) ≡ Some (b, rest)
 unfolding d.argument
 argument-all _ _ _ rest (g.of_columns ts columns h) st = ap (λ (o : Parsed (List Column)). o >>= λ columns rest. Some (tree.Empty columns, rest)) (columns-complete.reads ts columns rest h st)
-argument-all _ _ _ rest (g.of_one ts o h) st = ap (λ (r : Parsed Operand). r >>= λ o rest. Some (tree.Distinct o, rest)) (source-all ts o rest h (stops-nothing rest))
+argument-all _ _ _ rest (g.of_one ts o h) st = ap (λ (r : Parsed Operand). r >>= λ o rest. Some (tree.Distinct o, rest)) (source-all ts o rest h (stops-left opens is_comma rest st))
 argument-all _ _ _ rest (g.of_both ts us o p h k) st =
-    ap (λ (r : Parsed (Operand × Operand)). r >>= λ p rest. Some (tree.UnionAll p.0 p.1, rest)) (two_sources-all (ts ++ Fixed s.Comma ∷ us) (o, p) rest (both_sources ts us o p h k) (stops-nothing rest))
+    ap (λ (r : Parsed (Operand × Operand)). r >>= λ p rest. Some (tree.UnionAll p.0 p.1, rest)) (two_sources-all (ts ++ Fixed s.Comma ∷ us) (o, p) rest (both_sources ts us o p h k) (stops-left opens is_comma rest st))
 argument-all _ _ _ rest (g.of_difference ts us o p h k) st =
-    ap (λ (r : Parsed (Operand × Operand)). r >>= λ p rest. Some (tree.Diff p.0 p.1, rest)) (two_sources-all (ts ++ Fixed s.Comma ∷ us) (o, p) rest (both_sources ts us o p h k) (stops-nothing rest))
+    ap (λ (r : Parsed (Operand × Operand)). r >>= λ p rest. Some (tree.Diff p.0 p.1, rest)) (two_sources-all (ts ++ Fixed s.Comma ∷ us) (o, p) rest (both_sources ts us o p h k) (stops-left opens is_comma rest st))
 
-called-all : (word : Keyword) (ts : Input) (b : RelTree) (rest : Input) → IsArgument word ts b → d.relation (Fixed (Word word) ∷ Fixed s.OpenParen ∷ (ts ++ Fixed s.CloseParen ∷ []) ++ rest) ≡ Some (b, rest)
+argument-called : (word : Keyword) (ts : Input) (b : RelTree) (rest : Input) → IsArgument word ts b → d.relation (Fixed (Word word) ∷ Fixed s.OpenParen ∷ (ts ++ Fixed s.CloseParen ∷ []) ++ rest) ≡ Some (b, rest)
 unfolding d.relation
-called-all word ts b rest h = by word ts b h (in_parens-all (d.argument word) (IsArgument word) (either nothing is_comma) (record { reads = argument-all word }) columns-apart ts b rest h)
+argument-called word ts b rest h = by word ts b h (in_parens-all (d.argument word) (IsArgument word) (either opens is_comma) (record { reads = argument-all word }) columns-apart ts b rest h)
   where
     by : (word : Keyword) (ts : Input) (b : RelTree) → IsArgument word ts b → in_parens (d.argument word) (Fixed s.OpenParen ∷ (ts ++ Fixed s.CloseParen ∷ []) ++ rest) ≡ Some (b, rest)
         → d.relation_by (Some (Word word)) (Fixed (Word word) ∷ Fixed s.OpenParen ∷ (ts ++ Fixed s.CloseParen ∷ []) ++ rest) ≡ Some (b, rest)
@@ -298,7 +349,7 @@ unfolding d.condition same_symbol
 condition-end _ _ absent = refl
 condition-end _ _ (present ts e h) = ap (λ (o : Parsed Tree). o >>= λ a rest. Some (Some a, rest)) (ap d.whole_expression (sym (append-nil ts)) ∙ whole_expression-all ts e [] h refl)
 
-condition-behind : (us : Input) (c : Option Tree) → IsCondition us c → stops (either (is_it s.As) is_comma) us ≡ true
+condition-behind : (us : Input) (c : Option Tree) → IsCondition us c → stops (either (either opens (is_it s.As)) is_comma) us ≡ true
 unfolding same_symbol
 condition-behind _ _ absent = refl
 condition-behind _ _ (present ts e h) = refl
@@ -324,17 +375,25 @@ selected-all word ts us vs emits items condition is h k l =
     two : (ts us : Input) → nat_lt 1 (length (Name word ∷ (ts ++ (Fixed s.From ∷ us)))) ≡ true
     two ts us = let lens = length-append ts (Fixed s.From ∷ us) in grind (arith, nat_tests)
 
-and-false : (b : Bool) → (b && false) ≡ false
-and-false true = refl
-and-false false = refl
+-- `load` isn't `select`
+load-no_select : (word : List ℕ) → is_word (codes "load") word ≡ true → is_word (codes "select") word ≡ false
+load-no_select word is =
+    let same = (bytes_eq-Decides (str_to_ascii_lowercase word) (codes "load")).0 is in
+    ap (λ (ts : List ℕ). bytes_eq ts (codes "select")) same
 
 -- each relation expression is read to the end of its piece
 relation-all : (ts : Input) (b : RelTree) → IsRelation ts b → d.relation (ts ++ []) ≡ Some (b, [])
 unfolding d.relation d.source d.sees_select same_symbol
-relation-all _ _ (g.copied _ _ (named_source n)) = ap (λ t. cond t (d.selection []) (d.copied (Name n ∷ []))) (and-false (is_word (codes "select") n))
+relation-all _ _ (g.copied _ _ (named_source n)) =
+    ap (λ t. cond t (d.selection []) (d.copied (Name n ∷ []))) (and-false (is_word (codes "select") n))
+    ∙ ap (λ (r : Parsed Operand). r >>= λ o rest. Some (tree.Copy o, rest)) (source-all (Name n ∷ []) (source.Named n) [] (named_source n) refl)
 relation-all _ _ (g.copied _ _ (scanned_source ts k h)) =
-    ap (λ (r : Parsed Key). (r >>= λ k rest. Some (source.Scan k, rest)) >>= λ o rest. Some (tree.Copy o, rest)) (in_parens-all d.key IsKey (is_it s.Colon) key-complete colon-apart ts k [] h)
-relation-all _ _ (g.called word ts b h) = called-all word ts b [] h
+    ap (λ (r : Parsed Operand). r >>= λ o rest. Some (tree.Copy o, rest)) (source-all _ (source.Scan k) [] (scanned_source ts k h) refl)
+relation-all _ _ (g.copied _ _ (loaded_source _ _ (called w ts l is h))) =
+    let behind = Fixed s.OpenParen ∷ (ts ++ Fixed s.CloseParen ∷ []) ++ [] in
+    ap (λ t. cond (t && nat_lt 1 (length (Name w ∷ behind))) (d.selection behind) (d.copied (Name w ∷ behind))) (load-no_select w is)
+    ∙ ap (λ (r : Parsed Operand). r >>= λ o rest. Some (tree.Copy o, rest)) (source-all _ (operand_of l) [] (loaded_source _ l (called w ts l is h)) refl)
+relation-all _ _ (g.called word ts b h) = argument-called word ts b [] h
 relation-all _ _ (g.comprehension ts us vs items condition emits h k l) = comprehension-all ts us vs items condition emits [] h k l
 relation-all _ _ (g.selected word ts us vs emits items condition is h k l) =
     ap d.relation (append-nil (Name word ∷ (ts ++ (Fixed s.From ∷ (us ++ vs))))) ∙ selected-all word ts us vs emits items condition is h k l

@@ -14,12 +14,12 @@ use Rattle.myrial_parser.specs.declared.terminals.Symbol.{Symbol}
 use Rattle.myrial_parser.specs.declared.terminals.Symbol.TheVariants.{Keyword as Word, Sign}
 use Rattle.myrial_parser.specs.Symbols as s
 use Rattle.myrial_parser.specs.Terminals.{Fixed, Name, Number, Quoted}
-use Rattle.myrial_parser.specs.Phrases.{Separated}
+use Rattle.myrial_parser.specs.Phrases.{Separated, is_word}
 use Rattle.myrial_parser.specs.Grammar as g
-use Rattle.myrial_parser.specs.Grammar.{IsKey, own_key, program_key, user_key, IsSource, named_source, scanned_source, IsColumnDefinition, typed, IsItem, unaliased, aliased, IsCondition, absent, present, IsEmit, all_columns, columns_of, unnamed, named, IsExpression, Expression, IsArgument, IsRelation, type_of, own_name, is_word}
+use Rattle.myrial_parser.specs.Grammar.{IsKey, own_key, program_key, user_key, IsSkip, no_skip, a_skip, IsForm, formed, IsLoad, loaded, operand_of, IsSource, named_source, scanned_source, loaded_source, IsColumnDefinition, typed, IsItem, unaliased, aliased, IsCondition, absent, present, IsEmit, all_columns, columns_of, unnamed, named, IsExpression, Expression, IsArgument, IsRelation, type_of, own_name}
 use Rattle.myrial_parser.specs.inner.Descent as d
 use Rattle.myrial_parser.specs.inner.Descent.{Input, first, Parsed, Parser, ◌>>=◌, sees, expect, name, in_parens, key_behind_two, key_behind, kind_of, name_behind_as, separated, symbol_ahead}
-use Rattle.myrial_parser.proofs.ParserLemmas.{Reading, Sound, steps, same_value, same_rest, finish, sees-is, symbol_ahead-is, expect-then, name-then, in_parens-sound, word-reads}
+use Rattle.myrial_parser.proofs.ParserLemmas.{Reading, Sound, steps, same_value, same_rest, finish, sees-is, symbol_ahead-is, expect-then, name-then, number-is, quoted-is, word-then, called-sound, in_parens-sound, word-reads}
 use Rattle.myrial_parser.proofs.SeparatedLemmas.{separated-sound}
 use Rattle.myrial_parser.proofs.LevelLemmas.{expression-sound}
 
@@ -62,41 +62,6 @@ key-sound = record {
       record { front = Name n.text ∷ r.front; split = n.split ∙ ap (λ (ts : Input). Name n.text ∷ ts) r.split; is = r.is };
 }
 
-source-reads : (i : Input) (o : Operand) (rest : Input) → d.source i ≡ Some (o, rest) → Reading IsSource i o rest
-unfolding d.source
-source-reads i o rest e = by (sees s.Scan i) refl e
-  where
-    by : (t : Bool) → sees s.Scan i ≡ t
-        → ◌≡◌ {A = Parsed Operand} (cond t (in_parens d.key (drop 1 i) >>= λ k rest. Some (source.Scan k, rest)) (name i >>= λ n rest. Some (source.Named n, rest))) (Some (o, rest)) → Reading IsSource i o rest
-    by false is e =
-        let n = name-then (λ n rest. Some (source.Named n, rest)) i o rest e in
-        finish IsSource i (Name n.text ∷ []) n.behind _ o rest n.split (named_source n.text) n.on
-    by true is e =
-        let two = steps (in_parens d.key (drop 1 i)) (λ k rest. Some (source.Scan k, rest)) o rest e in
-        let k = (in_parens-sound d.key IsKey key-sound).reads (drop 1 i) two.value two.middle two.start in
-        let r = word-reads s.Scan IsKey source.Scan IsSource scanned_source (drop 1 i) two.value two.middle k in
-        finish IsSource i r.front two.middle _ o rest (sees-is s.Scan i is ∙ r.split) r.is two.end
-
-pub source-sound : Sound d.source IsSource
-source-sound = record { reads = source-reads }
-
--- two operands with a comma between them
-pub data IsTwo : Input → Operand × Operand → Type 0 where
-  both_sources : (ts us : Input) (o p : Operand) → IsSource ts o → IsSource us p → IsTwo (ts ++ Fixed s.Comma ∷ us) (o, p)
-
-pub two_sources-sound : Sound d.two_sources IsTwo
-unfolding d.two_sources
-two_sources-sound = record {
-  reads = λ i b rest e.
-      let l = steps (d.source i) (λ left rest. expect s.Comma rest >>= λ _ behind. d.source behind >>= λ right end. Some ((left, right), end)) b rest e in
-      let left = source-reads i l.value l.middle l.start in
-      let comma = expect-then s.Comma (λ behind. d.source behind >>= λ right end. Some ((l.value, right), end)) l.middle b rest l.end in
-      let r = steps (d.source comma.behind) (λ right end. Some ((l.value, right), end)) b rest comma.on in
-      let right = source-reads comma.behind r.value r.middle r.start in
-      let split = left.split ∙ ap (λ (ts : Input). left.front ++ ts) (comma.split ∙ ap (λ (ts : Input). Fixed s.Comma ∷ ts) right.split) ∙ sym (append_assoc left.front (Fixed s.Comma ∷ right.front) r.middle) in
-      finish IsTwo i (left.front ++ Fixed s.Comma ∷ right.front) r.middle (l.value, r.value) b rest split (both_sources left.front right.front l.value r.value left.is right.is) r.end;
-}
-
 -- ---- columns of `empty`
 
 kind_of-is : (o : Option ColType) (i : Input) (k : ColType) (rest : Input) → kind_of o i ≡ Some (k, rest) → (o ≡ Some k) × (i ≡ rest)
@@ -126,6 +91,93 @@ column_definition-sound = record {
       let w = kind-reads colon.behind k.value k.middle k.start in
       let split = n.split ∙ ap (λ (ts : Input). Name n.text ∷ ts) (colon.split ∙ ap (λ (ts : Input). Fixed s.Colon ∷ ts) w.split) in
       finish IsColumnDefinition i (Name n.text ∷ Fixed s.Colon ∷ Name w.word ∷ []) k.middle _ c rest split (typed n.text w.word k.value w.is) k.end;
+}
+
+columns-sound : Sound (separated d.column_definition) (Separated IsColumnDefinition)
+columns-sound = separated-sound d.column_definition IsColumnDefinition column_definition-sound
+
+-- ---- loads
+
+skip-sound : Sound d.skip IsSkip
+unfolding d.skip
+skip-sound = record { reads = λ i n rest e. by i n rest (sees s.Comma i) refl e }
+  where
+    by : (i : Input) (n : ℕ) (rest : Input) (t : Bool) → sees s.Comma i ≡ t
+        → ◌≡◌ {A = Parsed ℕ} (cond t (d.word (codes "skip") (drop 1 i) >>= λ _ rest. expect s.Eq rest >>= λ _ rest. d.number rest) (Some (0, i))) (Some (n, rest)) → Reading IsSkip i n rest
+    by i n rest false is e = finish IsSkip i [] i 0 n rest refl no_skip e
+    by i n rest true is e =
+        let w = word-then (codes "skip") (λ rest. expect s.Eq rest >>= λ _ rest. d.number rest) (drop 1 i) n rest e in
+        let eq = expect-then s.Eq (λ rest. d.number rest) w.behind n rest w.on in
+        let split = sees-is s.Comma i is ∙ ap (λ (ts : Input). Fixed s.Comma ∷ ts) (w.split ∙ ap (λ (ts : Input). Name w.text ∷ ts) (eq.split ∙ ap (λ (ts : Input). Fixed s.Eq ∷ ts) (number-is eq.behind n rest eq.on))) in
+        record { front = Fixed s.Comma ∷ Name w.text ∷ Fixed s.Eq ∷ Number n ∷ []; split = split; is = a_skip w.text n w.is }
+
+form-sound : Sound d.form IsForm
+unfolding d.form
+form-sound = record {
+  reads = λ i f rest e.
+      let two = steps (d.called (codes "schema") (separated d.column_definition) i) (λ columns rest. d.skip rest >>= λ n end. Some (record { schema = columns; skip = n }, end)) f rest e in
+      let more = steps (d.skip two.middle) (λ n end. Some (record { schema = two.value; skip = n }, end)) f rest two.end in
+      let left = (called-sound (codes "schema") (separated d.column_definition) (Separated IsColumnDefinition) columns-sound).reads i two.value two.middle two.start in
+      let right = skip-sound.reads two.middle more.value more.middle more.start in
+      finish IsForm i (left.front ++ right.front) more.middle _ f rest (left.split ∙ ap (λ (ts : Input). left.front ++ ts) right.split ∙ sym (append_assoc left.front right.front more.middle))
+      (formed left.front right.front two.value more.value left.is right.is) more.end;
+}
+
+load-sound : Sound d.load IsLoad
+unfolding d.load
+load-sound = record {
+  reads = λ i l rest e.
+      let two = steps (d.quoted i) (λ file rest. expect s.Comma rest >>= λ _ rest. d.called (codes "csv") d.form rest >>= λ f end. Some (record { file = file; form = f }, end)) l rest e in
+      let comma = expect-then s.Comma (λ rest. d.called (codes "csv") d.form rest >>= λ f end. Some (record { file = two.value; form = f }, end)) two.middle l rest two.end in
+      let more = steps (d.called (codes "csv") d.form comma.behind) (λ f end. Some (record { file = two.value; form = f }, end)) l rest comma.on in
+      let r = (called-sound (codes "csv") d.form IsForm form-sound).reads comma.behind more.value more.middle more.start in
+      finish IsLoad i (Quoted two.value ∷ Fixed s.Comma ∷ r.front) more.middle _ l rest
+      (quoted-is i two.value two.middle two.start ∙ ap (λ (ts : Input). Quoted two.value ∷ ts) (comma.split ∙ ap (λ (ts : Input). Fixed s.Comma ∷ ts) r.split)) (loaded two.value r.front more.value r.is) more.end;
+}
+
+-- ---- operands
+
+source-reads : (i : Input) (o : Operand) (rest : Input) → d.source i ≡ Some (o, rest) → Reading IsSource i o rest
+unfolding d.source
+source-reads i o rest e = by (sees s.Scan i) refl e
+  where
+    on : (t : Bool) → ◌≡◌ {A = Parsed Operand} (cond t (d.called (codes "load") d.load i >>= λ l rest. Some (operand_of l, rest)) (name i >>= λ n rest. Some (source.Named n, rest))) (Some (o, rest)) → Reading IsSource i o rest
+    on false e =
+        let n = name-then (λ n rest. Some (source.Named n, rest)) i o rest e in
+        finish IsSource i (Name n.text ∷ []) n.behind _ o rest n.split (named_source n.text) n.on
+    on true e =
+        let two = steps (d.called (codes "load") d.load i) (λ l rest. Some (operand_of l, rest)) o rest e in
+        let r = (called-sound (codes "load") d.load IsLoad load-sound).reads i two.value two.middle two.start in
+        finish IsSource i r.front two.middle _ o rest r.split (loaded_source r.front two.value r.is) two.end
+
+    by : (t : Bool) → sees s.Scan i ≡ t
+        → ◌≡◌ {A = Parsed Operand} (cond t (in_parens d.key (drop 1 i) >>= λ k rest. Some (source.Scan k, rest))
+        (cond (d.sees_load i) (d.called (codes "load") d.load i >>= λ l rest. Some (operand_of l, rest)) (name i >>= λ n rest. Some (source.Named n, rest)))) (Some (o, rest)) → Reading IsSource i o rest
+    by false is e = on (d.sees_load i) e
+    by true is e =
+        let two = steps (in_parens d.key (drop 1 i)) (λ k rest. Some (source.Scan k, rest)) o rest e in
+        let k = (in_parens-sound d.key IsKey key-sound).reads (drop 1 i) two.value two.middle two.start in
+        let r = word-reads s.Scan IsKey source.Scan IsSource scanned_source (drop 1 i) two.value two.middle k in
+        finish IsSource i r.front two.middle _ o rest (sees-is s.Scan i is ∙ r.split) r.is two.end
+
+pub source-sound : Sound d.source IsSource
+source-sound = record { reads = source-reads }
+
+-- two operands with a comma between them
+pub data IsTwo : Input → Operand × Operand → Type 0 where
+  both_sources : (ts us : Input) (o p : Operand) → IsSource ts o → IsSource us p → IsTwo (ts ++ Fixed s.Comma ∷ us) (o, p)
+
+pub two_sources-sound : Sound d.two_sources IsTwo
+unfolding d.two_sources
+two_sources-sound = record {
+  reads = λ i b rest e.
+      let l = steps (d.source i) (λ left rest. expect s.Comma rest >>= λ _ behind. d.source behind >>= λ right end. Some ((left, right), end)) b rest e in
+      let left = source-reads i l.value l.middle l.start in
+      let comma = expect-then s.Comma (λ behind. d.source behind >>= λ right end. Some ((l.value, right), end)) l.middle b rest l.end in
+      let r = steps (d.source comma.behind) (λ right end. Some ((l.value, right), end)) b rest comma.on in
+      let right = source-reads comma.behind r.value r.middle r.start in
+      let split = left.split ∙ ap (λ (ts : Input). left.front ++ ts) (comma.split ∙ ap (λ (ts : Input). Fixed s.Comma ∷ ts) right.split) ∙ sym (append_assoc left.front (Fixed s.Comma ∷ right.front) r.middle) in
+      finish IsTwo i (left.front ++ Fixed s.Comma ∷ right.front) r.middle (l.value, r.value) b rest split (both_sources left.front right.front l.value r.value left.is right.is) r.end;
 }
 
 -- ---- items
@@ -227,9 +279,6 @@ emit-sound = record { reads = λ i b rest e. by i b rest (sees s.Star i) refl e 
     by i b rest false is e = on i b rest (sees s.Dot (drop 1 i) && sees s.Star (drop 2 i)) refl e
 
 -- ---- relation expressions
-
-columns-sound : Sound (separated d.column_definition) (Separated IsColumnDefinition)
-columns-sound = separated-sound d.column_definition IsColumnDefinition column_definition-sound
 
 comprehension-reads : (i : Input) (b : RelTree) (rest : Input) → d.comprehension i ≡ Some (b, rest) → Reading (λ ts r. IsRelation (Fixed s.OpenBracket ∷ ts) r) i b rest
 unfolding d.comprehension

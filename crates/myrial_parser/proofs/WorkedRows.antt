@@ -12,9 +12,9 @@ use Rattle.myrial_lexer.specs.declared.kinds.TokenKind.TheVariants as kind
 use Rattle.myrial_lexer.specs.declared.kinds.Sign.TheVariants as sign
 use Rattle.myrial_parser.specs.declared.terminals.Keyword.TheVariants as keyword
 use Rattle.myrial_parser.specs.Symbols as s
-use Rattle.myrial_parser.specs.Terminals.{Terminal, Fixed, Name, Number, reserved}
+use Rattle.myrial_parser.specs.Terminals.{Terminal, Fixed, Name, Number, Quoted, reserved}
 use Rattle.myrial_parser.specs.Grammar.{IsExpression, Reads, type_of}
-use Rattle.myrial_parser.specs.Pieces.{pieces_of}
+use Rattle.myrial_parser.specs.Pieces.{pieces_of, columns_of}
 use Rattle.myrial_parser.specs.inner.Descent as d
 use Rattle.myrial_parser.proofs.ParserLemmas.{same_rest}
 use Rattle.myrial_parser.proofs.RelationSound.{whole_expression-sound}
@@ -196,6 +196,29 @@ pub selected_comprehension : Reads (c ∷ Fixed s.Eq ∷ Name (codes "SELECT") �
 unfolding d.statement d.assignment d.relation d.sees_select d.selection d.item d.source d.condition d.emit d.emitted d.emitted_alias d.whole_expression d.expression d.disjunction d.conjunction d.negation d.comparison d.sum d.product d.signed d.primary d.same_symbol
 selected_comprehension = is_statement _ _ refl
 
+-- `c = load("f", csv(schema(a:int), skip=2))`
+pub load_behind_two_records : Reads (c ∷ Fixed s.Eq ∷ Name (codes "load") ∷ Fixed s.OpenParen ∷ Quoted (codes "f") ∷ Fixed s.Comma ∷ Name (codes "csv") ∷ Fixed s.OpenParen ∷ Name (codes "schema") ∷ Fixed s.OpenParen
+    ∷ a ∷ Fixed s.Colon ∷ Name (codes "int") ∷ Fixed s.CloseParen ∷ Fixed s.Comma ∷ Name (codes "skip") ∷ Fixed s.Eq ∷ Number 2 ∷ Fixed s.CloseParen ∷ Fixed s.CloseParen ∷ [])
+    (Assign (codes "c") (Copy (source.Load (codes "f") (record { name = codes "a"; kind = type.Int } ∷ []) 2)))
+unfolding d.statement d.assignment d.relation d.sees_select d.source d.load d.form d.skip d.column_definition d.same_symbol
+load_behind_two_records = is_statement _ _ refl
+
+-- `c = LOAD("f", csv(schema(a:int)))` passes over no record
+pub load_of_all_records : Reads (c ∷ Fixed s.Eq ∷ Name (codes "LOAD") ∷ Fixed s.OpenParen ∷ Quoted (codes "f") ∷ Fixed s.Comma ∷ Name (codes "csv") ∷ Fixed s.OpenParen ∷ Name (codes "schema") ∷ Fixed s.OpenParen
+    ∷ a ∷ Fixed s.Colon ∷ Name (codes "int") ∷ Fixed s.CloseParen ∷ Fixed s.CloseParen ∷ Fixed s.CloseParen ∷ []) (Assign (codes "c") (Copy (source.Load (codes "f") (record { name = codes "a"; kind = type.Int } ∷ []) 0)))
+unfolding d.statement d.assignment d.relation d.sees_select d.source d.load d.form d.skip d.column_definition d.same_symbol
+load_of_all_records = is_statement _ _ refl
+
+-- `c = load(a)` is no statement
+pub load_of_a_name : (t : StatementTree) → Reads (c ∷ Fixed s.Eq ∷ Name (codes "load") ∷ Fixed s.OpenParen ∷ a ∷ Fixed s.CloseParen ∷ []) t → ⊥
+unfolding d.statement d.assignment d.relation d.sees_select d.source d.load d.form d.skip d.column_definition d.same_symbol
+load_of_a_name t h = let some = statement-complete _ t h in cc
+
+-- `load = load` copies the relation of that name
+pub load_is_a_name : Reads (Name (codes "load") ∷ Fixed s.Eq ∷ Name (codes "load") ∷ []) (Assign (codes "load") (Copy (source.Named (codes "load"))))
+unfolding d.statement d.assignment d.relation d.sees_select d.source d.load d.form d.skip d.column_definition d.same_symbol
+load_is_a_name = is_statement _ _ refl
+
 -- `select = select` copies the relation of that name
 pub select_is_a_name : Reads (Name (codes "select") ∷ Fixed s.Eq ∷ Name (codes "select") ∷ []) (Assign (codes "select") (Copy (source.Named (codes "select"))))
 unfolding d.statement d.assignment d.relation d.sees_select d.source d.same_symbol
@@ -205,6 +228,10 @@ select_is_a_name = is_statement _ _ refl
 pub text_behind_a_statement : (t : StatementTree) → Reads (c ∷ Fixed s.Eq ∷ a ∷ b ∷ []) t → ⊥
 unfolding d.statement d.assignment d.relation d.sees_select d.source d.same_symbol
 text_behind_a_statement t h = let some = statement-complete _ t h in cc
+
+-- the widest place of a statement counts, also a schema in it
+pub columns_of_a_schema : columns_of (Assign (codes "c") (Diff (source.Named (codes "a")) (source.Load (codes "f") (record { name = codes "a"; kind = type.Int } ∷ record { name = codes "b"; kind = type.Int } ∷ []) 0))) ≡ 2
+columns_of_a_schema = refl
 
 -- ---- words
 

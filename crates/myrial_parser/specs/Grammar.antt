@@ -27,10 +27,12 @@ use Rattle.myrial_lexer.specs.declared.kinds.Sign.TheVariants as sign
 use Rattle.myrial_parser.specs.declared.terminals.Keyword.{Keyword}
 use Rattle.myrial_parser.specs.declared.terminals.Keyword.TheVariants as keyword
 use Rattle.myrial_parser.specs.declared.terminals.Symbol.TheVariants.{Keyword as Word, Sign}
+use Rattle.myrial_ast.specs.declared.relations.LoadForm.{LoadForm}
+use Rattle.myrial_parser.specs.declared.loads.Load.{Load}
 use Rattle.myrial_parser.specs.Symbols as s
 use Rattle.myrial_parser.specs.Terminals as t
 use Rattle.myrial_parser.specs.Terminals.{Terminal, Fixed}
-use Rattle.myrial_parser.specs.Phrases.{Chain, Pair, Prefixed, Separated}
+use Rattle.myrial_parser.specs.Phrases.{Chain, Pair, Prefixed, Separated, is_word, Called}
 
 -- ---- operators
 
@@ -143,11 +145,6 @@ pub data IsKey : List Terminal → Key → Type 0 where
   program_key : (p n : Name) → IsKey (t.Name p ∷ Fixed s.Colon ∷ t.Name n ∷ []) (record { user = codes "public"; program = p; name = n })
   user_key : (u p n : Name) → IsKey (t.Name u ∷ Fixed s.Colon ∷ t.Name p ∷ Fixed s.Colon ∷ t.Name n ∷ []) (record { user = u; program = p; name = n })
 
--- a relation by its name or by its key
-pub data IsSource : List Terminal → Operand → Type 0 where
-  named_source : (n : Name) → IsSource (t.Name n ∷ []) (source.Named n)
-  scanned_source : (ts : List Terminal) (k : Key) → IsKey ts k → IsSource (Fixed s.Scan ∷ Fixed s.OpenParen ∷ ts ++ Fixed s.CloseParen ∷ []) (source.Scan k)
-
 -- the type that a word names, in any case
 abbrev pub type_of : List ℕ → Option ColType
 type_of word =
@@ -159,10 +156,35 @@ type_of word =
 pub data IsColumnDefinition : List Terminal → Column → Type 0 where
   typed : (n word : Name) (k : ColType) → type_of word ≡ Some k → IsColumnDefinition (t.Name n ∷ Fixed s.Colon ∷ t.Name word ∷ []) (record { name = n; kind = k })
 
--- the name of a source, or the last name of its key
+-- how many records are passed over: none where nothing is said
+pub data IsSkip : List Terminal → ℕ → Type 0 where
+  no_skip : IsSkip [] 0
+  a_skip : (word : Name) (n : ℕ) → is_word (codes "skip") word ≡ true → IsSkip (Fixed s.Comma ∷ t.Name word ∷ Fixed s.Eq ∷ t.Number n ∷ []) n
+
+-- the columns of a file without a header, and how many of its records are passed over
+pub data IsForm : List Terminal → LoadForm → Type 0 where
+  formed : (ts us : List Terminal) (columns : List Column) (n : ℕ) → Called (codes "schema") (Separated IsColumnDefinition) ts columns → IsSkip us n
+      → IsForm (ts ++ us) (record { schema = columns; skip = n })
+
+-- the name of a file without a header, and its form
+pub data IsLoad : List Terminal → Load → Type 0 where
+  loaded : (file : List ℕ) (ts : List Terminal) (f : LoadForm) → Called (codes "csv") IsForm ts f → IsLoad (t.Quoted file ∷ Fixed s.Comma ∷ ts) (record { file = file; form = f })
+
+-- the operand of a load
+abbrev pub operand_of : Load → Operand
+operand_of l = source.Load l.file l.form.schema l.form.skip
+
+-- a relation by its name, by its key, or of a file without a header
+pub data IsSource : List Terminal → Operand → Type 0 where
+  named_source : (n : Name) → IsSource (t.Name n ∷ []) (source.Named n)
+  scanned_source : (ts : List Terminal) (k : Key) → IsKey ts k → IsSource (Fixed s.Scan ∷ Fixed s.OpenParen ∷ ts ++ Fixed s.CloseParen ∷ []) (source.Scan k)
+  loaded_source : (ts : List Terminal) (l : Load) → Called (codes "load") IsLoad ts l → IsSource ts (operand_of l)
+
+-- the name of a source, the last name of its key, or the name of its file
 abbrev pub own_name : Operand → Name
 own_name (source.Named n) = n
 own_name (source.Scan k) = k.name
+own_name (source.Load file schema skip) = file
 
 -- an item of a comprehension, whose alias is its source's own name where none is given
 pub data IsItem : List Terminal → FromItem → Type 0 where
@@ -187,10 +209,6 @@ pub data IsArgument : Keyword → List Terminal → RelTree → Type 0 where
   of_one : (ts : List Terminal) (o : Operand) → IsSource ts o → IsArgument keyword.Distinct ts (tree.Distinct o)
   of_both : (ts us : List Terminal) (o p : Operand) → IsSource ts o → IsSource us p → IsArgument keyword.UnionAll (ts ++ Fixed s.Comma ∷ us) (tree.UnionAll o p)
   of_difference : (ts us : List Terminal) (o p : Operand) → IsSource ts o → IsSource us p → IsArgument keyword.Diff (ts ++ Fixed s.Comma ∷ us) (tree.Diff o p)
-
--- whether a word is this one, in any case
-abbrev pub is_word : List ℕ → List ℕ → Bool
-is_word wanted word = str_eq_ignore_ascii_case word wanted
 
 -- a relation expression: an operand, a word with its argument in parentheses, or a comprehension in brackets or behind
 -- the word `select`, which isn't reserved

@@ -9,11 +9,14 @@
 --   IsScript text tokens script           each piece of the text with these tokens is read as one of the statements, in order
 --   told number fault                     the answer that tells a fault of the piece with this number
 --   IsFirstFault text tokens number fault the piece with this number has this fault, and the pieces before it are read
-use Rattle.std.specs.Prelude.{◌≡◌, ℕ, ◌+◌, ◌<◌, Bool, true, false, List, [], ◌∷◌, ◌++◌, length, take, count_by}
+use Rattle.std.specs.Prelude.{◌≡◌, ℕ, ◌+◌, ◌<◌, Bool, true, false, nat_lt, if◌then◌else◌, List, [], ◌∷◌, ◌++◌, length, take, count_by}
 use Rattle.std.specs.List.{slice_split}
 use Rattle.rel_base.specs.Limits.{most_columns, most_items, most_nesting, most_pieces, most_tokens}
 use Rattle.myrial_ast.specs.Trees as tree
-use Rattle.myrial_ast.specs.Trees.{StatementTree}
+use Rattle.myrial_ast.specs.Trees.{RelTree, StatementTree}
+use Rattle.myrial_ast.specs.declared.relations.Operand.{Operand}
+use Rattle.myrial_ast.specs.declared.relations.Operand.TheVariants as operand
+use Rattle.myrial_ast.specs.Operands.{operands_of}
 use Rattle.myrial_lexer.specs.declared.kinds.Token.{Token}
 use Rattle.myrial_lexer.specs.declared.kinds.TokenKind.{TokenKind}
 use Rattle.myrial_lexer.specs.declared.kinds.TokenKind.TheVariants as kind
@@ -74,10 +77,25 @@ abbrev pub items_of : StatementTree → ℕ
 items_of (tree.Assign n (tree.From items condition emits)) = length items
 items_of _ = 0
 
--- how many columns a comprehension or `empty` is written with
+-- how many emit items, or columns of `empty`, a relation expression is written with
+abbrev pub own_columns : RelTree → ℕ
+own_columns (tree.From items condition emits) = length emits
+own_columns (tree.Empty columns) = length columns
+own_columns _ = 0
+
+-- how many columns a load is written with
+abbrev pub loaded_columns : Operand → ℕ
+loaded_columns (operand.Load file schema skip) = length schema
+loaded_columns _ = 0
+
+-- the greatest of a number and those of some operands
+abbrev pub widest : ℕ → List Operand → ℕ
+widest most [] = most
+widest most (o ∷ os) = widest (if nat_lt most (loaded_columns o) then loaded_columns o else most) os
+
+-- the most columns that a statement writes in one place: emit items, columns of `empty`, or of a `schema`
 abbrev pub columns_of : StatementTree → ℕ
-columns_of (tree.Assign n (tree.From items condition emits)) = length emits
-columns_of (tree.Assign n (tree.Empty columns)) = length columns
+columns_of (tree.Assign n r) = widest (own_columns r) (operands_of r)
 columns_of _ = 0
 
 -- the piece is ended by a semicolon and reads as the statement

@@ -6,7 +6,7 @@ ghost use Rattle.myrial_lexer.specs.Slices.{IsCut};
 ghost use Rattle.myrial_parser.specs.Terminals.{IsSmall, seen, terminals_of};
 
 use crate::faults::Refusal;
-use crate::terminals::{Symbol, Terminal, terminal_of};
+use crate::terminals::{Symbol, Terminal, same_word, terminal_of};
 use myrial_lexer::Token;
 use rel_base::Text;
 use std::alloc::Global;
@@ -145,6 +145,39 @@ impl<'a> Cursor<'a> {
         };
         self.skip();
         Ok(number)
+    }
+
+    /// Whether this word, which isn't reserved, comes next.
+    pub fn sees_word(&self, wanted: &[u8]) -> bool
+        ensures { result ≡ spec.is_word_of wanted.now (spec.first self.now) }
+    {
+        let Some(Terminal::Name(word)) = self.peek() else {
+            return false;
+        };
+        same_word(word.as_bytes(), wanted)
+    }
+
+    /// Passes this word, which isn't reserved and has to come next.
+    pub fn word(&mut self, wanted: &[u8]) -> Result<(), Refusal>
+        ensures { Parses (λ x. x) (spec.word wanted.now self.old) result self.new }
+    {
+        if self.sees_word(wanted) {
+            self.skip();
+            Ok(())
+        } else {
+            Err(Refusal::Syntax)
+        }
+    }
+
+    /// Passes a string, which has to come next.
+    pub fn quoted(&mut self, alloc: Global) -> Result<Text, Refusal>
+        ensures { Parses (λ x. x) (spec.quoted self.old) result self.new }
+    {
+        let Some(Terminal::Quoted(text)) = self.peek() else {
+            return Err(Refusal::Syntax);
+        };
+        self.skip();
+        Ok(Text::of(alloc, text)?)
     }
 
     /// Passes the end, which has to be reached.

@@ -14,6 +14,7 @@ mod expressions;
 mod faults;
 mod laws;
 mod limits;
+mod loads;
 mod relations;
 mod scripts;
 mod separated;

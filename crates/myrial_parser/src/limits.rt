@@ -1,13 +1,13 @@
 //! How much a script may have.
-ghost use Rattle.std.specs.Prelude.{◌≡◌, ℕ, ◌<◌, ◌↔◌, Bool, true, List};
+ghost use Rattle.std.specs.Prelude.{◌≡◌, ℕ, ◌<◌, ◌↔◌, Bool, true, List, [], ◌∷◌, length, map};
 ghost use Rattle.std.specs.declared.option.Option.TheVariants.{None as Nothing};
-ghost use Rattle.myrial_ast.specs.Trees.{statement_tree_of};
+ghost use Rattle.myrial_ast.specs.Trees.{emit_tree_of, statement_tree_of};
 ghost use Rattle.myrial_parser.specs.declared.faults.What.{What as WhatSeen};
 ghost use Rattle.myrial_parser.specs.Pieces as spec;
 ghost use Rattle.myrial_parser.specs.Pieces.{HasFault, IsFaulty, NestsTooDeep, PieceFault, TooMany, rank};
 
 use crate::faults::What;
-use myrial_ast::{RelExpr, Stmt};
+use myrial_ast::{EmitItems, FromItems, Operand, RelExpr, Stmt};
 use myrial_lexer::{Sign, Token, TokenKind};
 use rel_base::{MOST_NESTING, MOST_PIECES, MOST_TOKENS};
 
@@ -56,13 +56,55 @@ pub fn items_of(statement: &Stmt) -> u32
     }
 }
 
-/// How many columns a comprehension or `empty` is written with.
+/// How many columns a load is written with.
+fn loaded_columns(operand: &Operand) -> u32
+    ensures { result ≡ spec.loaded_columns operand.now }
+{
+    match operand {
+        Operand::Load(_, schema, _) => schema.len(),
+        _ => 0,
+    }
+}
+
+/// The greater of a number of columns and that of an operand.
+fn wider(most: u32, operand: &Operand) -> u32
+    ensures { result ≡ spec.widest most (operand.now ∷ []) }
+{
+    let columns = loaded_columns(operand);
+    if most < columns { columns } else { most }
+}
+
+/// The greatest of a number of columns and those of some items.
+fn widest_item(most: u32, items: &FromItems) -> u32
+    ensures { result ≡ spec.widest most (map (λ item. item.source) items.now) }
+{
+    let mut widest = most;
+    for item in items.as_slice() {
+        widest = wider(widest, &item.source);
+    }
+    widest
+}
+
+/// How many emit items there are.
+fn emitted(emits: &EmitItems) -> u32
+    ensures { result ≡ length (map emit_tree_of emits.now) }
+{
+    emits.len()
+}
+
+/// The most columns that a statement writes in one place.
 pub fn columns_of(statement: &Stmt) -> u32
     ensures { result ≡ spec.columns_of (statement_tree_of statement.now) }
 {
-    match statement {
-        Stmt::Assign(_, RelExpr::From(_, _, emits)) => emits.len(),
-        Stmt::Assign(_, RelExpr::Empty(schema)) => schema.len(),
-        _ => 0,
+    let Stmt::Assign(_, relation) = statement else {
+        return 0;
+    };
+    match relation {
+        RelExpr::Copy(source) => wider(0, source),
+        RelExpr::Empty(schema) => schema.len(),
+        RelExpr::Distinct(source) => wider(0, source),
+        RelExpr::UnionAll(left, right) => wider(wider(0, left), right),
+        RelExpr::Diff(left, right) => wider(wider(0, left), right),
+        RelExpr::From(items, _, emits) => widest_item(emitted(emits), items),
     }
 }

@@ -1,19 +1,22 @@
 //! Keys, operands, relation expressions and statements.
-ghost use Rattle.std.specs.Prelude.{◌≡◌, option_map};
+ghost use Rattle.std.specs.Prelude.{◌≡◌, List, option_map};
 ghost use Rattle.myrial_ast.specs.Trees.{EmitTree, tree_of, emit_tree_of, rel_tree_of, statement_tree_of};
 ghost use Rattle.myrial_parser.specs.Grammar as grammar;
 ghost use Rattle.rel_base.specs.declared.relations.Column.{Column as ColumnSeen};
 ghost use Rattle.myrial_ast.specs.declared.relations.FromItem.{FromItem as ItemSeen};
+ghost use Rattle.myrial_ast.specs.declared.relations.LoadForm.{LoadForm as FormSeen};
+ghost use Rattle.myrial_parser.specs.declared.loads.Load.{Load as LoadSeen};
 ghost use Rattle.myrial_parser.specs.inner.Descent as spec;
 ghost use Rattle.myrial_parser.specs.inner.Descent.{Parses};
 
 use crate::cursor::Cursor;
 use crate::faults::Refusal;
+use crate::loads::Load;
 use crate::separated::Phrase;
 use crate::terminals::{Keyword, Symbol, Terminal, same_word};
-use myrial_ast::{EmitItem, Expr, FromItem, Operand, RelExpr, Stmt};
+use myrial_ast::{EmitItem, Expr, FromItem, LoadForm, Operand, RelExpr, Stmt};
 use myrial_lexer::Sign;
-use rel_base::{ColType, Column, Duplicate, Key, Text};
+use rel_base::{ColType, Column, Duplicate, Key, Schema, Text};
 use std::alloc::Global;
 
 /// The type that a word names, in any case.
@@ -32,13 +35,14 @@ fn type_of(word: &str) -> Option<ColType>
     }
 }
 
-/// The name of an operand, or the last name of its key.
+/// The name of an operand, the last name of its key, or the name of its file.
 fn own_name(source: &Operand) -> &Text
     ensures { result.now ≡ grammar.own_name source.now }
 {
     match source {
         Operand::Named(name) => name,
         Operand::Scan(key) => &key.name,
+        Operand::Load(file, _, _) => file,
     }
 }
 
@@ -51,6 +55,49 @@ impl Phrase for Column {
 
     fn read(cursor: &mut Cursor<'_>, alloc: Global) -> Result<Column, Refusal> {
         cursor.column_definition(alloc)
+    }
+}
+
+impl Phrase for Schema {
+    ghost Tree = { List ColumnSeen };
+
+    ghost tree_of = { λ columns. columns };
+
+    ghost parser = { spec.separated spec.column_definition };
+
+    fn read(cursor: &mut Cursor<'_>, alloc: Global) -> Result<Schema, Refusal> {
+        cursor.separated(alloc)
+    }
+}
+
+impl Phrase for LoadForm {
+    ghost Tree = { FormSeen };
+
+    ghost tree_of = { λ form. form };
+
+    ghost parser = { spec.form };
+
+    #[tactic(auto, unfolding(crate::specs::inner::Descent::form))]
+    fn read(cursor: &mut Cursor<'_>, alloc: Global) -> Result<LoadForm, Refusal> {
+        let schema = cursor.called(alloc, b"schema")?;
+        let skip = cursor.records_to_skip()?;
+        Ok(LoadForm { schema, skip })
+    }
+}
+
+impl Phrase for Load {
+    ghost Tree = { LoadSeen };
+
+    ghost tree_of = { λ load. load };
+
+    ghost parser = { spec.load };
+
+    #[tactic(auto, unfolding(crate::specs::inner::Descent::load))]
+    fn read(cursor: &mut Cursor<'_>, alloc: Global) -> Result<Load, Refusal> {
+        let file = cursor.quoted(alloc)?;
+        cursor.expect(Symbol::Sign(Sign::Comma))?;
+        let form = cursor.called(alloc, b"csv")?;
+        Ok(Load { file, form })
     }
 }
 
@@ -125,7 +172,7 @@ impl Cursor<'_> {
         })
     }
 
-    /// A relation by its name or by its key.
+    /// A relation by its name, by its key, or of a file without a header.
     #[tactic(auto, unfolding(crate::specs::inner::Descent::source))]
     fn source(&mut self, alloc: Global) -> Result<Operand, Refusal>
         ensures { Parses (λ x. x) (spec.source self.old) result self.new }
@@ -136,7 +183,31 @@ impl Cursor<'_> {
             self.expect(Symbol::Sign(Sign::CloseParen))?;
             return Ok(Operand::Scan(key));
         }
+        if self.sees_load() {
+            let Load { file, form } = self.called(alloc, b"load")?;
+            return Ok(Operand::Load(file, form.schema, form.skip));
+        }
         Ok(Operand::Named(self.name(alloc)?))
+    }
+
+    /// Whether the word `load` comes next, and a parenthesis behind it; elsewhere it is a name.
+    fn sees_load(&self) -> bool
+        ensures { result ≡ spec.sees_load self.now }
+    {
+        self.sees_word(b"load") && self.sees_behind(1, Symbol::Sign(Sign::OpenParen))
+    }
+
+    /// How many records are passed over: none where nothing is said.
+    #[tactic(auto, unfolding(crate::specs::inner::Descent::skip))]
+    fn records_to_skip(&mut self) -> Result<u64, Refusal>
+        ensures { Parses (λ x. x) (spec.skip self.old) result self.new }
+    {
+        if !self.eat(Symbol::Sign(Sign::Comma)) {
+            return Ok(0);
+        }
+        self.word(b"skip")?;
+        self.expect(Symbol::Sign(Sign::Eq))?;
+        self.number()
     }
 
     /// The type that comes next.
@@ -310,10 +381,7 @@ impl Cursor<'_> {
     fn sees_select(&self) -> bool
         ensures { result ≡ spec.sees_select self.now }
     {
-        let Some(Terminal::Name(word)) = self.peek() else {
-            return false;
-        };
-        same_word(word.as_bytes(), b"select") && self.left() > 1
+        self.sees_word(b"select") && self.left() > 1
     }
 
     /// A comprehension behind the word `select`.

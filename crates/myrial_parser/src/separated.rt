@@ -1,4 +1,4 @@
-//! Lists of phrases with commas between them.
+//! Phrases with commas between them, and a phrase in parentheses behind a word that isn't reserved.
 ghost use Rattle.std.specs.Prelude.{map};
 ghost use Rattle.myrial_parser.specs.inner.Descent as spec;
 ghost use Rattle.myrial_parser.specs.inner.Descent.{Parser, Parses};
@@ -10,7 +10,7 @@ use myrial_lexer::Sign;
 use rel_base::Items;
 use std::alloc::Global;
 
-/// What stands between the commas of a list.
+/// What stands between the commas of a list, or in parentheses.
 pub trait Phrase: Drop {
     ghost Tree: { Type 0 };
 
@@ -37,5 +37,16 @@ impl Cursor<'_> {
             }
         }
         Err(Refusal::Syntax)
+    }
+
+    /// A phrase in parentheses behind this word, which isn't reserved.
+    pub fn called<P: Phrase>(&mut self, alloc: Global, wanted: &[u8]) -> Result<P, Refusal>
+        ensures { Parses P.tree_of (spec.called wanted.now P.parser self.old) result self.new }
+    {
+        self.word(wanted)?;
+        self.expect(Symbol::Sign(Sign::OpenParen))?;
+        let inside = P::read(self, alloc)?;
+        self.expect(Symbol::Sign(Sign::CloseParen))?;
+        Ok(inside)
     }
 }

@@ -35,6 +35,8 @@ use Rattle.myrial_parser.specs.declared.terminals.Keyword.{Keyword}
 use Rattle.myrial_parser.specs.declared.terminals.Keyword.TheVariants as keyword
 use Rattle.myrial_parser.specs.declared.faults.Refusal.{Refusal}
 use Rattle.myrial_parser.specs.declared.faults.Refusal.TheVariants as refusal
+use Rattle.myrial_ast.specs.declared.relations.LoadForm.{LoadForm}
+use Rattle.myrial_parser.specs.declared.loads.Load.{Load}
 use Rattle.myrial_parser.specs.declared.expressions.Level.{Level}
 use Rattle.myrial_parser.specs.declared.expressions.Level.TheVariants as level
 use Rattle.myrial_parser.specs.declared.terminals.Symbol.{Symbol}
@@ -42,7 +44,8 @@ use Rattle.myrial_parser.specs.declared.terminals.Symbol.TheVariants.{Keyword as
 use Rattle.myrial_parser.specs.Symbols as s
 use Rattle.myrial_parser.specs.Terminals as t
 use Rattle.myrial_parser.specs.Terminals.{Terminal, Fixed}
-use Rattle.myrial_parser.specs.Grammar.{or_sign, and_sign, sum_sign, product_sign, comparison_sign, type_of, own_name, is_word}
+use Rattle.myrial_parser.specs.Grammar.{or_sign, and_sign, sum_sign, product_sign, comparison_sign, type_of, own_name, operand_of}
+use Rattle.myrial_parser.specs.Phrases.{is_word}
 
 -- ---- the terminals ahead
 
@@ -312,9 +315,6 @@ key_behind first i =
 unfoldable pub key : Parser Key
 key i = name i >>= λ first rest. key_behind first rest
 
-unfoldable pub source : Parser Operand
-source i = if sees s.Scan i then (in_parens key (drop 1 i) >>= λ k rest. Some (Scan k, rest)) else (name i >>= λ n rest. Some (Named n, rest))
-
 -- the type that a word names
 abbrev pub kind_of : Option ColType → Parser ColType
 kind_of (Some kind) rest = Some (kind, rest)
@@ -329,6 +329,46 @@ kind i = kind_by (first i) (drop 1 i)
 
 unfoldable pub column_definition : Parser Column
 column_definition i = name i >>= λ n rest. expect s.Colon rest >>= λ _ behind. kind behind >>= λ k end. Some (record { name = n; kind = k }, end)
+
+-- whether this word, which isn't reserved, is ahead
+abbrev pub is_word_of : List ℕ → Option Terminal → Bool
+is_word_of wanted (Some (t.Name word)) = is_word wanted word
+is_word_of wanted _ = false
+
+-- passes this word, which has to come next
+abbrev pub word : List ℕ → Parser (Unit {0})
+word wanted i = if is_word_of wanted (first i) then Some (tt, drop 1 i) else None
+
+-- a word, and what is read in parentheses behind it
+abbrev pub called : {A : Type 0} → List ℕ → Parser A → Parser A
+called wanted inside i = word wanted i >>= λ _ rest. in_parens inside rest
+
+abbrev pub quoted_by : Option Terminal → Parser (List ℕ)
+quoted_by (Some (t.Quoted text)) rest = Some (text, rest)
+quoted_by _ rest = None
+
+abbrev pub quoted : Parser (List ℕ)
+quoted i = quoted_by (first i) (drop 1 i)
+
+-- how many records are passed over
+unfoldable pub skip : Parser ℕ
+skip i = if sees s.Comma i then (word (codes "skip") (drop 1 i) >>= λ _ rest. expect s.Eq rest >>= λ _ rest. number rest) else Some (0, i)
+
+unfoldable pub form : Parser LoadForm
+form i = called (codes "schema") (separated column_definition) i >>= λ columns rest. skip rest >>= λ n end. Some (record { schema = columns; skip = n }, end)
+
+unfoldable pub load : Parser Load
+load i = quoted i >>= λ file rest. expect s.Comma rest >>= λ _ rest. called (codes "csv") form rest >>= λ f end. Some (record { file = file; form = f }, end)
+
+-- whether the word `load` is ahead, and a parenthesis behind it; elsewhere it is a name
+abbrev pub sees_load : Input → Bool
+sees_load i = is_word_of (codes "load") (first i) && sees s.OpenParen (drop 1 i)
+
+unfoldable pub source : Parser Operand
+source i =
+    if sees s.Scan i then (in_parens key (drop 1 i) >>= λ k rest. Some (Scan k, rest))
+    else (if sees_load i then (called (codes "load") load i >>= λ l rest. Some (operand_of l, rest))
+    else (name i >>= λ n rest. Some (Named n, rest)))
 
 unfoldable pub two_sources : Parser (Operand × Operand)
 two_sources i = source i >>= λ left rest. expect s.Comma rest >>= λ _ behind. source behind >>= λ right end. Some ((left, right), end)
@@ -379,11 +419,6 @@ copied i = source i >>= λ o rest. Some (tree.Copy o, rest)
 -- a comprehension behind the word `select`
 unfoldable pub selection : Parser RelTree
 selection i = separated emit i >>= λ all rest. expect s.From rest >>= λ _ rest. separated item rest >>= λ from rest. condition rest >>= λ where_ end. Some (tree.From from where_ all, end)
-
--- whether this word, which isn't reserved, is ahead
-abbrev pub is_word_of : List ℕ → Option Terminal → Bool
-is_word_of wanted (Some (t.Name word)) = is_word wanted word
-is_word_of wanted _ = false
 
 -- whether the word `select` is ahead, and something behind it; alone it is a name
 unfoldable pub sees_select : Input → Bool

@@ -1,6 +1,6 @@
 use Rattle.std.proofs.Common.{ℕ, List}
 use Rattle.myrial_ast.specs.Trees.{trees_of}
-use Rattle.myrial_meaning.specs.Scans.{scanned_keys}
+use Rattle.myrial_meaning.specs.Fetches.{fetched_keys}
 use Rattle.rel_io.specs.Shelves.{CallCounts, counts_of}
 use Rattle.myria_top.specs.Runs.{IsFileOf}
 use Rattle.myria_top.proofs.RunLemmas.{run_agrees}
@@ -15,6 +15,6 @@ returns-clause-read g c =
       agrees =
           run_agrees (g.F.Shelf.content c.args.shelf.now) (trees_of c.args.script.now) c.in-Ok.keys c.in-Ok-read_files.files c.text_of_run.result c.in-Ok.ensures.keys
           read.agrees c.text_of_run.ensures.agrees;
-      cause = run_cause {X = List ℕ} counts (IsFileOf (scanned_keys (trees_of c.args.script.now))) c.text_of_run.result c.text_of_run.ensures.kind;
+      cause = run_cause {X = List ℕ} counts (IsFileOf (fetched_keys (trees_of c.args.script.now))) c.text_of_run.result c.text_of_run.ensures.kind;
       kept = read.kept;
     }

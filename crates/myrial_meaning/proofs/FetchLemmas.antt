@@ -1,4 +1,4 @@
--- Keys that stand once, and the keys that a script scans.
+-- Keys that stand once, and the keys of the files that a script needs.
 use Rattle.std.proofs.Common.{◌≡◌, ◌∙◌, ℕ, ◌+◌, ◌<◌, Bool, true, false, not, ◌&&◌, ◌||◌, cond, List, [], ◌∷◌, ◌++◌, get_or, length, filter, take, sym, ap, refl}
 use Rattle.std.specs.Prelude.{AllPairs}
 use Rattle.std.specs.List.{flat_map}
@@ -13,7 +13,7 @@ use Rattle.std.specs.Cmp.Lexicographic.{nat_list_eq_equiv}
 use Rattle.rel_base.specs.Keys.{same_key}
 use Rattle.rel_base.specs.declared.names.Key.{Key}
 use Rattle.myrial_ast.specs.declared.relations.Operand.{Operand}
-use Rattle.myrial_meaning.specs.Scans.{each_once, has_key, keys_of_operand}
+use Rattle.myrial_meaning.specs.Fetches.{each_once, has_key, keys_needed}
 
 -- ---- each key where it stands first
 
@@ -76,11 +76,9 @@ distinct-push keys key distinct none =
     let there = list_any_at (λ j. same_key j key) keys k d inside e in
     let both : true ≡ false = sym there ∙ none in cc))
 
--- the keys of one operand further that are not stored
-pub unstored-more : (stored : List Key) (operands : List Operand) (o : Operand)
-    → filter (λ key. not (has_key stored key)) (flat_map keys_of_operand (operands ++ o ∷ []))
-    ≡ filter (λ key. not (has_key stored key)) (flat_map keys_of_operand operands) ++ filter (λ key. not (has_key stored key)) (keys_of_operand o)
-unstored-more stored operands o =
-    ap (filter (λ key. not (has_key stored key)))
-    (flat_map-append keys_of_operand operands (o ∷ []) ∙ ap (λ rest. flat_map keys_of_operand operands ++ rest) (append-nil (keys_of_operand o)))
-    ∙ filter-append (λ key. not (has_key stored key)) (flat_map keys_of_operand operands) (keys_of_operand o)
+-- the keys that one operand further needs
+pub needed-more : (stored : List Key) (operands : List Operand) (o : Operand)
+    → flat_map (keys_needed stored) (operands ++ o ∷ []) ≡ flat_map (keys_needed stored) operands ++ keys_needed stored o
+needed-more stored operands o =
+    flat_map-append (keys_needed stored) operands (o ∷ [])
+    ∙ ap (λ rest. flat_map (keys_needed stored) operands ++ rest) (append-nil (keys_needed stored o))

@@ -2,10 +2,10 @@ use Rattle.std.proofs.Common.{◌≡◌, ◌∙◌, ◌∷◌, ◌++◌, [], Lis
 use Rattle.std.specs.Prelude.{AllPairs}
 use Rattle.rel_base.specs.Keys.{same_key}
 use Rattle.rel_base.specs.declared.names.Key.{Key}
-use Rattle.myrial_meaning.specs.Scans.{each_once, has_key}
-use Rattle.myrial_meaning.proofs.ScanLemmas.{distinct-push, each_once-new, each_once-there}
-use Rattle.myrial_meaning.proofs.scanned.each_once.Goals as goal
-use Rattle.myrial_meaning.proofs.scanned.each_once.Goals.{then-not-is_among+in_ok-push_key, else-not-is_among}
+use Rattle.myrial_meaning.specs.Fetches.{each_once, has_key}
+use Rattle.myrial_meaning.proofs.FetchLemmas.{distinct-push, each_once-new, each_once-there}
+use Rattle.myrial_meaning.proofs.needed_files.each_once.Goals as goal
+use Rattle.myrial_meaning.proofs.needed_files.each_once.Goals.{then-not-is_among+in_ok-push_key, else-not-is_among}
 
 pub loop-key-preserved : goal.loop-key-preserved
 loop-key-preserved c =
