@@ -1,6 +1,7 @@
 pub mod EachLemmas
 pub mod SortedLemmas
 pub mod KeyLemmas
+pub mod SortKeyLemmas
 pub mod WorkedRows
 pub mod PickLemmas
 pub mod SortLemmas

@@ -2,7 +2,7 @@
 use Rattle.std.proofs.Common.{◌≡◌, ◌∙◌, ℕ, zero, suc, ◌+◌, ◌-◌, ◌*◌, ◌/◌, ◌<◌, ◌≤◌, List, [], ◌∷◌, ◌++◌, length, get_or, take, drop, map, All, refl, sym, ap, arith}
 use Rattle.std.proofs.lemmas.List.{drop_more, same_lists}
 use Rattle.std.proofs.Math.Nat.{div-mul-le_self, mul-le-mul_left, mul-le-mul_right}
-use Rattle.rel_base.specs.Picks.{items_at, joined}
+use Rattle.rel_base.specs.Picks.{items_at}
 use Rattle.rel_base.specs.inner.Strides.{stepped}
 
 pub length-stepped : (start step n : ℕ) → length (stepped start step n) ≡ n

@@ -4,6 +4,7 @@ pub mod Limits
 pub mod Values
 pub mod ValueLaws
 pub mod Codes
+pub mod SortKeys
 pub mod Bags
 pub mod Picks
 pub mod Relations

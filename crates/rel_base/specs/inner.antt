@@ -4,3 +4,4 @@ pub mod Selections
 pub mod Starts
 pub mod Fronts
 pub mod Beginnings
+pub mod Letters

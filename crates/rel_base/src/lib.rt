@@ -1,6 +1,7 @@
 //! Values, rows, relations and keys: the data that every other crate speaks of.
 //!
-//! Stands on std and on `smallvec`, which keeps short rows inline. Nothing here reads, writes or waits.
+//! Stands on std, on `smallvec`, which keeps short rows inline, and on `arrayvec`, which does so with short texts. Nothing
+//! here reads, writes or waits.
 //!
 //! Promises: values and rows are ordered by `value_order` and `row_order`; a copy equals its original; a relation's
 //! rows always have its columns' types. A list is seen by contracts as the list of its items, and `Steps` as the number
@@ -25,6 +26,7 @@ mod relations;
 mod row_iter;
 mod rows;
 mod shared_rows;
+mod sort_keys;
 mod stretches;
 #[cfg(test)]
 mod tests;
@@ -47,6 +49,7 @@ pub use names::{Files, Key, Keys, Stored};
 pub use relations::{Column, Parts, Relation, Schema, Spread, sorted_permutation_is_unique};
 pub use row_iter::RowIter;
 pub use rows::Rows;
+pub use sort_keys::sort_key;
 pub use texts::Text;
 pub use tuples::Row;
 pub use values::{ColType, Value};

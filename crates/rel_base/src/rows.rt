@@ -10,6 +10,7 @@ use crate::blocks::Block;
 use crate::list::copies_of;
 use crate::row_iter::RowIter;
 use crate::shared_rows::{SharedRows, run_length};
+use crate::sort_keys::sort_key;
 use crate::stretches::{Stretch, steps_below};
 use crate::{Duplicate, Memory, Row, Value};
 use std::alloc::Global;
@@ -284,8 +285,8 @@ fn numbered_rows(alloc: Global, rows: &Rows) -> Result<Vec<NumberedRow<'_>>, Mem
     Ok(numbered)
 }
 
-/// A row with its number, behind the rank of its first value's type, 0 where it has none, and that value's number, 0
-/// where it is none.
+/// A row with its number, behind the rank of its first value's type, 0 where it has none, and what that value begins
+/// with: the number of an int, the key of a string, and else 0.
 fn numbered_row(row: &Row, number: u32) -> NumberedRow<'_>
     ensures leading { BeginsWith row.now result.0 result.1 }
     ensures row { result.2.now ≡ row.now }
@@ -294,7 +295,7 @@ fn numbered_row(row: &Row, number: u32) -> NumberedRow<'_>
     match row.as_slice().first() {
         None => (0, 0, row, number),
         Some(Value::Int(first)) => (1, *first, row, number),
-        Some(Value::Str(_)) => (2, 0, row, number),
+        Some(Value::Str(text)) => (2, sort_key(text.as_str().as_bytes()) as i64, row, number),
         Some(Value::Bool(_)) => (3, 0, row, number),
     }
 }

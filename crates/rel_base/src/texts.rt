@@ -5,6 +5,7 @@ ghost use Rattle.std.specs.Cmp.Lexicographic.{pointwise, slice_cmp, nat_list_eq_
 ghost use Rattle.std.specs.Cmp.{partial_equiv_from_equiv};
 
 use crate::{Duplicate, Memory};
+use arrayvec::ArrayString;
 use std::alloc::Global;
 use std::cmp::Ordering;
 use std::fmt;
@@ -13,19 +14,28 @@ use std::marker::Model;
 
 /// UTF-8 text, which contracts see as its bytes. It is ordered by its bytes.
 ///
-/// The text stands behind one pointer, so that a `Value` has 16 bytes.
+/// The text stands behind one pointer, so that a `Value` has 16 bytes. A short one takes one allocation.
 #[derive(Drop)]
 pub struct Text {
-    boxed: Box<String>,
+    boxed: Box<Letters>,
+}
+
+/// Where the bytes of a text stand.
+#[derive(Drop)]
+pub enum Letters {
+    /// In the value itself.
+    Short(ArrayString<23>),
+    /// In memory of their own.
+    Long(String),
 }
 
 impl Model for Text {
     ghost use Rattle.std.specs.Prelude.{List, ℕ};
-    ghost use Rattle.std.specs.String.{string_bytes};
+    ghost use Rattle.rel_base.specs.inner.Letters.{bytes_in};
 
     ghost Value = { List ℕ };
 
-    ghost view = { λ t. string_bytes t.boxed.value };
+    ghost view = { λ t. bytes_in t.boxed.value };
 }
 
 impl Text {
@@ -33,8 +43,11 @@ impl Text {
     pub fn of(alloc: Global, s: &str) -> Result<Text, Memory>
         ensures { IfOk result (λ made. made ≡ s.now) }
     {
-        let owned = String::from_str(alloc, s)?;
-        let boxed = Box::new(alloc, owned)?;
+        let letters = match ArrayString::from(s) {
+            Ok(short) => Letters::Short(short),
+            Err(_) => Letters::Long(String::from_str(alloc, s)?),
+        };
+        let boxed = Box::new(alloc, letters)?;
         Ok(Text { boxed })
     }
 
@@ -42,7 +55,10 @@ impl Text {
     pub fn as_str(&self) -> &str
         ensures { result.now ≡ self.now }
     {
-        self.boxed.as_str()
+        match &*self.boxed {
+            Letters::Short(short) => short.as_str(),
+            Letters::Long(long) => long.as_str(),
+        }
     }
 }
 

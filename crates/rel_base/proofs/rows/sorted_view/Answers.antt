@@ -1,4 +1,4 @@
-use Rattle.std.proofs.Common.{◌≡◌, ◌∙◌, ◌<◌, List, length, map, sym, ap, arith, rules, is_lt, ◌∷◌, []}
+use Rattle.std.proofs.Common.{◌≡◌, ◌∙◌, length, map, ap, arith, rules, is_lt, ◌∷◌, []}
 use Rattle.std.specs.Ordering.{ordering_then, nat_cmp, int_cmp}
 use Rattle.std.proofs.lemmas.List.{length-map}
 use Rattle.std.proofs.lemmas.List.Sorted.{All-permutation, IsPermutation-map}
@@ -35,7 +35,7 @@ returns c =
       same_rows = rw made (rw c.in_ok-numbered.ensures.rows at moved);
       ascending = rw made (IsSortedBy-part (λ e. BeginsWith e.2.now e.0 e.1) (λ e. e.2.now) (λ r s. is_lt (row_order r s))
           (λ p q. is_lt (ordering_then (ordering_then (ordering_then (nat_cmp p.0 q.0) (int_cmp p.1 q.1)) (row_order p.2.now q.2.now)) (nat_cmp p.3 q.3)))
-          (λ p q one other e. not_less-row p.2.now q.2.now (nat_cmp p.3 q.3) (rw (one.is_rank, one.is_number, other.is_rank, other.is_number) at e))
+          (λ p q one other e. not_less-row p.2.now q.2.now (nat_cmp p.3 q.3) one.is_text other.is_text (rw (one.is_rank, one.is_number, other.is_rank, other.is_number) at e))
           pairs (All-permutation (λ e. BeginsWith e.2.now e.0 e.1) _ _ c.sort_unstable.ensures.permutation c.in_ok-numbered.ensures.leading)
           c.sort_unstable.ensures.sorted);
     }

@@ -1,4 +1,4 @@
-use Rattle.std.proofs.Common.{◌≡◌, ◌<◌, ◌≤◌, ◌+◌, arith, get_or}
+use Rattle.std.proofs.Common.{◌<◌, ◌≤◌, ◌+◌, arith, get_or}
 use Rattle.std.proofs.lemmas.List.Elements.{All-more}
 use Rattle.rel_base.proofs.shared_rows.run_length.Goals as goal
 

@@ -1,4 +1,4 @@
-use Rattle.std.proofs.Common.{◌≡◌, ℕ, sym, ◌∙◌, ap, arith, ◌<◌, ◌+◌, ◌-◌, [], length, get_or, take}
+use Rattle.std.proofs.Common.{◌≡◌, ap, arith, ◌<◌, ◌+◌, [], length, take}
 use Rattle.rel_base.specs.Picks.{joined}
 use Rattle.rel_base.proofs.StartLemmas.{length-joined-more}
 use Rattle.rel_base.proofs.shared_rows.stretch_of.Goals as goal

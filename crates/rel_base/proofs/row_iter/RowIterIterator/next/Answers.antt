@@ -1,4 +1,3 @@
-use Rattle.std.proofs.Common.{◌≡◌, sym, ◌∙◌, ap, arith, rules}
 use Rattle.rel_base.proofs.PickLemmas.{rest_nonempty}
 use Rattle.rel_base.proofs.row_iter.RowIterIterator.next.Goals as goal
 

@@ -1,6 +1,5 @@
-use Rattle.std.proofs.Common.{◌≡◌, ◌∙◌, ◌<◌, ◌^◌, length, sym, ap, arith, rules}
+use Rattle.std.proofs.Common.{◌∙◌, ◌<◌, ◌^◌, length, sym, ap, arith, rules}
 use Rattle.rel_base.specs.Picks.{items_at}
-use Rattle.rel_base.specs.inner.Strides.{stepped}
 use Rattle.rel_base.proofs.PickLemmas.{length-stepped, stepped_within}
 use Rattle.rel_base.proofs.StrideLemmas.{every_nth-stepped}
 use Rattle.rel_base.proofs.rows.Rows.every_nth.Goals as goal

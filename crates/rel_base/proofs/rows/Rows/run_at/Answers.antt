@@ -1,5 +1,5 @@
-use Rattle.std.proofs.Common.{◌≡◌, ◌∙◌, ◌++◌, ◌+◌, ◌-◌, ◌<◌, ◌≤◌, ◌^◌, All, sym, ap, length, length-append, take, map, arith, rules}
-use Rattle.std.proofs.lemmas.List.{length-take-le, length-map}
+use Rattle.std.proofs.Common.{◌≡◌, ◌∙◌, ◌+◌, ◌-◌, ◌<◌, All, sym, ap, length, length-append, take, map, arith, rules}
+use Rattle.std.proofs.lemmas.List.{length-take-le}
 use Rattle.rel_base.specs.Picks.{items_at}
 use Rattle.rel_base.proofs.PickLemmas.{length-items_at}
 use Rattle.rel_base.proofs.StartLemmas.{items_at-front, items_at-back}

@@ -1,10 +1,9 @@
-use Rattle.std.proofs.Common.{◌≡◌, ℕ, sym, ◌∙◌, ap, arith, rules, ◌<◌, ◌+◌, ◌++◌, ◌^◌, length, length-append, All, get_or, take, map, List}
-use Rattle.std.proofs.lemmas.List.{get_or-take, length-take-le}
+use Rattle.std.proofs.Common.{◌≡◌, ap, arith, rules, ◌<◌, ◌+◌, ◌++◌, ◌^◌, length, length-append, take, map, List}
+use Rattle.std.proofs.lemmas.List.{length-take-le}
 use Rattle.std.proofs.lemmas.List.Concat.{flat_map-append}
 use Rattle.std.proofs.lemmas.List.Elements.{All-append}
 use Rattle.rel_base.specs.declared.values.Value.{Value}
 use Rattle.rel_base.specs.Picks.{joined}
-use Rattle.rel_base.specs.inner.Starts.{AreStarts}
 use Rattle.rel_base.proofs.StartLemmas.{AreStarts-append, AreStarts-take, starts_below}
 use Rattle.rel_base.proofs.shared_rows.SharedRows.append.Goals as goal
 

@@ -1,4 +1,4 @@
-use Rattle.std.proofs.Common.{◌≡◌, ◌<◌, ◌+◌, ◌-◌, [], sym, ◌∙◌, ap, arith, length, get_or, take}
+use Rattle.std.proofs.Common.{◌≡◌, ◌-◌, [], sym, ◌∙◌, ap, length, get_or, take}
 use Rattle.std.proofs.lemmas.List.{get_or_read}
 use Rattle.rel_base.specs.Picks.{joined}
 use Rattle.rel_base.proofs.StartLemmas.{item_of_list}

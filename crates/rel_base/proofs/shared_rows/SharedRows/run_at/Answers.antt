@@ -1,4 +1,4 @@
-use Rattle.std.proofs.Common.{◌≡◌, ℕ, ◌+◌, ◌-◌, ◌<◌, ◌≤◌, [], length, take, map, All, sym, ap, ◌∙◌, arith, get_or}
+use Rattle.std.proofs.Common.{◌≡◌, ◌+◌, ◌-◌, ◌<◌, [], length, take, map, All, sym, ap, ◌∙◌, arith, get_or}
 use Rattle.std.proofs.lemmas.List.{get_or_read, length-take-le}
 use Rattle.rel_base.specs.Picks.{items_at, joined}
 use Rattle.rel_base.proofs.PickLemmas.{length-items_at}

@@ -1,4 +1,4 @@
-use Rattle.std.proofs.Common.{◌≡◌, sym, ◌∙◌, ap, arith, rules, ◌<◌, ◌+◌, ◌*◌, ◌^◌, length, get_or}
+use Rattle.std.proofs.Common.{◌≡◌, sym, ◌∙◌, ap, arith, rules, ◌<◌, ◌+◌, ◌*◌, ◌^◌, get_or}
 use Rattle.rel_base.specs.inner.Selections.{places_of}
 use Rattle.rel_base.proofs.PickLemmas.{length-stepped, get_or-stepped}
 use Rattle.rel_base.proofs.stretches.Selection.place.Goals as goal

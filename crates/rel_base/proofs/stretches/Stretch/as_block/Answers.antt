@@ -1,4 +1,4 @@
-use Rattle.std.proofs.Common.{◌≡◌, ◌∙◌, sym}
+use Rattle.std.proofs.Common.{◌∙◌, sym}
 use Rattle.rel_base.proofs.PickLemmas.{items_at-all}
 use Rattle.rel_base.proofs.stretches.Stretch.as_block.Goals as goal
 

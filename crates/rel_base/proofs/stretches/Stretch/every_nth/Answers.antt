@@ -1,4 +1,4 @@
-use Rattle.std.proofs.Common.{◌≡◌, sym, ap, rules, arith, ◌+◌, ◌*◌, ◌<◌, ◌≤◌, ◌^◌, length}
+use Rattle.std.proofs.Common.{sym, rules, arith, ◌<◌, ◌^◌, length}
 use Rattle.rel_base.proofs.PickLemmas.{length-stepped, stepped_within, length-items_at}
 use Rattle.rel_base.specs.inner.Strides.{stepped}
 use Rattle.rel_base.proofs.StrideLemmas.{every_nth-stepped}

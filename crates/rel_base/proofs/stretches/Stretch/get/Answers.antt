@@ -1,5 +1,4 @@
-use Rattle.std.proofs.Common.{◌≡◌, sym, ◌∙◌, ap, arith, rules, ◌<◌, ◌+◌, ◌*◌, ◌^◌, length, get_or, subst}
-use Rattle.std.proofs.lemmas.List.{get_or_read}
+use Rattle.std.proofs.Common.{◌∙◌, ap, arith, rules, ◌<◌, ◌+◌, ◌*◌, ◌^◌, length, get_or}
 use Rattle.rel_base.proofs.PickLemmas.{items_at-every_length, items_at-length, place_every, item_every, item_at}
 use Rattle.rel_base.proofs.stretches.Stretch.get.Goals as goal
 use Rattle.rel_base.proofs.stretches.Stretch.get.Goals.{In-Every, In-At}

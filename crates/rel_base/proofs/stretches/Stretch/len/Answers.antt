@@ -1,4 +1,4 @@
-use Rattle.std.proofs.Common.{sym, ◌∙◌, arith}
+use Rattle.std.proofs.Common.{arith}
 use Rattle.rel_base.proofs.PickLemmas.{items_at-every_length, items_at-length}
 use Rattle.rel_base.proofs.stretches.Stretch.len.Goals as goal
 

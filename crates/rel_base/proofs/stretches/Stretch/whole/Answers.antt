@@ -1,4 +1,4 @@
-use Rattle.std.proofs.Common.{sym, ◌∙◌, ap, rules, arith, ◌<◌, ◌^◌}
+use Rattle.std.proofs.Common.{◌∙◌, ap, rules, arith, ◌<◌, ◌^◌}
 use Rattle.rel_base.specs.inner.Strides.{stepped}
 use Rattle.rel_base.specs.Picks.{items_at}
 use Rattle.rel_base.proofs.PickLemmas.{length-stepped, stepped_within, items_at-all}

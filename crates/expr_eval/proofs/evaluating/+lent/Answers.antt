@@ -1,0 +1,10 @@
+use Rattle.expr_eval.proofs.PlaceLemmas.{value_at-past}
+use Rattle.myrial_ast.specs.Scalars.{fits}
+use Rattle.std.proofs.Common.{sym, arith}
+use Rattle.expr_eval.proofs.evaluating.+lent.Goals as goal
+
+pub returns-in-None-clause-value : goal.returns-in-None-clause-value
+returns-in-None-clause-value g t c = grind (arith, value_at-past)
+
+pub returns-in-None-clause-fits : goal.returns-in-None-clause-fits
+returns-in-None-clause-fits g t c = grind (arith, value_at-past)
