@@ -26,7 +26,7 @@ use Rattle.std.proofs.lemmas.List.Elements.{filter_passes, All-append}
 
 -- ---- rows that are one
 
-tied : (r s : Row) → same_row r s ≡ true → r ≡ s
+pub tied : (r s : Row) → same_row r s ≡ true → r ≡ s
 tied r s e = by (row_order r s) refl e
   where
     by : (o : Ordering) → row_order r s ≡ o → is_eq o ≡ true → r ≡ s
@@ -34,7 +34,7 @@ tied r s e = by (row_order r s) refl e
     by Equal p e = row_order-IsAntisymmetric r s p
     by Greater p e = absurd (cc)
 
-itself : (r : Row) → same_row r r ≡ true
+pub itself : (r : Row) → same_row r r ≡ true
 itself r = by (row_order r r) (row_order_total.antisymm r r)
   where
     by : (o : Ordering) → o ≡ ordering_reverse o → is_eq o ≡ true
@@ -44,7 +44,7 @@ itself r = by (row_order r r) (row_order_total.antisymm r r)
 
 -- ---- filters
 
-filter-inside : {X : Type 0} (p q : X → Bool) → ((x : X) → p x ≡ true → q x ≡ true) → (xs : List X) → filter p (filter q xs) ≡ filter p xs
+pub filter-inside : {X : Type 0} (p q : X → Bool) → ((x : X) → p x ≡ true → q x ≡ true) → (xs : List X) → filter p (filter q xs) ≡ filter p xs
 filter-inside p q h [] = refl
 filter-inside {X} p q h (x ∷ xs) = by (p x) (q x) refl (h x) (filter-inside p q h xs)
   where
@@ -78,10 +78,10 @@ filter-swap {X} p q (x ∷ xs) = by (p x) (q x) refl refl (filter-swap p q xs)
 
 -- ---- distinct rows
 
-abbrev other : Row → Row → Bool
+abbrev pub other : Row → Row → Bool
 other r s = not (same_row r s)
 
-distinct-filter : (p : Row → Bool) (rows : Rows) → filter p (distinct rows) ≡ distinct (filter p rows)
+pub distinct-filter : (p : Row → Bool) (rows : Rows) → filter p (distinct rows) ≡ distinct (filter p rows)
 distinct-filter p [] = refl
 distinct-filter p (r ∷ rows) = by (p r) refl (distinct-filter p rows)
   where
@@ -328,7 +328,7 @@ merged_are_groups kinds lists partials all same =
 -- ---- the places of the key
 
 -- the places of what rows are grouped by, from a place on
-abbrev places : ℕ → Kinds → List ℕ
+abbrev pub places : ℕ → Kinds → List ℕ
 places i kinds = map (λ e. e.0) (filter (λ e. is_none e.1) (enumerate_from i kinds))
 
 places-behind : (kinds : Kinds) (i : ℕ) (row : Row) → map (value_at row) (places (i + 1) kinds) ≡ map (value_at (behind row)) (places i kinds)
@@ -339,7 +339,7 @@ places-behind (None ∷ kinds) i row =
     λ j. first j ∷ rest j
 places-behind (Some op ∷ kinds) i row = places-behind kinds (i + 1) row
 
-places-key : (kinds : Kinds) (row : Row) → length row ≡ length kinds → map (value_at row) (places 0 kinds) ≡ key_of kinds row
+pub places-key : (kinds : Kinds) (row : Row) → length row ≡ length kinds → map (value_at row) (places 0 kinds) ≡ key_of kinds row
 places-key [] [] e = refl
 places-key [] (v ∷ row) e = absurd (omega (arith, e))
 places-key (kind ∷ kinds) [] e = absurd (omega (arith, e))
@@ -381,7 +381,7 @@ filter-map {X} {Y} p f (x ∷ xs) = by (p (f x)) (filter-map p f xs)
     by true e = ap (λ ys. f x ∷ ys) e
     by false e = e
 
-map-agree : {X Y : Type 0} (f g : X → Y) (xs : List X) → All (λ x. f x ≡ g x) xs → map f xs ≡ map g xs
+pub map-agree : {X Y : Type 0} (f g : X → Y) (xs : List X) → All (λ x. f x ≡ g x) xs → map f xs ≡ map g xs
 map-agree f g [] h = refl
 map-agree f g (x ∷ xs) h =
     let first = All-head (λ y. f y ≡ g y) x xs h in

@@ -1,0 +1,140 @@
+-- The row of a group, column by column, and the groups that a run is taken from.
+use Rattle.std.proofs.Common.{◌≡◌, ℕ, ◌+◌, Bool, true, false, List, [], ◌∷◌, ◌++◌, length, map, take, drop, refl, sym, ◌∙◌, ap, subst, append_assoc}
+use Rattle.std.specs.Prelude.{◌&&◌, IsSorted}
+use Rattle.std.specs.List.{enumerate_from, list_all}
+use Rattle.std.specs.Borrow.{Bor}
+use Rattle.std.proofs.lemmas.List.{drop-drop, drop-map, take-map, map-id}
+use Rattle.std.proofs.lemmas.List.Folds.{list_all-map}
+use Rattle.std.proofs.lemmas.List.Sorted.{IsPermutation-map}
+use Rattle.rel_base.specs.Bags.{SameBag}
+use Rattle.myrial_ast.specs.Partials.{whole_sums, partial_kinds}
+use Rattle.bag_laws.proofs.GroupPermutations.{groups-same}
+use Rattle.rel_base.specs.Values.{row_order}
+use Rattle.myrial_ast.specs.Scalars.{value_at}
+use Rattle.myrial_ast.specs.Combinations.{Row, Rows}
+use Rattle.myrial_ast.specs.Groups.{Kinds, key_of, cell, group_row, groups}
+use Rattle.bag_laws.specs.PartialLaws.{AreGrouped}
+use Rattle.bag_laws.proofs.ColumnLemmas.{map-through}
+use Rattle.bag_laws.proofs.PartialLemmas.{places-key}
+use Rattle.aggregate_ops.specs.declared.faults.AggFault.{AggFault}
+use Rattle.aggregate_ops.specs.declared.faults.AggFault.TheVariants as fault
+use Rattle.aggregate_ops.specs.declared.forms.Form.{Form}
+use Rattle.aggregate_ops.specs.declared.forms.Form.TheVariants.{Whole, Split, Merged}
+use Rattle.aggregate_ops.specs.Columns.{rows_in, column, cells, key_places, key_at, Overflows}
+use Rattle.aggregate_ops.specs.Forms.{grouped_kinds, formed, form_fits, added_in, merged_fits, results, results_fit}
+use Rattle.aggregate_ops.specs.inner.Runs.{IsRun}
+use Rattle.aggregate_ops.proofs.RunLemmas.{groups-step, sorted-drop}
+use Rattle.aggregate_ops.proofs.BagLemmas.{All-drop}
+use Rattle.aggregate_ops.proofs.StepLemmas.{list_all-same, list_all-true}
+
+cells-from : (kinds : Kinds) (place : ℕ) (run : List (Bor Row))
+    → cells place kinds run ≡ map (λ p. cell p.1 (map (λ row. value_at row p.0) (rows_in run))) (enumerate_from place kinds)
+cells-from [] place run = refl
+cells-from (kind ∷ kinds) place run =
+    let first = ap (cell kind) (sym (map-through (λ row. value_at row place) (λ (row : Bor Row). row.now) run)) in
+    let rest = cells-from kinds (place + 1) run in
+    λ i. first i ∷ rest i
+
+-- the cells are the row of the group
+pub cells_row : (kinds : Kinds) (run : List (Bor Row)) → cells 0 kinds run ≡ group_row kinds (rows_in run)
+cells_row kinds run = cells-from kinds 0 run
+
+-- what is made of the first run, and of the rows behind it
+pub record StepsOver (form : Form) (kinds : Kinds) (rows : Rows) (n : ℕ) : Type 0 where
+  pub rows_are : results form kinds rows ≡ formed form kinds (group_row (grouped_kinds form kinds) (take n rows)) ∷ results form kinds (drop n rows)
+  pub fit_is : results_fit form kinds rows ≡ (form_fits form kinds (group_row (grouped_kinds form kinds) (take n rows)) && results_fit form kinds (drop n rows))
+
+pub steps-over : (form : Form) (kinds : Kinds) (places : List ℕ) (rows : Rows) (n : ℕ) → places ≡ key_places (grouped_kinds form kinds)
+    → AreGrouped (grouped_kinds form kinds) rows → IsSorted row_order (map (key_at places) rows) → IsRun (map (key_at places) rows) n → StepsOver form kinds rows n
+steps-over form kinds places rows n is all s r = record {
+  rows_are = ap (map (formed form kinds)) step;
+  fit_is = ap (list_all (form_fits form kinds)) step;
+}
+  where
+    grouping : Kinds
+    grouping = grouped_kinds form kinds
+
+    step : groups grouping rows ≡ group_row grouping (take n rows) ∷ groups grouping (drop n rows)
+    step =
+        groups-step grouping places (λ row e. sym (places-key grouping row e) ∙ ap (λ ps. key_at ps row) (sym is)) rows n all s r
+
+-- what is made of the runs so far, and what is left of the rows in order
+pub record LeftOver (form : Form) (kinds : Kinds) (places : List ℕ) (rows made left : Rows) : Type 0 where
+  pub width : AreGrouped (grouped_kinds form kinds) left
+  pub ascending : IsSorted row_order (map (key_at places) left)
+  pub rows_are : made ++ results form kinds left ≡ results form kinds rows
+  pub fit_is : results_fit form kinds left ≡ results_fit form kinds rows
+
+-- one run more
+pub one-more : (form : Form) (kinds : Kinds) (places : List ℕ) (rows made left : Rows) (n : ℕ) (row : Row)
+    → places ≡ key_places (grouped_kinds form kinds) → LeftOver form kinds places rows made left → IsRun (map (key_at places) left) n
+    → row ≡ formed form kinds (group_row (grouped_kinds form kinds) (take n left))
+    → form_fits form kinds (group_row (grouped_kinds form kinds) (take n left)) ≡ true
+    → LeftOver form kinds places rows (made ++ row ∷ []) (drop n left)
+one-more form kinds places rows made left n row is l r row_is fits =
+    let s = steps-over form kinds places left n is l.width l.ascending r in
+    record {
+      width = All-drop (λ r. length r ≡ length (grouped_kinds form kinds)) n left l.width;
+      ascending = subst (λ (keys : Rows). IsSorted row_order keys) (drop-map (key_at places) n left) (sorted-drop n (map (key_at places) left) l.ascending);
+      rows_are =
+          append_assoc made (row ∷ []) (results form kinds (drop n left))
+          ∙ ap (λ rows. made ++ rows) ((λ i. row_is i ∷ results form kinds (drop n left)) ∙ sym s.rows_are) ∙ l.rows_are;
+      fit_is = sym (s.fit_is ∙ ap (λ b. b && results_fit form kinds (drop n left)) fits) ∙ l.fit_is;
+    }
+
+-- one run doesn't fit
+pub one-overflows : (form : Form) (kinds : Kinds) (places : List ℕ) (rows made left : Rows) (n : ℕ)
+    → places ≡ key_places (grouped_kinds form kinds) → LeftOver form kinds places rows made left → IsRun (map (key_at places) left) n
+    → form_fits form kinds (group_row (grouped_kinds form kinds) (take n left)) ≡ false
+    → results_fit form kinds rows ≡ false
+one-overflows form kinds places rows made left n is l r fails =
+    sym l.fit_is ∙ (steps-over form kinds places left n is l.width l.ascending r).fit_is ∙ ap (λ b. b && results_fit form kinds (drop n left)) fails
+
+-- the same, where the rows stand as references
+pub one-more-at : (form : Form) (kinds : Kinds) (places : List ℕ) (ordered : List (Bor Row)) (made : Rows) (done n : ℕ) (row : Row)
+    → places ≡ key_places (grouped_kinds form kinds) → LeftOver form kinds places (rows_in ordered) made (rows_in (drop done ordered))
+    → IsRun (map (key_at places) (rows_in (drop done ordered))) n
+    → row ≡ formed form kinds (group_row (grouped_kinds form kinds) (rows_in (take n (drop done ordered))))
+    → form_fits form kinds (group_row (grouped_kinds form kinds) (rows_in (take n (drop done ordered)))) ≡ true
+    → LeftOver form kinds places (rows_in ordered) (made ++ row ∷ []) (rows_in (drop (done + n) ordered))
+one-more-at form kinds places ordered made done n row is l r row_is fits =
+    let run : rows_in (take n (drop done ordered)) ≡ take n (rows_in (drop done ordered)) = sym (take-map (λ (row : Bor Row). row.now) n (drop done ordered)) in
+    let left : drop n (rows_in (drop done ordered)) ≡ rows_in (drop (done + n) ordered) = drop-map (λ (row : Bor Row). row.now) n (drop done ordered) ∙ ap rows_in (drop-drop n done ordered) in
+    subst (λ (left : Rows). LeftOver form kinds places (rows_in ordered) (made ++ row ∷ []) left) left
+    (one-more form kinds places (rows_in ordered) made (rows_in (drop done ordered)) n row is l r
+    (row_is ∙ ap (λ rows. formed form kinds (group_row (grouped_kinds form kinds) rows)) run)
+    (sym (ap (λ rows. form_fits form kinds (group_row (grouped_kinds form kinds) rows)) run) ∙ fits))
+
+pub one-overflows-at : (form : Form) (kinds : Kinds) (places : List ℕ) (ordered : List (Bor Row)) (made : Rows) (done n : ℕ) (given : AggFault)
+    → places ≡ key_places (grouped_kinds form kinds) → LeftOver form kinds places (rows_in ordered) made (rows_in (drop done ordered))
+    → IsRun (map (key_at places) (rows_in (drop done ordered))) n
+    → Overflows given (form_fits form kinds (group_row (grouped_kinds form kinds) (rows_in (take n (drop done ordered)))))
+    → Overflows given (results_fit form kinds (rows_in ordered))
+one-overflows-at form kinds places ordered made done n fault.Memory is l r fails = tt
+one-overflows-at form kinds places ordered made done n fault.AggregateOverflow is l r fails =
+    let run : rows_in (take n (drop done ordered)) ≡ take n (rows_in (drop done ordered)) = sym (take-map (λ (row : Bor Row). row.now) n (drop done ordered)) in
+    one-overflows form kinds places (rows_in ordered) made (rows_in (drop done ordered)) n is l r
+    (sym (ap (λ rows. form_fits form kinds (group_row (grouped_kinds form kinds) rows)) run) ∙ fails)
+
+-- the order of the rows changes no result but in its order
+pub results-same : (form : Form) (kinds : Kinds) (rows others : Rows) → SameBag rows others → SameBag (results form kinds rows) (results form kinds others)
+results-same form kinds rows others h =
+    IsPermutation-map (formed form kinds) (groups (grouped_kinds form kinds) rows) (groups (grouped_kinds form kinds) others)
+    (groups-same (grouped_kinds form kinds) rows others h)
+
+pub results_fit-same : (form : Form) (kinds : Kinds) (rows others : Rows) → SameBag rows others → results_fit form kinds rows ≡ results_fit form kinds others
+results_fit-same form kinds rows others h =
+    list_all-same (form_fits form kinds) (groups (grouped_kinds form kinds) rows) (groups (grouped_kinds form kinds) others)
+    (groups-same (grouped_kinds form kinds) rows others h)
+
+-- the rows of groups are made of themselves
+pub results_whole : (kinds : Kinds) (rows : Rows) → results Whole kinds rows ≡ groups kinds rows
+results_whole kinds rows = map-id (groups kinds rows)
+
+-- partial rows always fit
+pub split_fits : (kinds : Kinds) (rows : Rows) → results_fit Split kinds rows ≡ true
+split_fits kinds rows = list_all-true (groups kinds rows)
+
+-- so do merged rows where their sums and counts do
+pub merged_fit : (kinds : Kinds) (rows : Rows) → merged_fits kinds rows ≡ results_fit Merged kinds rows
+merged_fit kinds rows = list_all-map (added_in kinds) (whole_sums kinds) (groups (partial_kinds kinds) rows)

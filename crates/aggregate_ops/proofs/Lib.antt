@@ -1,0 +1,5 @@
+pub mod ColumnLemmas
+pub mod RunLemmas
+pub mod CellLemmas
+pub mod BagLemmas
+pub mod StepLemmas

@@ -1,0 +1,75 @@
+-- Counting the rows of a run, one by one.
+use Rattle.std.proofs.Common.{◌≡◌, ℕ, zero, suc, ◌+◌, ◌-◌, ◌<◌, Bool, true, false, not, List, [], ◌∷◌, length, map, take, drop, get_or, refl, sym, ◌∙◌, ap, arith}
+use Rattle.std.specs.Prelude.{IsPermutation, ◌&&◌, ◌||◌}
+use Rattle.std.specs.List.{list_all, list_any}
+use Rattle.std.proofs.lemmas.List.Sorted.{list_any-IsPermutation}
+use Rattle.std.specs.Borrow.{Bor}
+use Rattle.std.proofs.lemmas.List.{get_or-map, length-map, length-drop}
+use Rattle.myrial_ast.specs.Combinations.{Row, Rows}
+use Rattle.myrial_ast.specs.Bags.{same_row}
+use Rattle.bag_laws.proofs.PartialLemmas.{tied}
+use Rattle.aggregate_ops.specs.Columns.{rows_in, key_at}
+
+module _ (rows : List (Bor Row)) where
+  -- a row at a place
+  pub row-item : (k : ℕ) (one : Bor Row) → k < length rows → one ≡ get_or rows k one → get_or (rows_in rows) k [] ≡ one.now
+  row-item k one low is = get_or-map (λ (r : Bor Row). r.now) rows k one [] low ∙ ap (λ (r : Bor Row). r.now) (sym is)
+
+  -- its key
+  pub key-item : (places : List ℕ) (k : ℕ) (one : Bor Row) → k < length rows → one ≡ get_or rows k one
+      → get_or (map (key_at places) (rows_in rows)) k [] ≡ key_at places one.now
+  key-item places k one low is =
+      get_or-map (key_at places) (rows_in rows) k [] [] (omega (arith, low, length-map rows (λ (r : Bor Row). r.now))) ∙ ap (key_at places) (row-item k one low is)
+
+  -- a row that is the first one
+  pub row-same : (k : ℕ) (first one : Bor Row) → k < length rows → 0 < length rows → first ≡ get_or rows 0 first → one ≡ get_or rows k one
+      → same_row first.now one.now ≡ true → get_or (rows_in rows) k [] ≡ get_or (rows_in rows) 0 []
+  row-same k first one low some is at same = row-item k one low at ∙ sym (tied first.now one.now same) ∙ sym (row-item 0 first some is)
+
+  -- a key that is the first one
+  pub key-same : (places : List ℕ) (k : ℕ) (first one : Bor Row) → k < length rows → 0 < length rows → first ≡ get_or rows 0 first → one ≡ get_or rows k one
+      → same_row (key_at places first.now) (key_at places one.now) ≡ true
+      → get_or (map (key_at places) (rows_in rows)) k [] ≡ get_or (map (key_at places) (rows_in rows)) 0 []
+  key-same places k first one low some is at same =
+      key-item places k one low at ∙ sym (tied (key_at places first.now) (key_at places one.now) same) ∙ sym (key-item places 0 first some is)
+
+  -- a row or a key that isn't
+  pub row-other : (k : ℕ) (first one : Bor Row) → k < length rows → 0 < length rows → first ≡ get_or rows 0 first → one ≡ get_or rows k one
+      → same_row first.now one.now ≡ false → same_row (get_or (rows_in rows) 0 []) (get_or (rows_in rows) k []) ≡ false
+  row-other k first one low some is at other = (λ i. same_row (row-item 0 first some is i) (row-item k one low at i)) ∙ other
+
+  pub key-other : (places : List ℕ) (k : ℕ) (first one : Bor Row) → k < length rows → 0 < length rows → first ≡ get_or rows 0 first → one ≡ get_or rows k one
+      → same_row (key_at places first.now) (key_at places one.now) ≡ false
+      → same_row (get_or (map (key_at places) (rows_in rows)) 0 []) (get_or (map (key_at places) (rows_in rows)) k []) ≡ false
+  key-other places k first one low some is at other = (λ i. same_row (key-item places 0 first some is i) (key-item places k one low at i)) ∙ other
+
+-- what a slice from a place on has
+pub behind : {X : Type 0} (k : ℕ) (xs : List X) → take (length xs - k) (drop k xs) ≡ drop k xs
+behind k xs = take-length (length xs - k) (drop k xs) (omega (arith, length-drop k xs))
+  where
+    take-length : {X : Type 0} (n : ℕ) (xs : List X) → length xs ≡ n → take n xs ≡ xs
+    take-length zero [] e = refl
+    take-length (suc n) [] e = refl
+    take-length zero (x ∷ xs) e = absurd (omega (arith, e))
+    take-length (suc n) (x ∷ xs) e = ap (λ ys. x ∷ ys) (take-length n xs (omega (arith, e)))
+
+-- what a slice up to a place has
+pub front : {X : Type 0} (k : ℕ) (xs : List X) → take (k - 0) xs ≡ take k xs
+front k xs = let same : k - 0 ≡ k = omega arith in ap (λ (n : ℕ). take n xs) same
+
+-- a test of all, whatever the order
+list_all-not : {X : Type 0} (p : X → Bool) (xs : List X) → list_all p xs ≡ not (list_any (λ x. not (p x)) xs)
+list_all-not p [] = refl
+list_all-not p (x ∷ xs) = by (p x) (list_all-not p xs)
+  where
+    by : (b : Bool) → list_all p xs ≡ not (list_any (λ x. not (p x)) xs) → (b && list_all p xs) ≡ not (not b || list_any (λ x. not (p x)) xs)
+    by true e = e
+    by false e = refl
+
+pub list_all-same : {X : Type 0} (p : X → Bool) (xs ys : List X) → IsPermutation xs ys → list_all p xs ≡ list_all p ys
+list_all-same p xs ys h =
+    list_all-not p xs ∙ ap not (list_any-IsPermutation (λ x. not (p x)) xs ys h) ∙ sym (list_all-not p ys)
+
+pub list_all-true : {X : Type 0} (xs : List X) → list_all (λ x. true) xs ≡ true
+list_all-true [] = refl
+list_all-true (x ∷ xs) = list_all-true xs

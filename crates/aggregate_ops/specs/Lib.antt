@@ -1,0 +1,5 @@
+-- The words of this crate, lowest first.
+pub mod Columns
+pub mod Keyed
+pub mod Forms
+pub mod inner

@@ -1,0 +1,138 @@
+//! Groups: rows in the order of their keys, read run by run.
+ghost use Rattle.std.specs.Prelude.{◌≡◌, ◌<◌, ◌^◌, ◌++◌, IsTrue, map, length, OnOk, IfOk, IfErr, IsSorted, true};
+ghost use Rattle.rel_base.specs.Bags.{SameBag};
+ghost use Rattle.rel_base.specs.Values.{row_order};
+ghost use Rattle.myrial_ast.specs.Groups.{groups, sums_fit};
+ghost use Rattle.myrial_ast.specs.Partials.{partial_kinds};
+ghost use Rattle.bag_laws.specs.PartialLaws.{AreGrouped};
+ghost use Rattle.algebra.specs.Trees.{kind_of_emit};
+ghost use Rattle.aggregate_ops.specs.Columns.{rows_in, key_places, key_at, Overflows};
+ghost use Rattle.aggregate_ops.specs.Forms.{grouped_kinds, results, results_fit};
+
+use crate::AggFault;
+use crate::forms::{Form, added};
+use crate::keys::rows_by_key;
+use crate::runs::run_length;
+use algebra::{EmitKind, EmitKinds};
+use myrial_ast::AggOp;
+use rel_base::{Memory, Places, Row, Rows};
+use std::alloc::Global;
+
+/// Adds how the columns of partial rows are grouped again: counts are added, and a sum is two columns.
+fn put_kinds(kinds: &[EmitKind], into: &mut Vec<EmitKind>) -> Result<(), Memory>
+    ensures { OnOk result (map kind_of_emit into.new.items ≡ map kind_of_emit into.old.items ++ partial_kinds (map kind_of_emit kinds.now)) }
+{
+    match kinds {
+        [] => Ok(()),
+        [EmitKind::Agg(AggOp::Sum), kinds @ ..] => {
+            into.push(EmitKind::Agg(AggOp::Sum))?;
+            into.push(EmitKind::Agg(AggOp::Sum))?;
+            put_kinds(kinds, into)
+        }
+        [kind, kinds @ ..] => {
+            into.push(added(*kind))?;
+            put_kinds(kinds, into)
+        }
+    }
+}
+
+/// How the columns of partial rows are grouped again.
+fn partial_kinds(alloc: Global, kinds: &[EmitKind]) -> Result<Vec<EmitKind>, Memory>
+    ensures { IfOk result (λ made. map kind_of_emit made.items ≡ partial_kinds (map kind_of_emit kinds.now)) }
+{
+    let mut made = Vec::with_capacity(alloc, kinds.len())?;
+    put_kinds(kinds, &mut made)?;
+    Ok(made)
+}
+
+/// The places of what rows are grouped by; there is no memory where a place is no `u32`.
+fn key_places(alloc: Global, kinds: &[EmitKind]) -> Result<Places, Memory>
+    ensures { IfOk result (λ made. made ≡ key_places (map kind_of_emit kinds.now)) }
+{
+    if kinds.len() > u32::MAX as usize {
+        return Err(Memory);
+    }
+    let mut places = Places::new(alloc);
+    for (place, kind) in kinds.iter().enumerate() {
+        if matches!(kind, EmitKind::Key) {
+            places.push(place as u32)?;
+        }
+    }
+    Ok(places)
+}
+
+/// The places of what partial rows are grouped by; there is no memory where a place is no `u32`.
+pub fn partial_places(alloc: Global, kinds: &[EmitKind]) -> Result<Places, Memory>
+    ensures { IfOk result (λ made. made ≡ key_places (partial_kinds (map kind_of_emit kinds.now))) }
+{
+    let kinds = partial_kinds(alloc, kinds)?;
+    let places = key_places(alloc, &kinds)?;
+    Ok(places)
+}
+
+/// The places of what rows are grouped by.
+fn places_for(alloc: Global, form: Form, kinds: &EmitKinds) -> Result<Places, Memory>
+    ensures { IfOk result (λ made. made ≡ key_places (grouped_kinds form (map kind_of_emit kinds.now))) }
+{
+    match form {
+        Form::Whole => key_places(alloc, kinds.as_slice()),
+        Form::Split => key_places(alloc, kinds.as_slice()),
+        Form::Merged => partial_places(alloc, kinds.as_slice()),
+    }
+}
+
+/// What is made of each run of equal keys.
+fn rows_of_runs(
+    alloc: Global,
+    form: Form,
+    kinds: &EmitKinds,
+    places: &[u32],
+    ordered: &[&Row],
+) -> Result<Rows, AggFault>
+    requires places { places.now ≡ key_places (grouped_kinds form (map kind_of_emit kinds.now)) }
+    requires width { AreGrouped (grouped_kinds form (map kind_of_emit kinds.now)) (rows_in ordered.now) }
+    requires ascending { IsSorted row_order (map (key_at places.now) (rows_in ordered.now)) }
+    requires few { length ordered.now < 2 ^ 32 }
+    ensures rows { IfOk result (λ made. made ≡ results form (map kind_of_emit kinds.now) (rows_in ordered.now)) }
+    ensures fits { OnOk result (results_fit form (map kind_of_emit kinds.now) (rows_in ordered.now) ≡ true) }
+    ensures fault { IfErr result (λ fault. Overflows fault (results_fit form (map kind_of_emit kinds.now) (rows_in ordered.now))) }
+{
+    let mut made = Rows::new(alloc);
+    let mut done = 0;
+    while done < ordered.len() {
+        let left = &ordered[done..];
+        let count = run_length(places, left);
+        match form.row(alloc, kinds, &left[..count]) {
+            Ok(row) => made.push(row)?,
+            Err(fault) => return Err(fault),
+        }
+        done += count;
+    }
+    made.freeze(alloc)?;
+    Ok(made)
+}
+
+/// What is made of each group of rows, in the order of the keys.
+pub fn grouped(alloc: Global, form: Form, rows: &Rows, kinds: &EmitKinds) -> Result<Rows, AggFault>
+    requires { AreGrouped (grouped_kinds form (map kind_of_emit kinds.now)) rows.now }
+    ensures bag { IfOk result (λ made. SameBag (results form (map kind_of_emit kinds.now) rows.now) made) }
+    ensures fits { OnOk result (results_fit form (map kind_of_emit kinds.now) rows.now ≡ true) }
+    ensures fault { IfErr result (λ fault. Overflows fault (results_fit form (map kind_of_emit kinds.now) rows.now)) }
+{
+    let places = places_for(alloc, form, kinds)?;
+    let ordered = rows_by_key(alloc, rows, places.as_slice())?;
+    rows_of_runs(alloc, form, kinds, places.as_slice(), &ordered)
+}
+
+/// A row for each group of the rows, in the order of their keys: what rows are grouped by, and the aggregates of the rest.
+///
+/// No group is left out, and rows fall together where their keys are equal, whatever their codes are. A sum may leave 64 bits on
+/// the way.
+pub fn group(alloc: Global, rows: &Rows, kinds: &EmitKinds) -> Result<Rows, AggFault>
+    requires { AreGrouped (map kind_of_emit kinds.now) rows.now }
+    ensures bag { IfOk result (λ made. SameBag (groups (map kind_of_emit kinds.now) rows.now) made) }
+    ensures fits { OnOk result (sums_fit (map kind_of_emit kinds.now) rows.now ≡ true) }
+    ensures fault { IfErr result (λ fault. Overflows fault (sums_fit (map kind_of_emit kinds.now) rows.now)) }
+{
+    grouped(alloc, Form::Whole, rows, kinds)
+}

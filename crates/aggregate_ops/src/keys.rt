@@ -1,0 +1,142 @@
+//! Rows in the order of their keys.
+ghost use Rattle.std.specs.Prelude.{◌≡◌, ◌<◌, ◌^◌, List, map, length, All, OnOk, IfOk, IsPermutation, IsSorted};
+ghost use Rattle.rel_base.specs.Values.{value_order, row_order};
+ghost use Rattle.myrial_ast.specs.Scalars.{value_at};
+ghost use Rattle.aggregate_ops.specs.Columns.{rows_in, key_at};
+
+use crate::columns::value_in;
+use rel_base::{Memory, Row, Rows, Value};
+use std::alloc::Global;
+use std::cmp::Ordering;
+
+/// How two rows compare, each by its values at some places.
+pub fn order_at(row: &Row, places: &[u32], other: &Row, others: &[u32]) -> Ordering
+    ensures { result ≡ row_order (key_at places.now row.now) (key_at others.now other.now) }
+{
+    let [place, places @ ..] = places else {
+        return if others.is_empty() {
+            Ordering::Equal
+        } else {
+            Ordering::Less
+        };
+    };
+    let [other_place, others @ ..] = others else {
+        return Ordering::Greater;
+    };
+    let order = order_in(row, *place, other, *other_place);
+    if order.is_ne() {
+        return order;
+    }
+    order_at(row, places, other, others)
+}
+
+/// How the values of two rows, each at a place, compare.
+fn order_in(row: &Row, place: u32, other: &Row, other_place: u32) -> Ordering
+    ensures { result ≡ value_order (value_at row.now place) (value_at other.now other_place) }
+{
+    let zero = Value::Int(0);
+    value_in(row, place as usize, &zero).cmp(value_in(other, other_place as usize, &zero))
+}
+
+/// A row with the places by which it is compared.
+#[derive(Drop)]
+pub struct KeyedRow<'a> {
+    row: &'a Row,
+    places: &'a [u32],
+}
+
+impl PartialEq for KeyedRow<'_> {
+    ghost use Rattle.std.specs.Cmp.{eq_by_cmp_equiv, partial_equiv_from_equiv};
+    ghost use Rattle.std.specs.Ordering.{eq_by_cmp};
+    ghost use Rattle.aggregate_ops.specs.Keyed.{keyed_order, keyed_order_total};
+
+    ghost eq = { eq_by_cmp keyed_order };
+
+    ghost laws = { partial_equiv_from_equiv (eq_by_cmp_equiv keyed_order_total) };
+
+    fn eq(&self, other: &Self) -> bool {
+        self.cmp(other).is_eq()
+    }
+}
+
+impl Eq for KeyedRow<'_> {
+    ghost use Rattle.std.specs.Cmp.{eq_by_cmp_equiv};
+    ghost use Rattle.aggregate_ops.specs.Keyed.{keyed_order_total};
+
+    ghost laws = { eq_by_cmp_equiv keyed_order_total };
+}
+
+impl PartialOrd for KeyedRow<'_> {
+    ghost use Rattle.std.specs.Cmp.{partial_order_from_total};
+    ghost use Rattle.std.specs.Ordering.{as_partial_cmp};
+    ghost use Rattle.aggregate_ops.specs.Keyed.{keyed_order, keyed_order_total};
+
+    ghost partial_cmp = { as_partial_cmp keyed_order };
+
+    ghost laws = { partial_order_from_total keyed_order_total };
+
+    fn partial_cmp(&self, other: &Self) -> Option<Ordering> {
+        Some(self.cmp(other))
+    }
+}
+
+impl Ord for KeyedRow<'_> {
+    ghost use Rattle.std.specs.Prelude.{refl};
+    ghost use Rattle.aggregate_ops.specs.Keyed.{keyed_order, keyed_order_total};
+
+    ghost cmp = { keyed_order };
+
+    ghost total = { keyed_order_total };
+
+    ghost matches_partial_cmp = { λ r s. refl };
+
+    ghost matches_eq = { λ r s. refl };
+
+    fn cmp(&self, other: &Self) -> Ordering {
+        order_at(self.row, self.places, other.row, other.places)
+    }
+}
+
+/// Each row with the places.
+fn keyed_rows<'a>(
+    alloc: Global,
+    rows: &'a Rows,
+    places: &'a [u32],
+) -> Result<Vec<KeyedRow<'a>>, Memory>
+    ensures rows { IfOk result (λ made. map (λ e. e.row.now) made.items ≡ rows.now) }
+    ensures places { IfOk result (λ made. All (λ e. e.places.now ≡ places.now) made.items) }
+    ensures few { OnOk result (length rows.now < 2 ^ 32) }
+{
+    let mut keyed = Vec::with_capacity(alloc, rows.len() as usize)?;
+    for row in rows {
+        keyed.push(KeyedRow { row, places })?;
+    }
+    Ok(keyed)
+}
+
+/// The rows without the places.
+fn bare_rows<'a>(alloc: Global, keyed: &[KeyedRow<'a>]) -> Result<Vec<&'a Row>, Memory>
+    ensures { IfOk result (λ made. rows_in made.items ≡ map (λ e. e.row.now) keyed.entry.now) }
+{
+    let mut rows = Vec::with_capacity(alloc, keyed.len())?;
+    for item in keyed {
+        rows.push(item.row)?;
+    }
+    Ok(rows)
+}
+
+/// The rows in the order of their values at these places.
+pub fn rows_by_key<'a>(
+    alloc: Global,
+    rows: &'a Rows,
+    places: &'a [u32],
+) -> Result<Vec<&'a Row>, Memory>
+    ensures same { IfOk result (λ made. IsPermutation rows.now (rows_in made.items)) }
+    ensures ascending { IfOk result (λ made. IsSorted row_order (map (key_at places.now) (rows_in made.items))) }
+    ensures few { OnOk result (length rows.now < 2 ^ 32) }
+{
+    let mut keyed = keyed_rows(alloc, rows, places)?;
+    keyed.sort_unstable();
+    let made = bare_rows(alloc, &keyed)?;
+    Ok(made)
+}
