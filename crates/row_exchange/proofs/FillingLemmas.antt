@@ -18,7 +18,7 @@ use Rattle.rel_base.specs.Picks.{items_at}
 use Rattle.rel_base.proofs.PickLemmas.{length-items_at, one_item}
 use Rattle.rel_base.proofs.SortLemmas.{All-one}
 use Rattle.exchange_channels.specs.declared.messages.Batch.{Batch}
-use Rattle.row_exchange.specs.Routes.{Row, Rows, rows_at, times_to, rows_to, pairs_of, pairs_from}
+use Rattle.row_exchange.specs.Routes.{Row, Rows, GoesWithin, rows_at, times_to, rows_to, pairs_of, pairs_from}
 use Rattle.row_exchange.specs.Exchanges.{IsBatch}
 use Rattle.row_exchange.specs.inner.Shipments.{Shipment, shipped_in, shipped, rows_in, IsShipment, FillingState, pending_for, waiting, gathered, counted, IsFilling, IsSameWork, Gathers, no_more, row_at, filling_of, Finishes, AddsAtom, IsFilledTo, IsFilled}
 
@@ -316,9 +316,10 @@ replicate-none n w = ⊎_elim
     (cases_lt w n)
 
 pub fill-atom : (goes : Row → List ℕ) (atom atoms batch cells : ℕ) (rows : Rows) (filled made : List Shipment) (s : FillingState)
-    → Gathers (λ w. rows_to goes w rows) (pairs_of goes rows) (filling_of atom atoms rows batch cells filled) s → Finishes s made
+    → pairs_of goes rows ≤ 274877906944 → Gathers (λ w. rows_to goes w rows) (pairs_of goes rows) (filling_of atom atoms rows batch cells filled) s → Finishes s made
     → AddsAtom goes cells atoms batch atom rows filled made
-fill-atom goes atom atoms batch cells rows filled made s a f = record {
+fill-atom goes atom atoms batch cells rows filled made s few a f = record {
+  few = few;
   sized = subst (λ (n : ℕ × (ℕ × ℕ)). All (IsShipment n.0 n.1.0 n.1.1) made)
       (λ i. ((a.same_work.cells ∙ length-replicate {A = List ℕ} cells []) i, (a.same_work.atoms i, a.same_work.batch i))) f.sized;
   rows_are = λ w b.
@@ -345,12 +346,14 @@ no-atoms goes parts cells most worker = record {
   rows_are = λ w a none. absurd (omega arith);
   none = λ w a all. refl;
   count_is = refl;
+  few = omega arith;
 }
 
 pub one-atom-more : (goes : ℕ → Row → List ℕ) (parts : List (List Rows)) (cells most worker atom : ℕ) (old new : List Shipment)
     → IsFilledTo goes parts cells most worker atom old → AddsAtom (goes atom) cells (length parts) most atom (rows_at parts atom worker) old new
     → IsFilledTo goes parts cells most worker (atom + 1) new
 one-atom-more goes parts cells most worker atom old new f a = record {
+  few = (let e : (atom + 1) * 274877906944 ≡ atom * 274877906944 + 274877906944 = grind arith in omega (arith, e, f.few, a.few, a.count_is));
   sized = a.sized;
   rows_are = λ w b below. ⊎_elim
       (λ (h : b < atom). let ne : b ≢ atom = omega arith in
@@ -366,8 +369,9 @@ one-atom-more goes parts cells most worker atom old new f a = record {
 }
 
 pub all-atoms : (goes : ℕ → Row → List ℕ) (parts : List (List Rows)) (cells most worker done : ℕ) (xs : List Shipment)
-    → done ≡ length parts → IsFilledTo goes parts cells most worker done xs → IsFilled goes parts cells most worker xs
-all-atoms goes parts cells most worker done xs e f = record {
+    → done ≡ length parts → length parts ≤ 8 → IsFilledTo goes parts cells most worker done xs → IsFilled goes parts cells most worker xs
+all-atoms goes parts cells most worker done xs e small f = record {
+  few = omega (arith, f.few, e, small);
   sized = f.sized;
   rows_are = λ w a below. f.rows_are w a (omega arith);
   count_is = f.count_is ∙ ap (λ (n : ℕ). sum_by (λ a. pairs_of (goes a) (rows_at parts a worker)) (range_with_len 0 n)) e;
@@ -409,3 +413,10 @@ took-all rows n e = take_all n rows (omega (arith, ap length e, length-drop n ro
 pub IfOk-then : {X E : Type 0} {P Q : X → Type 0} (r : Result X E) → IfOk r P → ((x : X) → P x → Q x) → IfOk r Q
 IfOk-then (Ok x) p f = f x p
 IfOk-then (Err e) p f = p
+
+-- at most 64 cells a row
+pub pairs-few : (goes : Row → List ℕ) (workers : ℕ) (rows : Rows) → All (λ row. GoesWithin workers (goes row)) rows → pairs_of goes rows ≤ 64 * length rows
+pairs-few goes workers [] all = omega arith
+pairs-few goes workers (row ∷ rows) all =
+    omega (arith, sum_by-cons (λ r. length (goes r)) row rows, (All-head (λ r. GoesWithin workers (goes r)) row rows all).few, pairs-few goes workers rows (All-tail (λ r. GoesWithin workers (goes r)) row rows all))
+

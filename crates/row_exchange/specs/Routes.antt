@@ -44,7 +44,8 @@ all_rows_to goes parts workers atom w = flat_map (λ u. rows_to (goes atom) w (r
 
 -- the pairs of a row, of any atom and worker, and w
 abbrev pub pairs_to : (ℕ → Row → List ℕ) → List (List Rows) → ℕ → ℕ → ℕ
-pairs_to goes parts workers w = sum_by (λ atom. length (all_rows_to goes parts workers atom w)) (range_with_len 0 (length parts))
+pairs_to goes parts workers w =
+    sum_by (λ u. sum_by (λ atom. length (rows_to (goes atom) w (rows_at parts atom u))) (range_with_len 0 (length parts))) (range_with_len 0 workers)
 
 -- a row may go to these cells: they are workers, and no more than there may be workers
 pub record GoesWithin (workers : ℕ) (cells : List ℕ) : Type 0 where

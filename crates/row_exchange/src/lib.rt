@@ -13,9 +13,13 @@
 //! Read `routes.rt`, `specs/Routes.antt`, `specs/Exchanges.antt`, then `exchanging.rt`.
 #![tactic(auto)]
 
+mod exchanging;
 mod filling;
+mod gathering;
 mod receiving;
 mod routes;
 mod sending;
+mod stations;
 
+pub use exchanging::{Exchanged, Given, exchange};
 pub use routes::{Cells, Route, Size, Spreads};

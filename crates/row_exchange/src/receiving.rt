@@ -1,11 +1,11 @@
 //! The receiving half of a worker: it drains its inbox, and puts the rows of each atom together.
-ghost use Rattle.std.specs.Prelude.{◌≡◌, ◌<◌, [], length, replicate, IfOk, OnOk, slice_set, slice_index_or, ◌++◌, ◌^◌};
+ghost use Rattle.std.specs.Prelude.{◌≡◌, [], ◌++◌, replicate, IfOk, IsOkAnd, OnOk};
 ghost use Rattle.rel_io.specs.Taps.{with_got};
 ghost use Rattle.exchange_channels.specs.Messages.{rows_of};
 ghost use Rattle.exchange_channels.specs.Wirings.{HasEachEnd, untaken};
-ghost use Rattle.row_exchange.specs.inner.Stations.{HasReceived, AreGathered};
+ghost use Rattle.row_exchange.specs.inner.Stations.{HasReceived, AreGathered, TakesIn};
 
-use exchange_channels::{Drained, Intake, IntakeEnd};
+use exchange_channels::{Batch, Drained, Intake, IntakeEnd};
 use rel_base::{Memory, Parts, Rows};
 use rel_io::Tap;
 use std::alloc::Global;
@@ -27,23 +27,33 @@ pub(crate) fn receive<R: Wait, T: Tap>(
     ensures tag { T.tag tap.new ≡ T.tag tap.old }
 {
     let (end, drained) = intake.drain(rt, alloc, tap);
-    let parts = match drained {
-        Ok(drained) => gather(alloc, atoms, drained),
-        Err(refused) => Err(refused),
-    };
+    let parts = gather_if_drained(alloc, atoms, drained);
     (end, parts)
+}
+
+/// The rows of each atom, where memory was there for what was drained.
+fn gather_if_drained(
+    alloc: Global,
+    atoms: u32,
+    drained: Result<Drained, Memory>,
+) -> Result<Parts, Memory>
+    ensures { IfOk result (λ parts. IsOkAnd drained (λ taken. AreGathered atoms taken parts)) }
+{
+    let drained = drained?;
+    match gather(alloc, atoms, drained) {
+        Ok(parts) => Ok(parts),
+        Err(refused) => Err(refused),
+    }
 }
 
 /// The rows of each atom in what was drained. No row is copied.
 fn gather(alloc: Global, atoms: u32, drained: Drained) -> Result<Parts, Memory>
-    ensures { IfOk result (AreGathered atoms drained.entry) }
+    ensures { IfOk result (AreGathered atoms drained) }
 {
     let mut drained = drained;
     let mut gathered = empty_rows(alloc, atoms)?;
     while let Some((_, batch)) = drained.pop() {
-        if batch.atom < atoms {
-            add(alloc, gathered.as_mut_slice(), batch.atom, batch.rows)?;
-        }
+        add(alloc, &mut gathered, batch)?;
     }
     into_parts(alloc, gathered)
 }
@@ -59,12 +69,24 @@ fn empty_rows(alloc: Global, count: u32) -> Result<Vec<Rows>, Memory>
     Ok(lists)
 }
 
-/// Puts rows behind those of an atom. Where a list would have too many, memory is refused.
-fn add(alloc: Global, gathered: &mut [Rows], atom: u32, rows: Rows) -> Result<(), Memory>
-    requires { atom < length gathered.old }
-    ensures { OnOk result (gathered.new ≡ slice_set gathered.old atom (slice_index_or gathered.old atom [] ++ rows)) }
+/// Puts the rows of a batch behind those of its atom. A batch of another atom is let go.
+fn add(alloc: Global, gathered: &mut Vec<Rows>, batch: Batch) -> Result<(), Memory>
+    ensures { OnOk result (TakesIn batch gathered.old.items gathered.new.items) }
 {
-    let present = &mut gathered[atom as usize];
+    let Batch { atom, rows } = batch;
+    if (atom as usize) >= gathered.len() {
+        return Ok(());
+    }
+    match put_behind(alloc, &mut gathered[atom as usize], rows) {
+        Ok(()) => Ok(()),
+        Err(refused) => Err(refused),
+    }
+}
+
+/// Puts rows behind others. Where they would be too many for a list, memory is refused.
+fn put_behind(alloc: Global, present: &mut Rows, rows: Rows) -> Result<(), Memory>
+    ensures { OnOk result (present.new ≡ present.old ++ rows) }
+{
     if present.len() > u32::MAX - rows.len() {
         return Err(Memory);
     }
@@ -78,8 +100,11 @@ fn add(alloc: Global, gathered: &mut [Rows], atom: u32, rows: Rows) -> Result<()
 fn into_parts(alloc: Global, lists: Vec<Rows>) -> Result<Parts, Memory>
     ensures { IfOk result (λ made. made ≡ lists.items) }
 {
-    let mut parts = Parts::with_capacity(alloc, lists.len() as u32)?;
+    let mut parts = Parts::new(alloc);
     for rows in lists {
+        if parts.len() == u32::MAX {
+            return Err(Memory);
+        }
         parts.push(rows)?;
     }
     Ok(parts)

@@ -55,13 +55,30 @@ fn ship<R: Wait, T: Tap>(
     ensures tap { T.totals tap.new ≡ with_sent (T.totals tap.old) (rows_in shipments.items) }
     ensures tag { T.tag tap.new ≡ T.tag tap.old }
 {
+    let mut outlet = outlet;
+    ship_all(rt, size, &mut outlet, shipments, tap);
+    outlet.end(rt)
+}
+
+/// Sends batches to their cells, one after another.
+fn ship_all<R: Wait, T: Tap>(
+    rt: &R,
+    size: Size,
+    outlet: &mut Outlet,
+    shipments: Shipments,
+    tap: &mut T,
+)
+    requires fresh { IsFresh size.workers outlet.old }
+    requires cells { All (λ s. s.0 < size.workers) shipments.items }
+    ensures shipped { HasShipped shipments.items outlet.old outlet.new }
+    ensures tap { T.totals tap.new ≡ with_sent (T.totals tap.old) (rows_in shipments.items) }
+    ensures tag { T.tag tap.new ≡ T.tag tap.old }
+{
     // A sum that was read fits its type, so that no batch leaves it as it was.
     let _before = tap.totals();
-    let mut outlet = outlet;
     for (cell, batch) in shipments {
         let rows = u64::from(batch.rows.len());
         outlet.send(rt, cell, batch);
         tap.sent(rows);
     }
-    outlet.end(rt)
 }

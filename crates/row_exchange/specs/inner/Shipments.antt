@@ -6,7 +6,7 @@
 --   FillingState                 what a worker fills from the rows of one atom
 --   gathered s w atom            the rows of an atom for w so far, in batches and not yet
 --   counted s                    how many these are
-use Rattle.std.specs.Prelude.{◌≡◌, ℕ, ◌+◌, ◌==◌, ◌&&◌, ◌<◌, ◌≤◌, List, [], ◌∷◌, ◌++◌, if◌then◌else◌, length, All, slice_index_or, sum_by, replicate}
+use Rattle.std.specs.Prelude.{◌≡◌, ℕ, ◌+◌, ◌*◌, ◌==◌, ◌&&◌, ◌<◌, ◌≤◌, List, [], ◌∷◌, ◌++◌, if◌then◌else◌, length, All, slice_index_or, sum_by, replicate}
 use Rattle.std.specs.List.{flat_map, range_with_len}
 use Rattle.rel_base.specs.Limits.{most_workers}
 use Rattle.rel_base.specs.Picks.{items_at}
@@ -109,6 +109,7 @@ pub record AddsAtom (goes : Row → List ℕ) (cells atoms most atom : ℕ) (row
   pub sized : All (IsShipment cells atoms most) new
   pub rows_are : (w a : ℕ) → shipped new w a ≡ shipped old w a ++ (if a == atom then rows_to goes w rows else [])
   pub count_is : rows_in new ≡ rows_in old + pairs_of goes rows
+  pub few : pairs_of goes rows ≤ 274877906944
 
 -- the batches of the rows of the first atoms that lie at a worker
 pub record IsFilledTo (goes : ℕ → Row → List ℕ) (parts : List (List Rows)) (cells most worker done : ℕ) (xs : List Shipment) : Type 0 where
@@ -116,9 +117,11 @@ pub record IsFilledTo (goes : ℕ → Row → List ℕ) (parts : List (List Rows
   pub rows_are : (w a : ℕ) → a < done → shipped xs w a ≡ rows_to (goes a) w (rows_at parts a worker)
   pub none : (w a : ℕ) → done ≤ a → shipped xs w a ≡ []
   pub count_is : rows_in xs ≡ sum_by (λ a. pairs_of (goes a) (rows_at parts a worker)) (range_with_len 0 done)
+  pub few : rows_in xs ≤ done * 274877906944
 
 -- the batches of all rows that lie at a worker
 pub record IsFilled (goes : ℕ → Row → List ℕ) (parts : List (List Rows)) (cells most worker : ℕ) (xs : List Shipment) : Type 0 where
   pub sized : All (IsShipment cells (length parts) most) xs
   pub rows_are : (w a : ℕ) → a < length parts → shipped xs w a ≡ rows_to (goes a) w (rows_at parts a worker)
   pub count_is : rows_in xs ≡ pairs_from goes parts worker
+  pub few : rows_in xs ≤ 2199023255552

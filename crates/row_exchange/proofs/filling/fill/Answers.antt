@@ -29,3 +29,8 @@ loop-atom-preserved g c =
         c.loop-atom.filled.items c.in_ok-filled.filled.items) c.len-atoms.ensures
     (subst (λ (rows : Rows). AddsAtom (goes c.loop-atom.atom) c.args.size.workers c.len-atoms.result c.args.size.batch c.loop-atom.atom rows c.loop-atom.filled.items c.in_ok-filled.filled.items) at
     c.in_ok-filled.ensures))
+
+pub returns : goal.returns
+returns g c =
+    all-atoms (g.W.Route.cells c.args.route.now) c.args.parts.now c.args.size.workers c.args.size.batch c.args.worker c.loop-atom.atom c.loop-atom.filled.items
+    (omega (arith, c.loop-atom-test.false, c.loop-atom.auto.atom-end, c.len-atoms.ensures)) c.requires.routed.few c.loop-atom.invariant

@@ -4,7 +4,7 @@ use Rattle.std.proofs.lemmas.List.{length-replicate}
 use Rattle.std.specs.declared.alloc.Global.{Global}
 use Rattle.row_exchange.specs.Routes.{Row, Rows, rows_to, pairs_of}
 use Rattle.row_exchange.specs.inner.Shipments.{FillingState, Shipment, filling_of, Gathers, no_more, AddsAtom, Finishes, row_at}
-use Rattle.row_exchange.proofs.FillingLemmas.{next-row, fill-step, Gathers-nothing, Gathers-same, fill-atom, took-all, IfOk-then}
+use Rattle.row_exchange.proofs.FillingLemmas.{next-row, fill-step, Gathers-nothing, Gathers-same, fill-atom, took-all, pairs-few, IfOk-then}
 use Rattle.row_exchange.proofs.filling.fill_atom.Goals as goal
 
 pub loop-row-init : goal.loop-row-init
@@ -61,4 +61,5 @@ returns g c =
     Gathers-same (λ w. rows_to goes w (take c.loop-row.number rows)) (λ w. rows_to goes w rows) (pairs_of goes (take c.loop-row.number rows)) (pairs_of goes rows) start c.loop-row.filling inv.3
     (λ w. ap (rows_to goes w) all) (ap (pairs_of goes) all) in
     IfOk-then c.finish.result c.finish.ensures
-    (λ made f. fill-atom goes c.args.atom c.args.atoms c.args.size.batch c.args.size.workers rows c.args.filled.items made.items c.loop-row.filling whole f)
+    (λ made f. fill-atom goes c.args.atom c.args.atoms c.args.size.batch c.args.size.workers rows c.args.filled.items made.items c.loop-row.filling
+    (omega (arith, pairs-few goes c.args.size.workers rows c.requires.routed.inside, c.iter-row-items.ensures.bound)) whole f)

@@ -2,7 +2,7 @@ use Rattle.std.proofs.Common.{◌≡◌}
 use Rattle.rel_io.specs.Taps.{with_sent}
 use Rattle.row_exchange.specs.inner.Shipments.{rows_in}
 use Rattle.row_exchange.specs.inner.Stations.{HasShipped}
-use Rattle.row_exchange.proofs.sending.ship.Given as goal
+use Rattle.row_exchange.proofs.sending.ship_all.Given as goal
 
 abbrev pub invariant-loop-cell : goal.invariant-loop-cell
 invariant-loop-cell g l =
