@@ -1,5 +1,5 @@
 -- A file of a script comes to one step alone, and so do the words and the files.
-use Rattle.std.proofs.Common.{◌≡◌, ℕ, true, false, List, Some, None, Ok, Err, Result, refl, sym, ◌∙◌, ap, subst, arith}
+use Rattle.std.proofs.Common.{◌≡◌, ℕ, List, Some, None, Ok, Err, Result, refl, sym, ◌∙◌, ap, subst, arith}
 use Rattle.rel_io.specs.Outside.{Content}
 use Rattle.myrial_ast.specs.Trees.{StatementTree}
 use Rattle.myrial_lexer.specs.Tokens.{AreTokensOf, HasFault, line_at}
@@ -9,8 +9,7 @@ use Rattle.myrial_parser.specs.Pieces.{IsFirstFault, IsScript, pieces_of}
 use Rattle.myrial_parser.proofs.ReadingLemmas.{AreRead-one, script-sound, one_first_fault}
 use Rattle.myrial_parser.proofs.StatementLemmas.{statement-unique}
 use Rattle.myria_top.specs.declared.outcomes.Outcome.TheVariants as outcome
-use Rattle.myria_top.specs.Forms.{is_built}
-use Rattle.myria_top.specs.Scripts.{TextComesTo, not_text, bad_token, bad_piece, not_built, built, ScriptComesTo, not_told, no_script, too_long, short, fault_answer}
+use Rattle.myria_top.specs.Scripts.{TextComesTo, not_text, bad_token, bad_piece, a_script, ScriptComesTo, not_told, no_script, too_long, short, fault_answer}
 use Rattle.myria_top.specs.Verdicts.{Verdict, refused, passes, and_then}
 use Rattle.myria_top.specs.Runs.{ComesTo, unnamed, named, printed_verdict}
 
@@ -46,8 +45,7 @@ text_one : (bytes : List ℕ) (s t : Verdict Statements) → TextComesTo bytes s
 text_one bytes s t (not_text n) (not_text m) = refl
 text_one bytes s t (not_text n) (bad_token line what h) = absurd (n h.is_text)
 text_one bytes s t (not_text n) (bad_piece tokens number fault a f) = absurd (n a.is_text)
-text_one bytes s t (not_text n) (not_built tokens script a r b) = absurd (n a.is_text)
-text_one bytes s t (not_text n) (built tokens script a r b) = absurd (n a.is_text)
+text_one bytes s t (not_text n) (a_script tokens trees a r) = absurd (n a.is_text)
 text_one bytes s t (bad_token line what h) (not_text n) = absurd (n h.is_text)
 text_one bytes s t (bad_token line what h) (bad_token line' what' g) =
     let both : (h.place, what) ≡ (g.place, what') = failed_alike (sym h.first ∙ g.first) in
@@ -56,8 +54,7 @@ text_one bytes s t (bad_token line what h) (bad_token line' what' g) =
     let same : line ≡ line' = h.on_line ∙ ap (line_at bytes) place ∙ sym g.on_line in
     λ i. refused (outcome.Lex (same i) (kind i))
 text_one bytes s t (bad_token line what h) (bad_piece tokens number fault a f) = absurd (tokens_without_fault bytes tokens line what a h)
-text_one bytes s t (bad_token line what h) (not_built tokens script a r b) = absurd (tokens_without_fault bytes tokens line what a h)
-text_one bytes s t (bad_token line what h) (built tokens script a r b) = absurd (tokens_without_fault bytes tokens line what a h)
+text_one bytes s t (bad_token line what h) (a_script tokens trees a r) = absurd (tokens_without_fault bytes tokens line what a h)
 text_one bytes s t (bad_piece tokens number fault a f) (not_text n) = absurd (n a.is_text)
 text_one bytes s t (bad_piece tokens number fault a f) (bad_token line what h) = absurd (tokens_without_fault bytes tokens line what a h)
 text_one bytes s t (bad_piece tokens number fault a f) (bad_piece tokens' number' fault' a' f') =
@@ -65,27 +62,14 @@ text_one bytes s t (bad_piece tokens number fault a f) (bad_piece tokens' number
     let g : IsFirstFault bytes tokens number' fault' = subst (λ ts. IsFirstFault bytes ts number' fault') same f' in
     let alike = one_first_fault bytes tokens number number' fault fault' f g in
     λ i. refused (fault_answer (alike.0 i) (alike.1 i))
-text_one bytes s t (bad_piece tokens number fault a f) (not_built tokens' script a' r b) =
-    absurd (script-sound bytes tokens script number fault (subst (λ ts. IsScript bytes ts script) (same_tokens bytes tokens' tokens a' a) r) f)
-text_one bytes s t (bad_piece tokens number fault a f) (built tokens' script a' r b) =
-    absurd (script-sound bytes tokens script number fault (subst (λ ts. IsScript bytes ts script) (same_tokens bytes tokens' tokens a' a) r) f)
-text_one bytes s t (not_built tokens script a r b) (not_text n) = absurd (n a.is_text)
-text_one bytes s t (not_built tokens script a r b) (bad_token line what h) = absurd (tokens_without_fault bytes tokens line what a h)
-text_one bytes s t (not_built tokens' script a' r b) (bad_piece tokens number fault a f) =
-    absurd (script-sound bytes tokens script number fault (subst (λ ts. IsScript bytes ts script) (same_tokens bytes tokens' tokens a' a) r) f)
-text_one bytes s t (not_built tokens script a r b) (not_built tokens' script' a' r' b') = refl
-text_one bytes s t (not_built tokens script a r b) (built tokens' script' a' r' b') =
-    let same = one_script bytes tokens script script' r (subst (λ ts. IsScript bytes ts script') (same_tokens bytes tokens' tokens a' a) r') in
-    let both : false ≡ true = sym b ∙ ap is_built same ∙ b' in cc
-text_one bytes s t (built tokens script a r b) (not_text n) = absurd (n a.is_text)
-text_one bytes s t (built tokens script a r b) (bad_token line what h) = absurd (tokens_without_fault bytes tokens line what a h)
-text_one bytes s t (built tokens' script a' r b) (bad_piece tokens number fault a f) =
-    absurd (script-sound bytes tokens script number fault (subst (λ ts. IsScript bytes ts script) (same_tokens bytes tokens' tokens a' a) r) f)
-text_one bytes s t (built tokens script a r b) (not_built tokens' script' a' r' b') =
-    let same = one_script bytes tokens script script' r (subst (λ ts. IsScript bytes ts script') (same_tokens bytes tokens' tokens a' a) r') in
-    let both : true ≡ false = sym b ∙ ap is_built same ∙ b' in cc
-text_one bytes s t (built tokens script a r b) (built tokens' script' a' r' b') =
-    ap passes (one_script bytes tokens script script' r (subst (λ ts. IsScript bytes ts script') (same_tokens bytes tokens' tokens a' a) r'))
+text_one bytes s t (bad_piece tokens number fault a f) (a_script tokens' trees a' r) =
+    absurd (script-sound bytes tokens trees number fault (subst (λ ts. IsScript bytes ts trees) (same_tokens bytes tokens' tokens a' a) r) f)
+text_one bytes s t (a_script tokens trees a r) (not_text n) = absurd (n a.is_text)
+text_one bytes s t (a_script tokens trees a r) (bad_token line what h) = absurd (tokens_without_fault bytes tokens line what a h)
+text_one bytes s t (a_script tokens' trees a' r) (bad_piece tokens number fault a f) =
+    absurd (script-sound bytes tokens trees number fault (subst (λ ts. IsScript bytes ts trees) (same_tokens bytes tokens' tokens a' a) r) f)
+text_one bytes s t (a_script tokens trees a r) (a_script tokens' trees' a' r') =
+    ap passes (one_script bytes tokens trees trees' r (subst (λ ts. IsScript bytes ts trees') (same_tokens bytes tokens' tokens a' a) r'))
 
 -- ---- files and words
 

@@ -4,7 +4,6 @@ use Rattle.std.specs.Prelude.{IfErr}
 use Rattle.std.specs.List.{flat_map}
 use Rattle.std.specs.Option.{option_map_or}
 use Rattle.rel_base.specs.Keys.{File}
-use Rattle.rel_base.specs.declared.names.Key.{Key}
 use Rattle.rel_base.specs.declared.faults.RunFault.{RunFault}
 use Rattle.rel_io.specs.declared.sinks.SinkFault.{SinkFault}
 use Rattle.rel_io.specs.declared.sinks.SinkFault.TheVariants as fault
@@ -16,8 +15,13 @@ use Rattle.myrial_ast.specs.CandidateFaults.{Uncounted}
 use Rattle.myrial_meaning.specs.Faults.{run_fault}
 use Rattle.myrial_meaning.specs.Meaning.{stored_relations}
 use Rattle.myrial_meaning.specs.SortedFiles.{sorted_file}
-use Rattle.myrial_meaning.specs.Runnable.{has_meaning}
-use Rattle.myrial_meaning.specs.Fetches.{fetched_keys}
+use Rattle.myrial_meaning.specs.Runnable.{has_meaning, runs}
+use Rattle.myrial_meaning.specs.declared.needed_files.Fetch.{Fetch}
+use Rattle.myrial_meaning.specs.Fetches.{fetches}
+use Rattle.myrial_types.specs.declared.faults.TypeFault.{TypeFault}
+use Rattle.myrial_types.specs.declared.faults.TypeFault.TheVariants as refusal
+use Rattle.myrial_types.specs.declared.faults.TypeKind.{TypeKind}
+use Rattle.myrial_types.specs.Checking.{checked_of, IsFault}
 use Rattle.rel_io.specs.Shelves.{CallCounts}
 use Rattle.myria_top.specs.declared.outcomes.Outcome.{Outcome}
 use Rattle.myria_top.specs.declared.outcomes.Outcome.TheVariants as outcome
@@ -25,9 +29,9 @@ use Rattle.myria_top.specs.declared.outcomes.Part.TheVariants as part
 use Rattle.myria_top.specs.Headline.{Run, Decides, IsInPlace, Explains, IsAskedOf, TellsLine, of_untold, a_relation}
 use Rattle.myria_top.specs.OutputText.{output_text, relation_text_in_order}
 use Rattle.myria_top.specs.Reading.{Agrees, AgreesBy, AgreesRefused, HasCause, Meets, ReadsBy, ReadsStep, RefusesBy, script_name}
-use Rattle.myria_top.specs.Scripts.{ScriptComesTo, TextComesTo, not_text, bad_token, bad_piece, not_built, built, not_told, no_script, too_long, short}
+use Rattle.myria_top.specs.Scripts.{ScriptComesTo, TextComesTo, not_text, bad_token, bad_piece, a_script, not_told, no_script, too_long, short}
 use Rattle.myria_top.specs.Verdicts.{Verdict, untold, refused, passes, and_then, IfTold}
-use Rattle.myria_top.specs.Runs.{ComesTo, named, IsFileOf, files_verdict, printed_verdict, run_answer, run_verdict, types_fit}
+use Rattle.myria_top.specs.Runs.{ComesTo, named, IsFileOf, files_verdict, printed_verdict, if_typed, run_answer, run_verdict, typed_verdict, typing_answer}
 use Rattle.myria_top.proofs.OneAnswerLemmas.{comes_to_one}
 use Rattle.myria_top.proofs.OutputLemmas.{output_text-sorted}
 use Rattle.myria_top.proofs.VerdictLemmas.{LiesWithin, HasCause-part, met, met_further, goes_second, step_met, meets_step, refused_first, refused_second}
@@ -39,29 +43,46 @@ module _ (script : List StatementTree) (files : List File) where
   verdict found = option_map_or (λ fault. refused (run_answer fault)) found (passes (stored_relations files script))
 
   abbrev with_meaning : Bool → Verdict (List File)
-  with_meaning b = cond b (verdict (run_fault Uncounted files script)) (refused (outcome.NotBuilt part.Relation))
+  with_meaning b = cond b (verdict (run_fault Uncounted files script)) (refused (outcome.NotBuilt part.Script))
 
   abbrev printed : Verdict (List File) → Verdict (List ℕ)
   printed s = and_then s (λ stored. passes (output_text stored))
 
   -- without a fault the text is printed
-  pub run_prints : (stored : List File) (text : List ℕ) → types_fit files script ≡ true → has_meaning files script ≡ true → run_fault Uncounted files script ≡ None
+  pub run_prints : (stored : List File) (text : List ℕ) → runs script ≡ true → has_meaning files script ≡ true → run_fault Uncounted files script ≡ None
       → stored ≡ map sorted_file (stored_relations files script) → text ≡ flat_map (λ (file : File). relation_text_in_order file.0 file.1) stored
-      → IfTold (printed (run_verdict script files)) (λ s. s ≡ passes text)
-  run_prints stored text fits meaning fault is texts =
+      → IfTold (printed (typed_verdict script files)) (λ s. s ≡ passes text)
+  run_prints stored text running meaning fault is texts =
       let all : text ≡ output_text (stored_relations files script) =
       texts ∙ ap (flat_map (λ (file : File). relation_text_in_order file.0 file.1)) is ∙ output_text-sorted (stored_relations files script) in
-      let step : printed (run_verdict script files) ≡ passes text =
-      ap (λ (b : Bool). printed (with_meaning (b && has_meaning files script))) fits ∙ ap (λ (b : Bool). printed (with_meaning b)) meaning ∙ ap (λ (o : Option RunFault). printed (verdict o)) fault ∙ ap passes (sym all) in
+      let step : printed (typed_verdict script files) ≡ passes text =
+      ap (λ (b : Bool). printed (with_meaning (b && has_meaning files script))) running ∙ ap (λ (b : Bool). printed (with_meaning b)) meaning ∙ ap (λ (o : Option RunFault). printed (verdict o)) fault ∙ ap passes (sym all) in
       subst (λ (s : Verdict (List ℕ)). IfTold s (λ t. t ≡ passes text)) (sym step) refl
+
+  -- a script that is typed comes to its run
+  pub typed_runs : {X : Type 0} (checked : X) (typing : Result X TypeFault) → typing ≡ Ok checked → if_typed typing (typed_verdict script files) ≡ typed_verdict script files
+  typed_runs checked typing e = ap (λ t. if_typed t (typed_verdict script files)) e
+
+  -- and one that isn't to the answer of its fault
+  typing_refuses_at : {X : Type 0} (typing : Result X TypeFault) (number : ℕ) (kind : TypeKind) → typing ≡ Err (refusal.At number kind)
+      → AgreesRefused (printed (if_typed typing (typed_verdict script files))) (outcome.Typing number kind)
+  typing_refuses_at typing number kind e =
+      meets_step _ (refused (outcome.Typing number kind))
+      (subst (λ t. IfTold (printed (if_typed t (typed_verdict script files))) (λ s. s ≡ refused (outcome.Typing number kind))) (sym e) refl)
+
+  pub typing_refuses : (why : TypeFault) (answer : Outcome) → answer ≡ typing_answer why → IsFault why (checked_of files script)
+      → AgreesRefused (printed (run_verdict script files)) answer
+  typing_refuses (refusal.At number kind) answer is h =
+      subst (AgreesRefused (printed (run_verdict script files))) (sym is) (typing_refuses_at (checked_of files script) number kind h)
+  typing_refuses refusal.Memory answer is h = subst (AgreesRefused (printed (run_verdict script files))) (sym is) tt
 
 -- ---- the files of a script, and then its run
 
 -- a refusal of the files
-pub files_refuse : (content : List ℕ → Content) (script : List StatementTree) (answer : Outcome) → AgreesRefused (files_verdict content (fetched_keys script)) answer → AgreesRefused (printed_verdict content script) answer
+pub files_refuse : (content : List ℕ → Content) (script : List StatementTree) (answer : Outcome) → AgreesRefused (files_verdict content (fetches script)) answer → AgreesRefused (printed_verdict content script) answer
 files_refuse content script answer h =
-    refused_first (and_then (files_verdict content (fetched_keys script)) (run_verdict script)) (λ stored. passes (output_text stored)) answer
-    (refused_first (files_verdict content (fetched_keys script)) (run_verdict script) answer h)
+    refused_first (and_then (files_verdict content (fetches script)) (run_verdict script)) (λ stored. passes (output_text stored)) answer
+    (refused_first (files_verdict content (fetches script)) (run_verdict script) answer h)
 
 -- a step behind two others
 regrouped : {X Y Z : Type 0} (s : Verdict X) (f : X → Verdict Y) (g : Y → Verdict Z) → and_then (and_then s f) g ≡ and_then s (λ x. and_then (f x) g)
@@ -70,28 +91,28 @@ regrouped (refused answer) f g = refl
 regrouped (passes x) f g = refl
 
 -- a refusal of the run over the files that were read
-pub run_refuses : (content : List ℕ → Content) (script : List StatementTree) (files : List File) (answer : Outcome) → IfTold (files_verdict content (fetched_keys script)) (λ s. s ≡ passes files)
+pub run_refuses : (content : List ℕ → Content) (script : List StatementTree) (files : List File) (answer : Outcome) → IfTold (files_verdict content (fetches script)) (λ s. s ≡ passes files)
     → AgreesRefused (and_then (run_verdict script files) (λ stored. passes (output_text stored))) answer → AgreesRefused (printed_verdict content script) answer
 run_refuses content script files answer read h =
-    subst (λ s. AgreesRefused s answer) (sym (regrouped (files_verdict content (fetched_keys script)) (run_verdict script) (λ stored. passes (output_text stored))))
-    (refused_second (files_verdict content (fetched_keys script)) (λ fs. and_then (run_verdict script fs) (λ stored. passes (output_text stored))) files answer read h)
+    subst (λ s. AgreesRefused s answer) (sym (regrouped (files_verdict content (fetches script)) (run_verdict script) (λ stored. passes (output_text stored))))
+    (refused_second (files_verdict content (fetches script)) (λ fs. and_then (run_verdict script fs) (λ stored. passes (output_text stored))) files answer read h)
 
 -- the text of the run over them
-pub run_goes : (content : List ℕ → Content) (script : List StatementTree) (files : List File) (text : List ℕ) → IfTold (files_verdict content (fetched_keys script)) (λ s. s ≡ passes files)
+pub run_goes : (content : List ℕ → Content) (script : List StatementTree) (files : List File) (text : List ℕ) → IfTold (files_verdict content (fetches script)) (λ s. s ≡ passes files)
     → IfTold (and_then (run_verdict script files) (λ stored. passes (output_text stored))) (λ s. s ≡ passes text) → IfTold (printed_verdict content script) (λ s. s ≡ passes text)
 run_goes content script files text read h =
-    subst (λ (s : Verdict (List ℕ)). IfTold s (λ t. t ≡ passes text)) (sym (regrouped (files_verdict content (fetched_keys script)) (run_verdict script) (λ stored. passes (output_text stored))))
-    (goes_second (files_verdict content (fetched_keys script)) (λ fs. and_then (run_verdict script fs) (λ stored. passes (output_text stored))) files text read h)
+    subst (λ (s : Verdict (List ℕ)). IfTold s (λ t. t ≡ passes text)) (sym (regrouped (files_verdict content (fetches script)) (run_verdict script) (λ stored. passes (output_text stored))))
+    (goes_second (files_verdict content (fetches script)) (λ fs. and_then (run_verdict script fs) (λ stored. passes (output_text stored))) files text read h)
 
--- what the run comes to over the files that were read for these keys
-pub run_agrees : (content : List ℕ → Content) (script : List StatementTree) (keys : List Key) (files : List File) (r : Result (List ℕ) Outcome) → keys ≡ fetched_keys script
-    → Meets (λ s. s ≡ files_verdict content keys) (passes files)
+-- what the run comes to over the files that were read
+pub run_agrees : (content : List ℕ → Content) (script : List StatementTree) (needed : List Fetch) (files : List File) (r : Result (List ℕ) Outcome) → needed ≡ fetches script
+    → Meets (λ s. s ≡ files_verdict content needed) (passes files)
     → Agrees (and_then (run_verdict script files) (λ stored. passes (output_text stored))) r → Agrees (printed_verdict content script) r
-run_agrees content script keys files (Ok text) same read h =
-    let told = subst (λ ks. IfTold (files_verdict content ks) (λ s. s ≡ passes files)) same (step_met (files_verdict content keys) (passes files) read) in
+run_agrees content script needed files (Ok text) same read h =
+    let told = subst (λ fs. IfTold (files_verdict content fs) (λ s. s ≡ passes files)) same (step_met (files_verdict content needed) (passes files) read) in
     meets_step (printed_verdict content script) (passes text) (run_goes content script files text told (step_met _ (passes text) h))
-run_agrees content script keys files (Err answer) same read h =
-    let told = subst (λ ks. IfTold (files_verdict content ks) (λ s. s ≡ passes files)) same (step_met (files_verdict content keys) (passes files) read) in
+run_agrees content script needed files (Err answer) same read h =
+    let told = subst (λ fs. IfTold (files_verdict content fs) (λ s. s ≡ passes files)) same (step_met (files_verdict content needed) (passes files) read) in
     run_refuses content script files answer told h
 
 -- ---- the script, and then its run
@@ -100,8 +121,7 @@ told_text : (bytes : List ℕ) (s : Verdict (List StatementTree)) → TextComesT
 told_text bytes s (not_text n) e = cc
 told_text bytes s (bad_token line what h) e = cc
 told_text bytes s (bad_piece tokens number fault a f) e = cc
-told_text bytes s (not_built tokens script a r b) e = cc
-told_text bytes s (built tokens script a r b) e = cc
+told_text bytes s (a_script tokens script a r) e = cc
 
 told_file : (content : Content) (s : Verdict (List StatementTree)) → ScriptComesTo content s → s ≡ untold → content ≡ outside.untold
 told_file content s not_told e = refl
@@ -129,7 +149,7 @@ module _ (words : List (List ℕ)) (content : List ℕ → Content) (name : List
     is = goes_second m.step (printed_verdict content) script text m.is h;
   }
 
-  pub asked : (script : List StatementTree) (file : List ℕ) → Meets (ScriptComesTo (content name)) (passes script) → IsFileOf (fetched_keys script) file → IsAskedOf words content file
+  pub asked : (script : List StatementTree) (file : List ℕ) → Meets (ScriptComesTo (content name)) (passes script) → IsFileOf (fetches script) file → IsAskedOf words content file
   asked script file m f = told m.step m.comes m.is
     where
       told : (s : Verdict (List StatementTree)) → ScriptComesTo (content name) s → IfTold s (λ t. t ≡ passes script) → IsAskedOf words content file
@@ -138,20 +158,20 @@ module _ (words : List (List ℕ)) (content : List ℕ → Content) (name : List
       told (passes other) comes is =
           let same : other ≡ script = cc in
           subst (IsAskedOf words content) (sym f.is_named)
-          (a_relation name script f.key is_named (subst (λ t. ScriptComesTo (content name) (passes t)) same comes) f.is_one)
+          (a_relation name script f.fetch is_named (subst (λ t. ScriptComesTo (content name) (passes t)) same comes) f.is_one)
 
   agrees_on : (script : List StatementTree) (r : Result (List ℕ) Outcome) → Meets (ScriptComesTo (content name)) (passes script) → Agrees (printed_verdict content script) r → AgreesBy (ComesTo words content) r
   agrees_on script (Ok text) m h = printed_goes script text m (step_met (printed_verdict content script) (passes text) h)
   agrees_on script (Err answer) m h = printed_refuses script answer m h
 
   cause_on : (script : List StatementTree) (part run : CallCounts) (r : Result (List ℕ) Outcome) → Meets (ScriptComesTo (content name)) (passes script) → LiesWithin part run
-      → IfErr r (HasCause part (IsFileOf (fetched_keys script))) → IfErr r (HasCause run (IsAskedOf words content))
+      → IfErr r (HasCause part (IsFileOf (fetches script))) → IfErr r (HasCause run (IsAskedOf words content))
   cause_on script part run (Ok text) m within h = tt
   cause_on script part run (Err answer) m within h = HasCause-part part run _ (IsAskedOf words content) answer within (λ file f. asked script file m f) h
 
   -- the script was read, and then its run was prepared on the same content
   pub reads_on : (script : List StatementTree) (same : List ℕ → Content) (part run : CallCounts) (r : Result (List ℕ) Outcome) → Meets (ScriptComesTo (content name)) (passes script)
-      → same ≡ content → LiesWithin part run → ReadsStep (printed_verdict same script) part (IsFileOf (fetched_keys script)) r → ReadsBy (ComesTo words content) run (IsAskedOf words content) r
+      → same ≡ content → LiesWithin part run → ReadsStep (printed_verdict same script) part (IsFileOf (fetches script)) r → ReadsBy (ComesTo words content) run (IsAskedOf words content) r
   reads_on script same part run r m is within h = record {
     agrees = agrees_on script r m (subst (λ (con : List ℕ → Content). Agrees (printed_verdict con script) r) is h.agrees);
     cause = cause_on script part run r m within h.cause;

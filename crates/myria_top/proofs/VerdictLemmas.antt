@@ -1,11 +1,12 @@
 -- Steps one after another, and what calls that came to them show.
 use Rattle.std.proofs.Common.{◌≡◌, ℕ, ◌≤◌, List, [], ◌∷◌, ◌++◌, fold, refl, sym, ap, subst, arith}
-use Rattle.rel_base.specs.Keys.{File, shelf_name_of}
+use Rattle.rel_base.specs.Keys.{File}
 use Rattle.rel_base.specs.Relations.{RelationState}
-use Rattle.rel_base.specs.declared.names.Key.{Key}
 use Rattle.rel_io.specs.Outside.{Content}
 use Rattle.rel_io.proofs.OutsideLemmas.{Rose-part}
 use Rattle.rel_io.specs.Shelves.{CallCounts}
+use Rattle.myrial_meaning.specs.declared.needed_files.Fetch.{Fetch}
+use Rattle.myria_top.specs.FileNames.{file_name_of}
 use Rattle.myria_top.specs.declared.outcomes.Outcome.{Outcome}
 use Rattle.myria_top.specs.declared.outcomes.Outcome.TheVariants as outcome
 use Rattle.myria_top.specs.Reading.{AgreesRefused, HasCause, Meets, RefusesBy}
@@ -72,40 +73,40 @@ met_further Comes Further f further outcome.Memory h = tt
 met_further Comes Further f further answer h =
     record { step = and_then h.step f; comes = further h.step h.comes; is = carried h.step f answer h.is }
 
--- ---- the files of keys, one after another
+-- ---- files, one after another
 
 module _ (content : List ℕ → Content) where
-  fold-append : (s : Verdict (List File)) (keys others : List Key) → fold (one_file_more content) s (keys ++ others) ≡ fold (one_file_more content) (fold (one_file_more content) s keys) others
+  fold-append : (s : Verdict (List File)) (fetches others : List Fetch) → fold (one_file_more content) s (fetches ++ others) ≡ fold (one_file_more content) (fold (one_file_more content) s fetches) others
   fold-append s [] others = refl
-  fold-append s (key ∷ keys) others = fold-append (one_file_more content s key) keys others
+  fold-append s (fetch ∷ fetches) others = fold-append (one_file_more content s fetch) fetches others
 
-  abbrev file_of : Key → List File → Verdict (List File)
-  file_of key so_far = and_then (relation_verdict key (content (shelf_name_of key))) (λ table. passes (so_far ++ (key, table) ∷ []))
+  abbrev file_of : Fetch → List File → Verdict (List File)
+  file_of fetch so_far = and_then (relation_verdict fetch (content (file_name_of fetch.key))) (λ table. passes (so_far ++ (fetch.key, table) ∷ []))
 
   -- a refusal stays through the files behind
-  refused_on : (s : Verdict (List File)) (keys : List Key) (answer : Outcome) → AgreesRefused s answer → AgreesRefused (fold (one_file_more content) s keys) answer
+  refused_on : (s : Verdict (List File)) (fetches : List Fetch) (answer : Outcome) → AgreesRefused s answer → AgreesRefused (fold (one_file_more content) s fetches) answer
   refused_on s [] answer h = h
-  refused_on s (key ∷ keys) answer h =
-      refused_on (one_file_more content s key) keys answer (refused_first s (file_of key) answer h)
+  refused_on s (fetch ∷ fetches) answer h =
+      refused_on (one_file_more content s fetch) fetches answer (refused_first s (file_of fetch) answer h)
 
   -- one file refuses, behind those that were read
-  pub files_refused : (before : List Key) (key : Key) (behind : List Key) (files : List File) (answer : Outcome)
-      → IfTold (files_verdict content before) (λ s. s ≡ passes files) → AgreesRefused (relation_verdict key (content (shelf_name_of key))) answer
-      → AgreesRefused (files_verdict content (before ++ key ∷ behind)) answer
-  files_refused before key behind files answer read h =
-      subst (λ s. AgreesRefused s answer) (sym (fold-append (passes []) before (key ∷ behind)))
-      (refused_on (one_file_more content (files_verdict content before) key) behind answer
-      (refused_second (files_verdict content before) (file_of key) files answer read
-      (refused_first (relation_verdict key (content (shelf_name_of key))) (λ table. passes (files ++ (key, table) ∷ [])) answer h)))
+  pub files_refused : (before : List Fetch) (fetch : Fetch) (behind : List Fetch) (files : List File) (answer : Outcome)
+      → IfTold (files_verdict content before) (λ s. s ≡ passes files) → AgreesRefused (relation_verdict fetch (content (file_name_of fetch.key))) answer
+      → AgreesRefused (files_verdict content (before ++ fetch ∷ behind)) answer
+  files_refused before fetch behind files answer read h =
+      subst (λ s. AgreesRefused s answer) (sym (fold-append (passes []) before (fetch ∷ behind)))
+      (refused_on (one_file_more content (files_verdict content before) fetch) behind answer
+      (refused_second (files_verdict content before) (file_of fetch) files answer read
+      (refused_first (relation_verdict fetch (content (file_name_of fetch.key))) (λ table. passes (files ++ (fetch.key, table) ∷ [])) answer h)))
 
   -- one file more
-  pub files_more : (before : List Key) (key : Key) (files : List File) (table : RelationState)
-      → IfTold (files_verdict content before) (λ s. s ≡ passes files) → IfTold (relation_verdict key (content (shelf_name_of key))) (λ s. s ≡ passes table)
-      → IfTold (files_verdict content (before ++ key ∷ [])) (λ s. s ≡ passes (files ++ (key, table) ∷ []))
-  files_more before key files table read found =
-      subst (λ s. IfTold s (λ t. t ≡ passes (files ++ (key, table) ∷ []))) (sym (fold-append (passes []) before (key ∷ [])))
-      (goes_second (files_verdict content before) (file_of key) files (files ++ (key, table) ∷ []) read
-      (goes_second (relation_verdict key (content (shelf_name_of key))) (λ t. passes (files ++ (key, t) ∷ [])) table (files ++ (key, table) ∷ []) found refl))
+  pub files_more : (before : List Fetch) (fetch : Fetch) (files : List File) (table : RelationState)
+      → IfTold (files_verdict content before) (λ s. s ≡ passes files) → IfTold (relation_verdict fetch (content (file_name_of fetch.key))) (λ s. s ≡ passes table)
+      → IfTold (files_verdict content (before ++ fetch ∷ [])) (λ s. s ≡ passes (files ++ (fetch.key, table) ∷ []))
+  files_more before fetch files table read found =
+      subst (λ s. IfTold s (λ t. t ≡ passes (files ++ (fetch.key, table) ∷ []))) (sym (fold-append (passes []) before (fetch ∷ [])))
+      (goes_second (files_verdict content before) (file_of fetch) files (files ++ (fetch.key, table) ∷ []) read
+      (goes_second (relation_verdict fetch (content (file_name_of fetch.key))) (λ t. passes (files ++ (fetch.key, t) ∷ [])) table (files ++ (fetch.key, table) ∷ []) found refl))
 
 -- ---- causes
 
@@ -122,9 +123,9 @@ pub record LiesWithin (part run : CallCounts) : Type 0 where
 pub HasCause-part : (part run : CallCounts) (P Q : List ℕ → Type 0) (answer : Outcome) → LiesWithin part run → ((name : List ℕ) → P name → Q name) → HasCause part P answer → HasCause run Q answer
 HasCause-part part run P Q outcome.NoScript w f h = Rose-part _ _ _ _ w.misses_from w.misses_on w.misses_to h
 HasCause-part part run P Q (outcome.NoRelation key) w f h =
-    (Rose-part _ _ _ _ w.misses_from w.misses_on w.misses_to h.0, f (shelf_name_of key) h.1)
-HasCause-part part run P Q (outcome.RelTooLong key) w f h = f (shelf_name_of key) h
-HasCause-part part run P Q (outcome.BadRelation key fault) w f h = f (shelf_name_of key) h
+    (Rose-part _ _ _ _ w.misses_from w.misses_on w.misses_to h.0, f (file_name_of key) h.1)
+HasCause-part part run P Q (outcome.RelTooLong key) w f h = f (file_name_of key) h
+HasCause-part part run P Q (outcome.BadRelation key fault) w f h = f (file_name_of key) h
 HasCause-part part run P Q (outcome.ReadFault name) w f h = (Rose-part _ _ _ _ w.faults_from w.faults_on w.faults_to h.0, f name h.1)
 HasCause-part part run P Q answer w f h = tt
 

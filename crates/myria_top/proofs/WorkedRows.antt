@@ -1,11 +1,16 @@
 -- Worked runs, each proved by computing: what scripts come to over their files.
-use Rattle.std.proofs.Common.{◌≡◌, ℕ, cond, true, false, List, [], ◌∷◌, Some, None, codes, refl}
+use Rattle.std.proofs.Common.{◌≡◌, ℕ, inl, inr, cond, List, [], ◌∷◌, Some, None, codes, refl, arith}
 use Rattle.std.specs.Str.{bytes_eq}
 use Rattle.std.specs.Fmt.{digits}
 use Rattle.relation_csv.specs.declared.faults.RelFault.TheVariants as fault
 use Rattle.relation_csv.proofs.OnLiterals.{files_on_literals}
 use Rattle.rel_base.specs.declared.names.Key.{Key}
-use Rattle.rel_io.specs.Outside.{Content, missing, there}
+use Rattle.rel_base.specs.declared.values.ColType.TheVariants as type
+use Rattle.rel_io.specs.Outside.{Content, Rose, missing, there}
+use Rattle.rel_io.specs.Shelves.{CallCounts}
+use Rattle.rel_io.specs.declared.shelves.ShelfFault.TheVariants as refusal
+use Rattle.myrial_ast.specs.Loads.{load_key}
+use Rattle.myrial_types.specs.declared.faults.TypeKind.TheVariants as kind
 use Rattle.myrial_ast.specs.declared.operators.BinOp.TheVariants as op
 use Rattle.myrial_ast.specs.declared.expressions.ColRef.TheVariants as ref
 use Rattle.myrial_ast.specs.declared.relations.FromItem.{FromItem}
@@ -15,8 +20,8 @@ use Rattle.myrial_lexer.specs.declared.faults.LexWhat.TheVariants as lexical
 use Rattle.myrial_parser.specs.declared.faults.What.TheVariants as many
 use Rattle.myria_top.specs.declared.outcomes.Outcome.TheVariants as outcome
 use Rattle.myria_top.specs.declared.outcomes.Part.TheVariants as part
-use Rattle.myria_top.specs.Forms.{is_built}
 use Rattle.myria_top.specs.Outcomes.{line_of}
+use Rattle.myria_top.specs.Reading.{HasFetchCause}
 use Rattle.myria_top.specs.Verdicts.{passes, refused}
 use Rattle.myria_top.specs.Runs.{printed_verdict}
 
@@ -77,30 +82,86 @@ pub printed-join : printed_verdict edges (join_with (codes "y")) ≡ passes (cod
 unfolding files_on_literals
 printed-join = refl
 
--- a column that isn't in the header of its item
-pub printed-join_of_no_column : printed_verdict edges (join_with (codes "z")) ≡ refused (outcome.NotBuilt part.Relation)
+-- a column that isn't in the header of its item, and one of another type
+pub printed-join_of_no_column : printed_verdict edges (join_with (codes "z")) ≡ refused (outcome.Typing 1 kind.UnknownColumn)
 unfolding files_on_literals
 printed-join_of_no_column = refl
 
--- a join looks at no types yet, so it needs ints alone
-pub printed-join_of_strings : printed_verdict (shelf_of (codes "public:adhoc:R.csv") (codes "x:int,y\n1,2\n")) (join_with (codes "y"))
-    ≡ refused (outcome.NotBuilt part.Relation)
+pub printed-join_of_two_types : printed_verdict (shelf_of (codes "public:adhoc:R.csv") (codes "x:int,y\n1,2\n")) (join_with (codes "y"))
+    ≡ refused (outcome.Typing 1 kind.TypeMismatch)
 unfolding files_on_literals
-printed-join_of_strings = refl
+printed-join_of_two_types = refl
 
--- ---- what is built
+-- the file is read before a statement is typed
+pub printed-bad_file_of_a_join : printed_verdict (shelf_of (codes "public:adhoc:R.csv") (codes "x:int\n1,2\n")) (join_with (codes "z"))
+    ≡ refused (outcome.BadRelation (adhoc (codes "R")) (fault.FieldCount 1))
+unfolding files_on_literals
+printed-bad_file_of_a_join = refl
 
-pub built-join : is_built (join_with (codes "y")) ≡ true
-built-join = refl
+-- ---- what isn't built yet
 
-pub built-another_name : is_built (Assign (codes "A") (Copy (operand.Scan (adhoc (codes "R")))) ∷ Store (codes "B") (adhoc (codes "Out")) ∷ []) ≡ false
-built-another_name = refl
+-- A = distinct(scan(R)); store(B, Out); -- typing comes before what isn't built
+pub printed-distinct : printed_verdict edges (Assign (codes "A") (Distinct (operand.Scan (adhoc (codes "R")))) ∷ Store (codes "A") (adhoc (codes "Out")) ∷ [])
+    ≡ refused (outcome.NotBuilt part.Script)
+unfolding files_on_literals
+printed-distinct = refl
 
-pub built-distinct : is_built (Assign (codes "A") (Distinct (operand.Scan (adhoc (codes "R")))) ∷ Store (codes "A") (adhoc (codes "Out")) ∷ []) ≡ false
-built-distinct = refl
+pub printed-another_name : printed_verdict edges (Assign (codes "A") (Distinct (operand.Scan (adhoc (codes "R")))) ∷ Store (codes "B") (adhoc (codes "Out")) ∷ [])
+    ≡ refused (outcome.Typing 2 kind.UnknownRelation)
+unfolding files_on_literals
+printed-another_name = refl
 
-pub built-nothing : is_built [] ≡ false
-built-nothing = refl
+pub printed-nothing : printed_verdict edges [] ≡ passes []
+printed-nothing = refl
+
+-- ---- loaded files
+
+-- P = load("p", csv(schema(n:string, k:int), skip=1)); store(P, Out);
+abbrev load_and_store : List StatementTree
+load_and_store =
+    Assign (codes "P") (Copy (operand.Load (codes "p")
+    (record { name = codes "n"; kind = type.Str } ∷ record { name = codes "k"; kind = type.Int } ∷ []) 1)) ∷ Store (codes "P") (adhoc (codes "Out")) ∷ []
+
+-- the file is asked for by its own name, and has no header
+pub printed-load : printed_verdict (shelf_of (codes "p") (codes "made by hand\nbob,4\nann,3\n")) load_and_store
+    ≡ passes (codes "-- store public:adhoc:Out 2 rows\nn:string,k:int\nann,3\nbob,4\n")
+unfolding files_on_literals
+printed-load = refl
+
+-- what is passed over isn't counted
+pub printed-load_of_a_bad_int : printed_verdict (shelf_of (codes "p") (codes "made by hand\nann,x\n")) load_and_store
+    ≡ refused (outcome.BadRelation (load_key (codes "p")) (fault.BadInt 1 2))
+unfolding files_on_literals
+printed-load_of_a_bad_int = refl
+
+pub printed-load_of_no_file : printed_verdict (shelf_of (codes "public:adhoc:p.csv") []) load_and_store ≡ refused (outcome.NoRelation (load_key (codes "p")))
+printed-load_of_no_file = refl
+
+-- ---- why a fetch was refused
+
+abbrev counts_from : ℕ → ℕ → CallCounts
+counts_from before after = record { before = record { faults = 0; misses = before }; after = record { faults = 0; misses = after } }
+
+-- a file that is told to be there isn't absent, and an absence needs a miss that rose
+pub cause-missing : HasFetchCause (counts_from 4 5) missing refusal.Absent
+cause-missing = (inl (omega arith), tt)
+
+pub cause-there : HasFetchCause (counts_from 4 5) (there []) refusal.Absent → ⊥
+cause-there h = h.1
+
+pub cause-no_miss : HasFetchCause (counts_from 4 4) missing refusal.Absent → ⊥
+cause-no_miss h = by h.0
+  where
+    by : Rose 4 4 → ⊥
+    by (inl less) = absurd (omega arith)
+    by (inr last) = cc
+
+pub cause-no_fault : HasFetchCause (counts_from 4 5) missing refusal.Failed → ⊥
+cause-no_fault h = by h
+  where
+    by : Rose 0 0 → ⊥
+    by (inl less) = absurd (omega arith)
+    by (inr last) = cc
 
 -- ---- lines on standard error
 
@@ -129,3 +190,15 @@ line-syntax = refl
 pub line-too_many : line_of words (outcome.TooMany 1 many.FromItems) ≡ codes "myria: statement 1: too many items\n"
 unfolding digits
 line-too_many = refl
+
+pub line-typing : line_of words (outcome.Typing 2 kind.LoadConflict) ≡ codes "myria: statement 2: load conflict\n"
+unfolding digits
+line-typing = refl
+
+-- a loaded file is told by its name alone
+pub line-no_file : line_of words (outcome.NoRelation (load_key (codes "p.txt"))) ≡ codes "myria: no relation p.txt\n"
+line-no_file = refl
+
+pub line-bad_load : line_of words (outcome.BadRelation (load_key (codes "p.txt")) (fault.BadInt 1 2)) ≡ codes "myria: relation p.txt: record 1 column 2 is not an int\n"
+unfolding digits
+line-bad_load = refl

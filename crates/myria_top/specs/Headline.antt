@@ -4,14 +4,14 @@
 --   Explains run answer     why the answer came, and what the output then holds
 --   Headline run err answer  the promises
 use Rattle.std.specs.Prelude.{◌≡◌, ◌↔◌, ℕ, ◌⊎◌, ⊤, List, Some, None, Contains}
-use Rattle.rel_base.specs.Keys.{shelf_name_of}
-use Rattle.rel_base.specs.declared.names.Key.{Key}
 use Rattle.rel_io.specs.Outside.{Content}
 use Rattle.rel_io.specs.Shelves.{CallCounts}
 use Rattle.rel_io.specs.Sinks.{FaultsRose, TookAll, TookNothing, TookPart, WantsRose, Written}
 use Rattle.rel_io.specs.Outside as outside
 use Rattle.myrial_ast.specs.Trees.{StatementTree}
-use Rattle.myrial_meaning.specs.Fetches.{fetched_keys}
+use Rattle.myrial_meaning.specs.declared.needed_files.Fetch.{Fetch}
+use Rattle.myrial_meaning.specs.Fetches.{fetches}
+use Rattle.myria_top.specs.FileNames.{file_name_of}
 use Rattle.myria_top.specs.declared.outcomes.Outcome.{Outcome}
 use Rattle.myria_top.specs.declared.outcomes.Outcome.TheVariants as outcome
 use Rattle.myria_top.specs.declared.outcomes.Part.TheVariants as part
@@ -34,12 +34,12 @@ pub record OfText (run : Run) (P : List ℕ → Type 0) : Type 0 where
   pub comes : ComesTo run.words run.content step
   pub holds : IfTold step (λ s. (text : List ℕ) × (s ≡ passes text) × P text)
 
--- a file that is asked for: the script, or the relation of a key that the script scans
+-- a file that is asked for: the script, or a relation that the script scans or loads
 pub data IsAskedOf (words : List (List ℕ)) (content : List ℕ → Content) : List ℕ → Type 0 where
   the_script : (name : List ℕ) → script_name words ≡ Some name → IsAskedOf words content name
   of_untold : (name asked : List ℕ) → script_name words ≡ Some name → content name ≡ outside.untold → IsAskedOf words content asked
-  a_relation : (name : List ℕ) (trees : List StatementTree) (key : Key) → script_name words ≡ Some name
-      → ScriptComesTo (content name) (passes trees) → Contains (fetched_keys trees) key → IsAskedOf words content (shelf_name_of key)
+  a_relation : (name : List ℕ) (trees : List StatementTree) (fetch : Fetch) → script_name words ≡ Some name
+      → ScriptComesTo (content name) (passes trees) → Contains (fetches trees) fetch → IsAskedOf words content (file_name_of fetch.key)
 
 -- a refusal before the output: it is what the words and the files come to, a count shows its cause, and nothing is printed
 pub record ExplainsRefusal (run : Run) (answer : Outcome) : Type 0 where

@@ -1,5 +1,5 @@
 -- The words of this crate, lowest first.
-pub mod Forms
+pub mod FileNames
 pub mod Outcomes
 pub mod Verdicts
 pub mod Reading

@@ -5,13 +5,14 @@
 use Rattle.std.specs.Prelude.{ℕ, List, [], ◌∷◌, ◌++◌, codes}
 use Rattle.std.specs.Borrow.{Bor}
 use Rattle.std.specs.Fmt.{decimal}
-use Rattle.rel_base.specs.Keys.{key_text}
 use Rattle.rel_base.specs.declared.names.Key.{Key}
 use Rattle.relation_csv.specs.Faults.{fault_text}
 use Rattle.myrial_lexer.specs.declared.faults.LexWhat.{LexWhat}
 use Rattle.myrial_lexer.specs.declared.faults.LexWhat.TheVariants as lexical
 use Rattle.myrial_parser.specs.declared.faults.What.{What}
 use Rattle.myrial_parser.specs.declared.faults.What.TheVariants as many
+use Rattle.myrial_types.specs.Faults.{kind_text}
+use Rattle.myria_top.specs.FileNames.{key_words}
 use Rattle.myria_top.specs.declared.outcomes.Outcome.{Outcome}
 use Rattle.myria_top.specs.declared.outcomes.Outcome.TheVariants as outcome
 
@@ -24,6 +25,7 @@ status_of outcome.ScriptNotText = 2
 status_of (outcome.Lex line what) = 3
 status_of (outcome.Syntax statement) = 4
 status_of (outcome.TooMany statement what) = 4
+status_of (outcome.Typing statement kind) = 5
 status_of (outcome.NoRelation key) = 6
 status_of (outcome.RelTooLong key) = 7
 status_of (outcome.BadRelation key fault) = 7
@@ -67,7 +69,7 @@ of_statement statement words = codes "statement " ++ decimal statement ++ codes 
 
 -- the message of a fault of a relation's file
 abbrev pub of_relation : Key → List ℕ → List ℕ
-of_relation key words = codes "relation " ++ key_text key ++ codes ": " ++ words
+of_relation key words = codes "relation " ++ key_words key ++ codes ": " ++ words
 
 abbrev pub lexical_line : ℕ → List ℕ → List ℕ
 lexical_line line words = line_with (on_line line words)
@@ -78,6 +80,10 @@ statement_line statement words = line_with (of_statement statement words)
 -- words that are given in five pieces
 abbrev pub joined_words : Bor (List ℕ) × Bor (List ℕ) × Bor (List ℕ) × Bor (List ℕ) × Bor (List ℕ) → List ℕ
 joined_words words = words.0.now ++ words.1.now ++ words.2.now ++ words.3.now ++ words.4.now
+
+-- the line of a missing relation
+abbrev pub missing_line : Key → List ℕ
+missing_line key = line_with (codes "no relation " ++ key_words key)
 
 abbrev pub relation_line : Key → List ℕ → List ℕ
 relation_line key words = line_with (of_relation key words)
@@ -91,7 +97,8 @@ message_of words outcome.ScriptNotText = codes "script is not UTF-8"
 message_of words (outcome.Lex line what) = on_line line (lexical_words what)
 message_of words (outcome.Syntax statement) = of_statement statement (codes "syntax error")
 message_of words (outcome.TooMany statement what) = of_statement statement (codes "too many " ++ many_words what)
-message_of words (outcome.NoRelation key) = codes "no relation " ++ key_text key
+message_of words (outcome.Typing statement kind) = of_statement statement (kind_text kind)
+message_of words (outcome.NoRelation key) = codes "no relation " ++ key_words key
 message_of words (outcome.RelTooLong key) = of_relation key (codes "too long")
 message_of words (outcome.BadRelation key fault) = of_relation key (fault_text fault)
 message_of words (outcome.TooManyRows statement) = of_statement statement (codes "too many rows")

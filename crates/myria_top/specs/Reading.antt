@@ -8,12 +8,12 @@
 --   ReadsBy Comes names ..          a call on the shelf came to what the files come to, and each refusal has its cause
 use Rattle.std.specs.Prelude.{◌≡◌, ℕ, List, [], ◌∷◌, length, nat_lt, if◌then◌else◌, Option, Some, None, Result, Ok, Err, IfErr, ⊤, codes, nat_eq}
 use Rattle.std.specs.List.{starts_with}
-use Rattle.rel_base.specs.Keys.{shelf_name_of}
 use Rattle.rel_io.specs.Outside.{Content, MayBeMissing, Rose}
 use Rattle.rel_io.specs.Shelves.{CallCounts, HaveNotFallen}
 use Rattle.rel_io.specs.Outside as outside
 use Rattle.rel_io.specs.declared.shelves.ShelfFault.{ShelfFault}
 use Rattle.rel_io.specs.declared.shelves.ShelfFault.TheVariants as refusal
+use Rattle.myria_top.specs.FileNames.{file_name_of}
 use Rattle.myria_top.specs.declared.outcomes.Outcome.{Outcome}
 use Rattle.myria_top.specs.declared.outcomes.Outcome.TheVariants as outcome
 use Rattle.myria_top.specs.Verdicts.{Verdict, untold, refused, passes, IfTold}
@@ -40,9 +40,9 @@ HasFetchCause counts content refusal.Memory = ⊤
 abbrev pub HasCause : CallCounts → (List ℕ → Type 0) → Outcome → Type 0
 HasCause counts IsAsked outcome.NoScript = Rose counts.before.misses counts.after.misses
 HasCause counts IsAsked (outcome.NoRelation key) =
-    Rose counts.before.misses counts.after.misses × IsAsked (shelf_name_of key)
-HasCause counts IsAsked (outcome.RelTooLong key) = IsAsked (shelf_name_of key)
-HasCause counts IsAsked (outcome.BadRelation key fault) = IsAsked (shelf_name_of key)
+    Rose counts.before.misses counts.after.misses × IsAsked (file_name_of key)
+HasCause counts IsAsked (outcome.RelTooLong key) = IsAsked (file_name_of key)
+HasCause counts IsAsked (outcome.BadRelation key fault) = IsAsked (file_name_of key)
 HasCause counts IsAsked (outcome.ReadFault name) = Rose counts.before.faults counts.after.faults × IsAsked name
 HasCause counts IsAsked _ = ⊤
 

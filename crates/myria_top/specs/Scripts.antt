@@ -1,7 +1,7 @@
 -- What the file of a script comes to: a script, or the answer that refuses it.
 --
 --   ScriptComesTo content step       the file comes to this step
-use Rattle.std.specs.Prelude.{◌≡◌, ℕ, ◌<◌, ◌≤◌, true, false, List, length, Result, Ok, Err, ⊤}
+use Rattle.std.specs.Prelude.{ℕ, ◌<◌, ◌≤◌, List, length, Result, Ok, Err, ⊤}
 use Rattle.std.specs.Str.{IsUtf8}
 use Rattle.rel_io.specs.Outside.{Content}
 use Rattle.rel_io.specs.Outside as outside
@@ -15,7 +15,6 @@ use Rattle.myria_top.specs.declared.outcomes.Outcome.{Outcome}
 use Rattle.myria_top.specs.declared.outcomes.Outcome.TheVariants as outcome
 use Rattle.myria_top.specs.declared.outcomes.Part.TheVariants as part
 use Rattle.rel_base.specs.Limits.{most_script_bytes}
-use Rattle.myria_top.specs.Forms.{is_built}
 use Rattle.myria_top.specs.Verdicts.{Verdict, untold, refused, passes}
 
 -- the answer to a fault of the statement with this number
@@ -23,16 +22,14 @@ abbrev pub fault_answer : ℕ → PieceFault → Outcome
 fault_answer number Syntax = outcome.Syntax number
 fault_answer number (TooMany what) = outcome.TooMany number what
 
--- what text that is short enough comes to: its first fault as tokens, that of its pieces, or a script, which has to be built
+-- what text that is short enough comes to: its first fault as tokens, that of its pieces, or a script
 pub data TextComesTo (bytes : List ℕ) : Verdict (List StatementTree) → Type 0 where
   not_text : (IsUtf8 bytes → ⊥) → TextComesTo bytes (refused outcome.ScriptNotText)
   bad_token : (line : ℕ) (what : LexWhat) → HasFault bytes line what → TextComesTo bytes (refused (outcome.Lex line what))
   bad_piece : (tokens : List Token) (number : ℕ) (fault : PieceFault) → AreTokensOf bytes tokens
       → IsFirstFault bytes tokens number fault → TextComesTo bytes (refused (fault_answer number fault))
-  not_built : (tokens : List Token) (script : List StatementTree) → AreTokensOf bytes tokens
-      → IsScript bytes tokens script → is_built script ≡ false → TextComesTo bytes (refused (outcome.NotBuilt part.Script))
-  built : (tokens : List Token) (script : List StatementTree) → AreTokensOf bytes tokens
-      → IsScript bytes tokens script → is_built script ≡ true → TextComesTo bytes (passes script)
+  a_script : (tokens : List Token) (script : List StatementTree) → AreTokensOf bytes tokens
+      → IsScript bytes tokens script → TextComesTo bytes (passes script)
 
 -- what the file of a script comes to
 pub data ScriptComesTo : Content → Verdict (List StatementTree) → Type 0 where

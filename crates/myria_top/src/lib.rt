@@ -1,7 +1,7 @@
 //! The top call: runs the words of a command line over files that are handed in, and prints the answer.
 //!
-//! Stands on `myrial_lexer` and `myrial_parser` for scripts, on `myrial_meaning` for what they mean, on `relation_csv`
-//! for the files of relations and on `rel_io` for what is read and written.
+//! Stands on `myrial_lexer` and `myrial_parser` for scripts, on `myrial_types` for their typing, on `myrial_meaning` for
+//! what they mean, on `relation_csv` for the files of relations and on `rel_io` for what is read and written.
 //!
 //! Promises: `run_words` has the headline as a clause. Each answer has its cause; after `Done` the output took exactly
 //! the text of the script's meaning; standard error took the line of any other answer.
@@ -12,7 +12,7 @@
 #![tactic(auto)]
 
 mod counted;
-mod forms;
+mod file_names;
 mod messages;
 mod outcomes;
 mod pieces;

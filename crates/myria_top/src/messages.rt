@@ -3,12 +3,16 @@ ghost use Rattle.std.specs.Prelude.{◌≡◌, ◌++◌};
 ghost use Rattle.std.specs.List.{flat_map};
 ghost use Rattle.rel_io.specs.Sinks.{Offers, written_of};
 ghost use Rattle.relation_csv.specs.Faults.{fault_text};
+ghost use Rattle.myrial_types.specs.Faults.{kind_text};
+ghost use Rattle.myria_top.specs.FileNames.{key_words};
 ghost use Rattle.myria_top.specs.Outcomes as outcomes;
 
 use crate::Outcome;
+use crate::file_names::is_loaded;
 use itoa::Buffer;
 use myrial_lexer::LexWhat;
 use myrial_parser::What;
+use myrial_types::TypeKind;
 use rel_base::{Key, Text};
 use rel_io::{Sink, SinkFault, offer};
 use relation_csv::RelFault;
@@ -30,15 +34,10 @@ pub fn tell<E: Sink>(err: &mut E, words: &[Text], answer: &Outcome) -> Result<()
         Outcome::TooMany { statement, what } => {
             tell_statement(err, *statement, "too many ", many_words(*what))
         }
-        Outcome::NoRelation { key } => {
-            let user = key.user.as_str();
-            let program = key.program.as_str();
-            let name = key.name.as_str();
-            offer_all(
-                err,
-                &["myria: no relation ", user, ":", program, ":", name, "\n"],
-            )
+        Outcome::Typing { statement, kind } => {
+            tell_statement(err, *statement, kind_words(*kind), "")
         }
+        Outcome::NoRelation { key } => tell_missing(err, key),
         Outcome::RelTooLong { key } => tell_relation(err, key, ("", "", "", "", "too long")),
         Outcome::BadRelation { key, fault } => tell_fault(err, key, *fault),
         Outcome::TooManyRows { statement } => tell_statement(err, *statement, "too many rows", ""),
@@ -85,6 +84,40 @@ fn tell_statement<E: Sink>(
     )
 }
 
+/// Words in five pieces, some of which may be empty.
+type Words<'a> = (&'a str, &'a str, &'a str, &'a str, &'a str);
+
+/// A key in words, in pieces.
+fn words_of_key(key: &Key) -> Words<'_>
+    ensures { outcomes.joined_words result ≡ key_words key.now }
+{
+    let name = key.name.as_str();
+    if is_loaded(key) {
+        ("", "", "", "", name)
+    } else {
+        (key.user.as_str(), ":", key.program.as_str(), ":", name)
+    }
+}
+
+/// The line of a missing relation.
+fn tell_missing<E: Sink>(err: &mut E, key: &Key) -> Result<(), SinkFault>
+    ensures { Offers (written_of E.Sink err.old err.new) (outcomes.missing_line key.now) result }
+{
+    let (user, colon, program, other, name) = words_of_key(key);
+    offer_all(
+        err,
+        &[
+            "myria: no relation ",
+            user,
+            colon,
+            program,
+            other,
+            name,
+            "\n",
+        ],
+    )
+}
+
 /// The line of a fault of a relation's file.
 fn tell_fault<E: Sink>(err: &mut E, key: &Key, fault: RelFault) -> Result<(), SinkFault>
     ensures { Offers (written_of E.Sink err.old err.new)
@@ -95,9 +128,6 @@ fn tell_fault<E: Sink>(err: &mut E, key: &Key, fault: RelFault) -> Result<(), Si
     let words = fault_words(fault, &mut first, &mut second);
     tell_relation(err, key, words)
 }
-
-/// Words in five pieces, some of which may be empty.
-type Words<'a> = (&'a str, &'a str, &'a str, &'a str, &'a str);
 
 /// A fault of a relation's file in words, in pieces.
 fn fault_words<'a>(fault: RelFault, first: &'a mut Buffer, second: &'a mut Buffer) -> Words<'a>
@@ -130,18 +160,16 @@ fn tell_relation<E: Sink>(err: &mut E, key: &Key, words: Words<'_>) -> Result<()
     ensures { Offers (written_of E.Sink err.old err.new)
         (outcomes.relation_line key.now (outcomes.joined_words words.entry)) result }
 {
-    let user = key.user.as_str();
-    let program = key.program.as_str();
-    let name = key.name.as_str();
+    let (user, colon, program, other, name) = words_of_key(key);
     let (first, second, third, fourth, fifth) = words;
     offer_all(
         err,
         &[
             "myria: relation ",
             user,
-            ":",
+            colon,
             program,
-            ":",
+            other,
             name,
             ": ",
             first,
@@ -175,6 +203,21 @@ fn many_words(what: What) -> &'static str
         What::Nesting => "parentheses",
         What::FromItems => "items",
         What::Columns => "columns",
+    }
+}
+
+/// What is wrong with a statement that isn't typed, in words.
+fn kind_words(kind: TypeKind) -> &'static str
+    ensures { result.now ≡ kind_text kind }
+{
+    match kind {
+        TypeKind::UnknownRelation => "unknown relation",
+        TypeKind::UnknownColumn => "unknown column",
+        TypeKind::AmbiguousColumn => "ambiguous column",
+        TypeKind::TypeMismatch => "type mismatch",
+        TypeKind::Misplaced => "misplaced aggregate",
+        TypeKind::Limit => "limit",
+        TypeKind::LoadConflict => "load conflict",
     }
 }
 

@@ -4,6 +4,7 @@ ghost use Rattle.myria_top.specs.Outcomes.{status_of};
 
 use myrial_lexer::LexWhat;
 use myrial_parser::What;
+use myrial_types::{TypeFault, TypeKind};
 use rel_base::{Key, Memory, RunFault, Text};
 use relation_csv::RelFault;
 
@@ -12,10 +13,8 @@ use relation_csv::RelFault;
 pub enum Part {
     /// The words of the command line.
     Words,
-    /// The script.
+    /// The script: a statement that isn't evaluated yet.
     Script,
-    /// A relation: a script that joins needs columns of ints alone.
-    Relation,
 }
 
 /// How a run ended.
@@ -65,6 +64,13 @@ pub enum Outcome {
         /// The first fault of its file.
         fault: RelFault,
     },
+    /// A statement isn't typed.
+    Typing {
+        /// The number of the first one, from 1.
+        statement: u32,
+        /// The first of its kinds of fault.
+        kind: TypeKind,
+    },
     /// A statement has more rows than a relation may have.
     TooManyRows {
         /// Its number, from 1.
@@ -112,6 +118,10 @@ impl Outcome {
                 statement: _,
                 what: _,
             } => 4,
+            Outcome::Typing {
+                statement: _,
+                kind: _,
+            } => 5,
             Outcome::NoRelation { key: _ } => 6,
             Outcome::RelTooLong { key: _ } => 7,
             Outcome::BadRelation { key: _, fault: _ } => 7,
@@ -134,6 +144,20 @@ impl From<Memory> for Outcome {
 
     fn from(_refused: Memory) -> Outcome {
         Outcome::Memory
+    }
+}
+
+impl From<TypeFault> for Outcome {
+    ghost use Rattle.std.specs.Prelude.{◌≡◌};
+    ghost use Rattle.myria_top.specs.Runs.{typing_answer};
+
+    ghost from_gives = { λ fault answer. answer ≡ typing_answer fault };
+
+    fn from(fault: TypeFault) -> Outcome {
+        match fault {
+            TypeFault::At { statement, kind } => Outcome::Typing { statement, kind },
+            TypeFault::Memory => Outcome::Memory,
+        }
     }
 }
 

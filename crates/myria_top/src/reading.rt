@@ -1,25 +1,26 @@
-//! Reads the words, the script and the relations that it scans.
+//! Reads the words, the script and the relations that it needs.
 ghost use Rattle.std.specs.Prelude.{◌≡◌, ◌≢◌, ◌≤◌, ◌<◌, ◌^◌, ◌-◌, ◌++◌, ◌∷◌, [], ◌⊎◌};
-ghost use Rattle.std.specs.Prelude.{true, false, length, AllPairs, Err, IfOk, IfErr, OnOk, option_map};
-ghost use Rattle.rel_base.specs.Keys.{holds_key, same_key, shelf_name_of};
-ghost use Rattle.myrial_ast.specs.Trees.{trees_of};
-ghost use Rattle.myria_top.specs.Forms as form;
+ghost use Rattle.std.specs.Prelude.{false, length, AllPairs, Err, IfOk, IfErr, OnOk, option_map};
+ghost use Rattle.rel_base.specs.Keys.{holds_key, same_key};
 ghost use Rattle.myria_top.specs.Scripts.{ScriptComesTo, TextComesTo, trees_read, IsOfTexts};
+ghost use Rattle.relation_csv.specs.Files.{IsReadAs};
 ghost use Rattle.rel_io.specs.Shelves.{HaveNotFallen, counts_of};
+ghost use Rattle.myria_top.specs.FileNames.{file_name_of};
 ghost use Rattle.rel_io.specs.Outside.{IsGiven};
 ghost use Rattle.myria_top.specs.Reading as spec;
-ghost use Rattle.myria_top.specs.Runs.{files_verdict, relation_verdict, IsFileOf};
+ghost use Rattle.myria_top.specs.Runs.{files_verdict, relation_read, relation_verdict, IsFileOf};
 
-use crate::forms::is_built;
+use crate::file_names::file_name;
 use crate::{Outcome, Part};
-use myrial_ast::Script;
+use myrial_ast::{LoadForm, Script};
 use myrial_lexer::{LexFault, lex};
 use myrial_parser::{ParseFault, parse};
+use myrial_types::{Fetch, Fetches};
 use rel_base::{
-    Duplicate, Files, Key, Keys, MOST_RELATION_BYTES, MOST_SCRIPT_BYTES, Memory, Relation, Text,
+    Duplicate, Files, Key, MOST_RELATION_BYTES, MOST_SCRIPT_BYTES, Memory, Relation, Text,
 };
 use rel_io::{Shelf, ShelfFault};
-use relation_csv::{RelFault, read_relation};
+use relation_csv::{RelFault, read_relation, read_with};
 use std::alloc::Global;
 
 /// The word that names the script: the words are two, and the second is no option.
@@ -32,12 +33,11 @@ pub fn script_name(words: &[Text]) -> Option<&Text>
     }
 }
 
-/// The script of this name: one of those that are built.
+/// The script of this name.
 pub fn read_script<F: Shelf>(alloc: Global, shelf: &mut F, name: &Text) -> Result<Script, Outcome>
     ensures read { spec.ReadsBy (ScriptComesTo (F.content shelf.old name.now))
         (counts_of F.Shelf shelf.old shelf.new)
         (λ asked. asked ≡ name.now) (trees_read result) }
-    ensures built { IfOk result (λ script. form.is_built (trees_of script) ≡ true) }
     ensures part { result ≢ Err (Outcome.NotBuilt Part.Words) }
     ensures content { F.content shelf.new ≡ F.content shelf.old }
 {
@@ -58,7 +58,6 @@ pub fn read_script<F: Shelf>(alloc: Global, shelf: &mut F, name: &Text) -> Resul
 fn script_of_text(alloc: Global, bytes: &[u8]) -> Result<Script, Outcome>
     requires { length bytes.now ≤ 65536 }
     ensures agrees { spec.AgreesBy (TextComesTo bytes.now) (trees_read result) }
-    ensures built { IfOk result (λ script. form.is_built (trees_of script) ≡ true) }
     ensures kind { IfErr result IsOfTexts }
 {
     let tokens = match lex(alloc, bytes) {
@@ -67,37 +66,34 @@ fn script_of_text(alloc: Global, bytes: &[u8]) -> Result<Script, Outcome>
         Err(LexFault::At { line, what }) => return Err(Outcome::Lex { line, what }),
         Err(LexFault::Memory) => return Err(Outcome::Memory),
     };
-    let script = match parse(alloc, &tokens, bytes) {
-        Ok(script) => script,
-        Err(ParseFault::Syntax { statement }) => return Err(Outcome::Syntax { statement }),
-        Err(ParseFault::TooMany { statement, what }) => {
-            return Err(Outcome::TooMany { statement, what });
-        }
-        Err(ParseFault::Memory) => return Err(Outcome::Memory),
-    };
-    if is_built(&script) {
-        Ok(script)
-    } else {
-        Err(Outcome::NotBuilt { part: Part::Script })
+    match parse(alloc, &tokens, bytes) {
+        Ok(script) => Ok(script),
+        Err(ParseFault::Syntax { statement }) => Err(Outcome::Syntax { statement }),
+        Err(ParseFault::TooMany { statement, what }) => Err(Outcome::TooMany { statement, what }),
+        Err(ParseFault::Memory) => Err(Outcome::Memory),
     }
 }
 
-/// The relations of these keys, each read wholly before the next.
-pub fn read_files<F: Shelf>(alloc: Global, shelf: &mut F, keys: &Keys) -> Result<Files, Outcome>
-    requires { AllPairs (λ j k. same_key j k ≡ false) keys.now }
-    ensures read { spec.ReadsStep (files_verdict (F.content shelf.old) keys.now)
+/// The relations of these files, each read wholly before the next.
+pub fn read_files<F: Shelf>(
+    alloc: Global,
+    shelf: &mut F,
+    fetches: &Fetches,
+) -> Result<Files, Outcome>
+    requires { AllPairs (λ f g. same_key f.key g.key ≡ false) fetches.now }
+    ensures read { spec.ReadsStep (files_verdict (F.content shelf.old) fetches.now)
         (counts_of F.Shelf shelf.old shelf.new)
-        (IsFileOf keys.now) result }
+        (IsFileOf fetches.now) result }
     ensures part { result ≢ Err (Outcome.NotBuilt Part.Words) }
     ensures content { F.content shelf.new ≡ F.content shelf.old }
 {
     let mut files = Files::new(alloc);
-    for key in keys.as_slice() {
-        let relation = match read_scanned(alloc, shelf, key) {
+    for fetch in fetches.as_slice() {
+        let relation = match read_fetched(alloc, shelf, fetch) {
             Ok(relation) => relation,
             Err(refusal) => return Err(refusal),
         };
-        if let Err(refusal) = add_file(alloc, &mut files, key, relation) {
+        if let Err(refusal) = add_file(alloc, &mut files, &fetch.key, relation) {
             return Err(Outcome::from(refusal));
         }
     }
@@ -114,16 +110,21 @@ fn add_file(alloc: Global, files: &mut Files, key: &Key, relation: Relation) -> 
     files.push((key, relation))
 }
 
-/// The relation of this key.
-pub fn read_scanned<F: Shelf>(alloc: Global, shelf: &mut F, key: &Key) -> Result<Relation, Outcome>
+/// The relation of this file.
+pub fn read_fetched<F: Shelf>(
+    alloc: Global,
+    shelf: &mut F,
+    fetch: &Fetch,
+) -> Result<Relation, Outcome>
     ensures read { spec.ReadsStep
-        (relation_verdict key.now (F.content shelf.old (shelf_name_of key.now)))
+        (relation_verdict fetch.now (F.content shelf.old (file_name_of fetch.now.key)))
         (counts_of F.Shelf shelf.old shelf.new)
-        (λ asked. asked ≡ shelf_name_of key.now) result }
+        (λ asked. asked ≡ file_name_of fetch.now.key) result }
     ensures part { result ≢ Err (Outcome.NotBuilt Part.Words) }
     ensures content { F.content shelf.new ≡ F.content shelf.old }
 {
-    let name = match key.shelf_name(alloc) {
+    let key = &fetch.key;
+    let name = match file_name(alloc, key) {
         Ok(name) => name,
         Err(_) => return Err(Outcome::Memory),
     };
@@ -137,9 +138,19 @@ pub fn read_scanned<F: Shelf>(alloc: Global, shelf: &mut F, key: &Key) -> Result
     if file.len() > MOST_RELATION_BYTES {
         return Err(too_long(alloc, key));
     }
-    match read_relation(alloc, &file) {
+    match relation_of(alloc, &file, &fetch.form) {
         Ok(relation) => Ok(relation),
         Err(fault) => Err(bad_relation(alloc, key, fault)),
+    }
+}
+
+/// The relation of the bytes of a file: a loaded file is read by its form, and any other by its header.
+fn relation_of(alloc: Global, bytes: &[u8], form: &Option<LoadForm>) -> Result<Relation, RelFault>
+    ensures { IsReadAs result (relation_read form.now bytes.now) }
+{
+    match form {
+        None => read_relation(alloc, bytes),
+        Some(form) => read_with(alloc, bytes, &form.schema, form.skip),
     }
 }
 

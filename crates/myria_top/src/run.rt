@@ -1,27 +1,25 @@
 //! One run of the program, from its words to its exit.
-ghost use Rattle.std.specs.Prelude.{◌≡◌, ◌≢◌, ◌↔◌, true, map, All, None, Err, IfErr, vec_len};
-ghost use Rattle.std.specs.List.{list_all, list_any};
-ghost use Rattle.myrial_ast.specs.Trees.{statement_tree_of, trees_of};
-ghost use Rattle.myrial_meaning.specs.Fetches.{fetched_keys};
+ghost use Rattle.std.specs.Prelude.{◌≡◌, ◌≢◌, ◌↔◌, All, None, Err, IfErr, vec_len};
+ghost use Rattle.myrial_ast.specs.Trees.{trees_of};
+ghost use Rattle.myrial_meaning.specs.Fetches.{fetches};
 ghost use Rattle.rel_io.specs.Shelves.{counts_of};
 ghost use Rattle.rel_io.specs.Sinks.{written_of};
 ghost use Rattle.rel_io.specs.Taps.{no_rows};
 ghost use Rattle.myria_top.specs.Headline.{Headline, Explains, IsAskedOf};
 ghost use Rattle.myria_top.specs.Reading as read;
-ghost use Rattle.myria_top.specs.Forms.{is_built};
 ghost use Rattle.myria_top.specs.OutputText.{output_text};
 ghost use Rattle.myria_top.specs.Scripts.{IsOfTexts};
 ghost use Rattle.myria_top.specs.Verdicts.{and_then, passes};
-ghost use Rattle.myria_top.specs.Runs as runs;
-ghost use Rattle.myria_top.specs.Runs.{ComesTo, IsFileOf, printed_verdict, run_verdict};
+ghost use Rattle.myria_top.specs.Runs.{ComesTo, IsFileOf, printed_verdict, run_verdict, typed_verdict};
 
 use crate::messages::tell;
 use crate::pieces::Pieces;
 use crate::reading::{read_files, read_script, script_name};
 use crate::{Outcome, Part};
-use myrial_ast::{RelExpr, Script, Stmt};
-use myrial_meaning::{evaluate, has_meaning, fetched_keys};
-use rel_base::{ColType, Column, Files, Key, Relation, TAPS, Text};
+use myrial_ast::Script;
+use myrial_meaning::{evaluate, has_meaning, runs};
+use myrial_types::{check, fetches};
+use rel_base::{Files, TAPS, Text};
 use rel_io::{Shelf, Sink, SinkFault, Tap};
 use std::alloc::Global;
 use std::sync::Wait;
@@ -107,17 +105,16 @@ fn prepared_script<F: Shelf>(
     script: &Script,
     shelf: &mut F,
 ) -> Result<Pieces, Outcome>
-    requires { is_built (trees_of script.now) ≡ true }
     ensures read { read.ReadsStep (printed_verdict (F.content shelf.old) (trees_of script.now))
         (counts_of F.Shelf shelf.old shelf.new)
-        (IsFileOf (fetched_keys (trees_of script.now))) result }
+        (IsFileOf (fetches (trees_of script.now))) result }
     ensures part { result ≢ Err (Outcome.NotBuilt Part.Words) }
 {
-    let keys = match fetched_keys(alloc, script) {
-        Ok(keys) => keys,
+    let needed = match fetches(alloc, script) {
+        Ok(needed) => needed,
         Err(_) => return Err(Outcome::Memory),
     };
-    let files = match read_files(alloc, shelf, &keys) {
+    let files = match read_files(alloc, shelf, &needed) {
         Ok(files) => files,
         Err(refusal) => return Err(refusal),
     };
@@ -126,24 +123,30 @@ fn prepared_script<F: Shelf>(
 
 /// The text of the script's run over its files.
 fn text_of_run(alloc: Global, script: &Script, files: &Files) -> Result<Pieces, Outcome>
-    requires { is_built (trees_of script.now) ≡ true }
     ensures agrees { read.Agrees
         (and_then (run_verdict (trees_of script.now) files.now) (λ stored. passes (output_text stored)))
         result }
     ensures kind { IfErr result IsOfTexts }
 {
-    if !types_fit(script, files) {
-        return Err(Outcome::NotBuilt {
-            part: Part::Relation,
-        });
+    match check(alloc, script, files) {
+        Ok(_checked) => text_of_typed(alloc, script, files),
+        Err(fault) => Err(Outcome::from(fault)),
+    }
+}
+
+/// The text of a typed script's run over its files.
+fn text_of_typed(alloc: Global, script: &Script, files: &Files) -> Result<Pieces, Outcome>
+    ensures agrees { read.Agrees
+        (and_then (typed_verdict (trees_of script.now) files.now) (λ stored. passes (output_text stored)))
+        result }
+    ensures kind { IfErr result IsOfTexts }
+{
+    if !runs(script) {
+        return Err(Outcome::NotBuilt { part: Part::Script });
     }
     match has_meaning(alloc, script, files) {
         Ok(true) => {}
-        Ok(false) => {
-            return Err(Outcome::NotBuilt {
-                part: Part::Relation,
-            });
-        }
+        Ok(false) => return Err(Outcome::NotBuilt { part: Part::Script }),
         Err(_) => return Err(Outcome::Memory),
     }
     let stored = match evaluate(alloc, script, files) {
@@ -154,46 +157,4 @@ fn text_of_run(alloc: Global, script: &Script, files: &Files) -> Result<Pieces, 
         Ok(text) => Ok(text),
         Err(_) => Err(Outcome::Memory),
     }
-}
-
-/// Whether the types of the files fit the script, so far as they are looked at yet: a join needs ints alone.
-fn types_fit(script: &Script, files: &Files) -> bool
-    ensures { result ≡ runs.types_fit files.now (trees_of script.now) }
-{
-    !has_join(script.as_slice()) || have_ints_alone(files.as_slice())
-}
-
-/// Whether a statement joins.
-fn has_join(script: &[Stmt]) -> bool
-    ensures { result ≡ list_any runs.is_join (map statement_tree_of script.now) }
-{
-    match script {
-        [] => false,
-        [Stmt::Assign(_, RelExpr::From(_, _, _)), ..] => true,
-        [_, rest @ ..] => has_join(rest),
-    }
-}
-
-/// Whether each column of each file is one of ints.
-fn have_ints_alone(files: &[(Key, Relation)]) -> bool
-    ensures { result ≡ runs.has_ints_alone files.now }
-{
-    match files {
-        [] => true,
-        [(_, relation), rest @ ..] => has_ints_alone(relation) && have_ints_alone(rest),
-    }
-}
-
-/// Whether each column of the relation is one of ints.
-fn has_ints_alone(relation: &Relation) -> bool
-    ensures { result ≡ list_all runs.is_int_column relation.now.schema }
-{
-    relation.schema().as_slice().iter().all(is_int_column)
-}
-
-/// Whether a column is one of ints.
-fn is_int_column(column: &Column) -> bool
-    ensures { result ≡ runs.is_int_column column.now }
-{
-    column.kind == ColType::Int
 }

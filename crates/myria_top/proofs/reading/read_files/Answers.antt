@@ -1,29 +1,29 @@
 use Rattle.std.proofs.Common.{◌∙◌, sym, subst, arith, List, ℕ, suc, take, drop}
-use Rattle.rel_base.specs.Keys.{shelf_name_of}
+use Rattle.myria_top.specs.FileNames.{file_name_of}
 use Rattle.rel_io.specs.Outside.{Content}
 use Rattle.std.specs.Prelude.{Contains}
 use Rattle.myria_top.specs.Reading.{AgreesRefused}
 use Rattle.myria_top.specs.Runs.{files_verdict, relation_verdict, IsFileOf}
-use Rattle.myria_top.proofs.ScanLemmas.{new_key, split_at}
+use Rattle.myria_top.proofs.FetchLemmas.{new_key, split_at}
 use Rattle.myria_top.proofs.VerdictLemmas.{files_refused, HasCause-part}
 use Rattle.myria_top.proofs.reading.read_files.Goals as goal
 
 pub returns-in-Err-clause-read : goal.returns-in-Err-clause-read
 returns-in-Err-clause-read g c =
     let content = g.F.Shelf.content c.args.shelf.now in
-    let keys = c.as_slice-key-items.result.now in
-    let key = c.key-item.result in
-    let i = c.loop-key.key-index in
-    let kept = c.loop-key.invariant in
+    let fetches = c.as_slice-fetch-items.result.now in
+    let fetch = c.fetch-item.result in
+    let i = c.loop-fetch.fetch-index in
+    let kept = c.loop-fetch.invariant in
     let read = c.in-Err.ensures.read in
-    let split = split_at keys i key c.loop-key-test.true c.key-item.is in
-    let refuses : AgreesRefused (relation_verdict key (content (shelf_name_of key))) c.in-Err.refusal =
-    subst (λ (con : List ℕ → Content). AgreesRefused (relation_verdict key (con (shelf_name_of key))) c.in-Err.refusal) kept.content read.agrees in
-    let all = files_refused content (take i keys) key (drop (suc i) keys) c.loop-key.files c.in-Err.refusal kept.read refuses in
+    let split = split_at fetches i fetch c.loop-fetch-test.true c.fetch-item.is in
+    let refuses : AgreesRefused (relation_verdict fetch (content (file_name_of fetch.key))) c.in-Err.refusal =
+    subst (λ (con : List ℕ → Content). AgreesRefused (relation_verdict fetch (con (file_name_of fetch.key))) c.in-Err.refusal) kept.content read.agrees in
+    let all = files_refused content (take i fetches) fetch (drop (suc i) fetches) c.loop-fetch.files c.in-Err.refusal kept.read refuses in
     record {
-      agrees = subst (λ ks. AgreesRefused (files_verdict content ks) c.in-Err.refusal) (sym split ∙ c.as_slice-key-items.ensures.value) all;
+      agrees = subst (λ fs. AgreesRefused (files_verdict content fs) c.in-Err.refusal) (sym split ∙ c.as_slice-fetch-items.ensures.value) all;
       cause =
-          HasCause-part _ _ _ (IsFileOf c.args.keys.now) c.in-Err.refusal
+          HasCause-part _ _ _ (IsFileOf c.args.fetches.now) c.in-Err.refusal
           (record {
             faults_from = kept.faults;
             faults_on = read.kept.faults;
@@ -33,10 +33,10 @@ returns-in-Err-clause-read g c =
             misses_to = omega arith;
           })
           (λ name asked. record {
-            key = key;
+            fetch = fetch;
             is_one =
-                subst (λ ks. Contains ks key) c.as_slice-key-items.ensures.value
-                (i, c.loop-key-test.true, sym c.key-item.is);
+                subst (λ fs. Contains fs fetch) c.as_slice-fetch-items.ensures.value
+                (i, c.loop-fetch-test.true, sym c.fetch-item.is);
             is_named = asked;
           }) read.cause;
       kept = record { faults = omega (arith, kept.faults, read.kept.faults); misses = omega (arith, kept.misses, read.kept.misses) };
@@ -44,5 +44,5 @@ returns-in-Err-clause-read g c =
 
 pub add_file-requires-clause-new_key : goal.add_file-requires-clause-new_key
 add_file-requires-clause-new_key g c =
-    new_key c.as_slice-key-items.result.now c.loop-key.key-index c.key-item.result c.loop-key.files
-    (rw c.as_slice-key-items.ensures.value c.requires) c.loop-key-test.true c.key-item.is c.loop-key.invariant.keys
+    new_key c.as_slice-fetch-items.result.now c.loop-fetch.fetch-index c.fetch-item.result c.loop-fetch.files
+    (rw c.as_slice-fetch-items.ensures.value c.requires) c.loop-fetch-test.true c.fetch-item.is c.loop-fetch.invariant.keys

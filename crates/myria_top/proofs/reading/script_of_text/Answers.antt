@@ -4,9 +4,8 @@ use Rattle.myrial_lexer.specs.Tokens.{HasFault}
 use Rattle.myrial_lexer.specs.declared.faults.LexWhat.{LexWhat}
 use Rattle.myrial_parser.specs.Pieces.{Syntax, TooMany}
 use Rattle.myria_top.specs.declared.outcomes.Outcome.TheVariants as outcome
-use Rattle.myria_top.specs.declared.outcomes.Part.TheVariants as part
 use Rattle.myria_top.specs.Reading.{Meets}
-use Rattle.myria_top.specs.Scripts.{TextComesTo, not_text, bad_token, bad_piece, not_built, built}
+use Rattle.myria_top.specs.Scripts.{TextComesTo, not_text, bad_token, bad_piece, a_script}
 use Rattle.myria_top.specs.Verdicts.{refused, passes}
 use Rattle.myria_top.proofs.reading.script_of_text.Goals as goal
 
@@ -47,20 +46,9 @@ returns-in-Err-TooMany-clause-agrees c = record {
   is = refl;
 }
 
-pub returns-clause-agrees : goal.returns-clause-agrees
-returns-clause-agrees c = record {
-  step = refused (outcome.NotBuilt part.Script);
-  comes =
-      not_built c.in-Ok.tokens (trees_of c.in-Ok-parse.script) c.in-Ok.ensures.ok c.in-Ok-parse.ensures.ok
-      (sym c.is_built.ensures ∙ c.if-is_built.false);
-  is = refl;
-}
-
-pub returns-then-is_built-clause-agrees : goal.returns-then-is_built-clause-agrees
-returns-then-is_built-clause-agrees c = record {
+pub returns-in-Ok-parse-clause-agrees : goal.returns-in-Ok-parse-clause-agrees
+returns-in-Ok-parse-clause-agrees c = record {
   step = passes (trees_of c.in-Ok-parse.script);
-  comes =
-      built c.in-Ok.tokens (trees_of c.in-Ok-parse.script) c.in-Ok.ensures.ok c.in-Ok-parse.ensures.ok
-      (sym c.is_built.ensures ∙ c.if-is_built.true);
+  comes = a_script c.in-Ok.tokens (trees_of c.in-Ok-parse.script) c.in-Ok.ensures.ok c.in-Ok-parse.ensures.ok;
   is = refl;
 }

@@ -1,11 +1,19 @@
-use Rattle.std.proofs.Common.{ℕ, List}
+use Rattle.std.proofs.Common.{◌≡◌, ℕ, List, false, sym, subst}
+use Rattle.std.specs.Prelude.{AllPairs}
+use Rattle.rel_base.specs.Keys.{same_key}
 use Rattle.myrial_ast.specs.Trees.{trees_of}
-use Rattle.myrial_meaning.specs.Fetches.{fetched_keys}
+use Rattle.myrial_meaning.specs.Fetches.{fetches}
 use Rattle.rel_io.specs.Shelves.{CallCounts, counts_of}
 use Rattle.myria_top.specs.Runs.{IsFileOf}
 use Rattle.myria_top.proofs.RunLemmas.{run_agrees}
 use Rattle.myria_top.proofs.ScriptLemmas.{run_cause}
+use Rattle.myrial_meaning.specs.declared.needed_files.Fetch.{Fetch}
+use Rattle.myria_top.proofs.FetchLemmas.{fetches-distinct}
 use Rattle.myria_top.proofs.run.prepared_script.Goals as goal
+
+pub read_files-requires : goal.read_files-requires
+read_files-requires g c =
+    subst (AllPairs (λ (f g' : Fetch). same_key f.key g'.key ≡ false)) (sym c.in-Ok.ensures) (fetches-distinct (trees_of c.args.script.now))
 
 pub returns-clause-read : goal.returns-clause-read
 returns-clause-read g c =
@@ -13,8 +21,8 @@ returns-clause-read g c =
     let counts : CallCounts = counts_of g.F.Shelf c.args.shelf.now c.read_files.new.shelf in
     record {
       agrees =
-          run_agrees (g.F.Shelf.content c.args.shelf.now) (trees_of c.args.script.now) c.in-Ok.keys c.in-Ok-read_files.files c.text_of_run.result c.in-Ok.ensures.keys
+          run_agrees (g.F.Shelf.content c.args.shelf.now) (trees_of c.args.script.now) c.in-Ok.needed c.in-Ok-read_files.files c.text_of_run.result c.in-Ok.ensures
           read.agrees c.text_of_run.ensures.agrees;
-      cause = run_cause {X = List ℕ} counts (IsFileOf (fetched_keys (trees_of c.args.script.now))) c.text_of_run.result c.text_of_run.ensures.kind;
+      cause = run_cause {X = List ℕ} counts (IsFileOf (fetches (trees_of c.args.script.now))) c.text_of_run.result c.text_of_run.ensures.kind;
       kept = read.kept;
     }

@@ -1,14 +1,17 @@
-use Rattle.std.proofs.Common.{◌∙◌, sym}
+use Rattle.std.proofs.Common.{List, subst, sym}
+use Rattle.rel_base.specs.Keys.{File}
 use Rattle.myrial_ast.specs.Trees.{trees_of}
-use Rattle.myria_top.proofs.FormLemmas.{runs-built}
-use Rattle.myria_top.proofs.RunLemmas.{run_prints}
-use Rattle.myria_top.proofs.VerdictLemmas.{meets_step}
+use Rattle.myria_top.specs.OutputText.{output_text}
+use Rattle.myria_top.specs.Reading.{Agrees}
+use Rattle.myria_top.specs.Verdicts.{Verdict, and_then, passes}
+use Rattle.myria_top.proofs.RunLemmas.{typed_runs, typing_refuses}
 use Rattle.myria_top.proofs.run.text_of_run.Goals as goal
 
-pub evaluate-requires-clause-runs : goal.evaluate-requires-clause-runs
-evaluate-requires-clause-runs c = runs-built (trees_of c.args.script.now) c.requires
+pub returns-in-Ok-clause-agrees : goal.returns-in-Ok-clause-agrees
+returns-in-Ok-clause-agrees c =
+    subst (λ (v : Verdict (List File)). Agrees (and_then v (λ stored. passes (output_text stored))) c.text_of_typed.result)
+    (sym (typed_runs (trees_of c.args.script.now) c.args.files.now _ _ c.in-Ok.ensures.checked)) c.text_of_typed.ensures.agrees
 
-pub returns-in-Ok-of_stored-clause-agrees : goal.returns-in-Ok-of_stored-clause-agrees
-returns-in-Ok-of_stored-clause-agrees c =
-    meets_step _ _ (run_prints (trees_of c.args.script.now) c.args.files.now c.in-Ok.stored c.in-Ok-of_stored.text
-    (sym c.types_fit.ensures ∙ c.if-not-types_fit.false) (sym c.in-Ok-true.ensures ∙ c.in-Ok-true.field-0-test) c.in-Ok.ensures.no_fault c.in-Ok.ensures.stored c.in-Ok-of_stored.ensures)
+pub returns-in-Err-clause-agrees : goal.returns-in-Err-clause-agrees
+returns-in-Err-clause-agrees c =
+    typing_refuses (trees_of c.args.script.now) c.args.files.now c.in-Err.fault c.from.result c.from.ensures c.in-Err.ensures.fault

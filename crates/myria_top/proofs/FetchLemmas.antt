@@ -1,0 +1,87 @@
+-- The keys of the files that a script needs stand once.
+use Rattle.std.proofs.Common.{◌≡◌, ℕ, zero, suc, ◌<◌, Bool, true, false, not, ◌||◌, List, [], ◌∷◌, ◌++◌, get_or, length, map, filter, take, drop, refl, sym, ◌∙◌, ap, subst, arith}
+use Rattle.std.specs.Prelude.{AllPairs, Any}
+use Rattle.std.specs.List.{list_any}
+use Rattle.std.proofs.Math.Seq.{drop-cons}
+use Rattle.std.proofs.lemmas.Bool.{false_from_ne_true}
+use Rattle.std.proofs.lemmas.List.{append_assoc, append-nil, get_or-take, get_or_read, length-map, length-take, take-append-drop}
+use Rattle.std.proofs.lemmas.List.Folds.{Any-from_list_any}
+use Rattle.rel_base.specs.Keys.{File, same_key, holds_key}
+use Rattle.rel_base.specs.declared.names.Key.{Key}
+use Rattle.myrial_ast.specs.Trees.{StatementTree}
+use Rattle.myrial_meaning.specs.declared.needed_files.Fetch.{Fetch}
+use Rattle.myrial_meaning.specs.Fetches.{each_once, fetched_keys, fetches, form_in, has_key, needed_from}
+use Rattle.myrial_meaning.proofs.FetchLemmas.{distinct-push, each_once-push}
+
+-- what stands before a place, at it, and behind it
+pub split_at : {X : Type 0} (xs : List X) (i : ℕ) (x : X) → i < length xs → x ≡ get_or xs i x → xs ≡ take i xs ++ x ∷ drop (suc i) xs
+split_at xs i x h is =
+    sym (take-append-drop i xs) ∙ ap (λ ys. take i xs ++ ys) (drop-cons xs i x h ∙ ap (λ y. y ∷ drop (suc i) xs) (sym is))
+
+-- a test of the keys of files is one of the keys
+list_any-keys : (p : Key → Bool) (files : List File) → list_any (λ (file : File). p file.0) files ≡ list_any p (map (λ (file : File). file.0) files)
+list_any-keys p [] = refl
+list_any-keys p (file ∷ files) = ap (λ b. p file.0 || b) (list_any-keys p files)
+
+list_any-fetched : (p : Key → Bool) (fetches : List Fetch) → list_any p (map (λ (f : Fetch). f.key) fetches) ≡ list_any (λ (f : Fetch). p f.key) fetches
+list_any-fetched p [] = refl
+list_any-fetched p (f ∷ fetches) = ap (λ b. p f.key || b) (list_any-fetched p fetches)
+
+-- a key of distinct ones isn't among those before it
+earlier_keys_differ : (fetches : List Fetch) (i : ℕ) (fetch : Fetch) → AllPairs (λ f g. same_key f.key g.key ≡ false) fetches → i < length fetches → fetch ≡ get_or fetches i fetch
+    → list_any (λ (f : Fetch). same_key f.key fetch.key) (take i fetches) ≡ true → ⊥
+earlier_keys_differ fetches i fetch distinct h is found =
+    let any : Any (λ (f : Fetch). same_key f.key fetch.key ≡ true) (take i fetches) = Any-from_list_any (λ (f : Fetch). same_key f.key fetch.key) (take i fetches) found in
+    let size = length-take i fetches in
+    let shorter : any.0 < length (take i fetches) = any.2 in
+    let before : any.0 < i = omega arith in
+    let first : get_or fetches any.0 any.1 ≡ any.1 = sym (get_or-take i fetches any.0 any.1 before) ∙ any.3 in
+    let second : fetch ≡ get_or fetches i any.1 = get_or_read fetches i fetch h is any.1 in
+    let apart : same_key (get_or fetches any.0 any.1).key (get_or fetches i any.1).key ≡ false = distinct any.0 i any.1 before h in
+    let alike : same_key any.1.key fetch.key ≡ false =
+    subst (λ (f : Fetch). same_key f.key fetch.key ≡ false) first (subst (λ (g : Fetch). same_key (get_or fetches any.0 any.1).key g.key ≡ false) (sym second) apart) in
+    cc any.4
+
+pub new_key : (fetches : List Fetch) (i : ℕ) (fetch : Fetch) (files : List File) → AllPairs (λ f g. same_key f.key g.key ≡ false) fetches → i < length fetches → fetch ≡ get_or fetches i fetch
+    → map (λ (file : File). file.0) files ≡ map (λ (f : Fetch). f.key) (take i fetches) → holds_key files fetch.key ≡ false
+new_key fetches i fetch files distinct h is read =
+    false_from_ne_true (holds_key files fetch.key) (λ found.
+    earlier_keys_differ fetches i fetch distinct h is
+    (sym (list_any-fetched (λ j. same_key j fetch.key) (take i fetches))
+    ∙ (subst (λ ks. list_any (λ j. same_key j fetch.key) ks ≡ true) read (sym (list_any-keys (λ j. same_key j fetch.key) files) ∙ found))))
+
+-- ---- each key where it stands first
+
+abbrev AreDistinct : List Key → Type 0
+AreDistinct = AllPairs (λ j k. same_key j k ≡ false)
+
+one_more : (keys : List Key) (k : Key) → AreDistinct (each_once keys) → AreDistinct (each_once (keys ++ k ∷ []))
+one_more keys k distinct = subst AreDistinct (sym (each_once-push keys k)) (by (has_key (each_once keys) k) refl)
+  where
+    by : (there : Bool) → has_key (each_once keys) k ≡ there → AreDistinct (each_once keys ++ filter (λ key. not (has_key (each_once keys) key)) (k ∷ []))
+    by true e = rw e (subst AreDistinct (sym (append-nil (each_once keys))) distinct)
+    by false e = rw e (distinct-push (each_once keys) k distinct e)
+
+all_more : (keys others : List Key) → AreDistinct (each_once keys) → AreDistinct (each_once (keys ++ others))
+all_more keys [] distinct = subst (λ ks. AreDistinct (each_once ks)) (sym (append-nil keys)) distinct
+all_more keys (k ∷ others) distinct =
+    subst (λ ks. AreDistinct (each_once ks)) (append_assoc keys (k ∷ []) others) (all_more (keys ++ k ∷ []) others (one_more keys k distinct))
+
+each_once-distinct : (keys : List Key) → AreDistinct (each_once keys)
+each_once-distinct keys = all_more [] keys (λ i j d low within. absurd (omega arith))
+
+-- a fetch of each key
+module _ (script : List StatementTree) where
+  abbrev fetch_of : Key → Fetch
+  fetch_of key = record { key = key; form = form_in script key }
+
+  key_at : (keys : List Key) (i : ℕ) (d : Fetch) → i < length keys → (get_or (map fetch_of keys) i d).key ≡ get_or keys i d.key
+  key_at [] i d low = absurd (omega arith)
+  key_at (k ∷ keys) zero d low = refl
+  key_at (k ∷ keys) (suc i) d low = key_at keys i d (omega (arith, low))
+
+  pub fetches-distinct : AllPairs (λ f g. same_key f.key g.key ≡ false) (fetches script)
+  fetches-distinct i j d low within =
+      let keys = fetched_keys script in
+      let size : length (map fetch_of keys) ≡ length keys = length-map keys fetch_of in
+      rw (key_at keys i d (omega arith), key_at keys j d (omega arith)) (each_once-distinct (needed_from [] script) i j d.key low (omega arith))
