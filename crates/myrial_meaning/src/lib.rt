@@ -20,7 +20,6 @@ mod checking;
 mod combined_rows;
 mod comprehensions;
 mod environment;
-mod equijoins;
 mod evaluating;
 mod holding;
 mod items;
@@ -29,6 +28,7 @@ mod list_faults;
 mod loops;
 mod needed;
 mod needed_files;
+mod rules;
 mod stages;
 mod statements;
 
