@@ -94,7 +94,7 @@ fn leave_item(widths: &[u32], item: usize, columns: &[u32]) -> bool
 }
 
 /// Whether some column is of another item than the first.
-fn joins_items(widths: &[u32], columns: &[u32]) -> bool
+pub fn joins_items(widths: &[u32], columns: &[u32]) -> bool
     ensures { result ≡ joins_items widths.now columns.now }
 {
     match columns {

@@ -20,7 +20,7 @@ fn type_of(value: &Value) -> ColType
 }
 
 /// Whether this type was found.
-pub(crate) fn is_kind(kind: ColType, found: Option<ColType>) -> bool
+pub fn is_kind(kind: ColType, found: Option<ColType>) -> bool
     ensures { result ≡ is_kind kind found }
 {
     match found {
@@ -35,7 +35,7 @@ pub(crate) fn is_kind(kind: ColType, found: Option<ColType>) -> bool
 }
 
 /// This type, where both operands have that one.
-fn where_both(
+pub fn where_both(
     given: ColType,
     wanted: ColType,
     left: Option<ColType>,
@@ -51,7 +51,7 @@ fn where_both(
 }
 
 /// The type of what an operator makes of operands of these types.
-fn kind_of_op(op: BinOp, left: Option<ColType>, right: Option<ColType>) -> Option<ColType>
+pub fn kind_of_op(op: BinOp, left: Option<ColType>, right: Option<ColType>) -> Option<ColType>
     ensures { result ≡ kind_of_op op left right }
 {
     match op {
@@ -87,7 +87,7 @@ pub fn kind_in(kinds: &[ColType], scalar: &Scalar) -> Option<ColType>
 }
 
 /// Whether no part of a scalar computes a number.
-fn is_plain(scalar: &Scalar) -> bool
+pub fn is_plain(scalar: &Scalar) -> bool
     ensures { result ≡ is_plain (scalar_tree_of scalar.now) }
 {
     match scalar {

@@ -23,8 +23,9 @@ mod settings;
 mod shapes;
 mod terms;
 
+pub use conditions::joins_items;
 pub use joins::{JoinFault, Listed, LocalJoin};
-pub use kinds::kind_in;
+pub use kinds::{is_kind, is_plain, kind_in, kind_of_op, where_both};
 pub use laws::{
     needed_by_rule, needed_is_needed, shape_faults_the_same, shape_keeps_the_same,
     shape_lists_the_same,

@@ -1,4 +1,3 @@
 -- The words of this crate, lowest first.
 pub mod WordTables
 pub mod Words
-pub mod SortKeys

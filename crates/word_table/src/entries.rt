@@ -17,7 +17,7 @@ pub(crate) struct Entry {
 
 impl Model for Entry {
     ghost use Rattle.std.specs.Prelude.{List, ℕ};
-    ghost use Rattle.word_table.specs.SortKeys.{IsKeyOf};
+    ghost use Rattle.rel_base.specs.SortKeys.{IsKeyOf};
 
     ghost Value = { List ℕ };
 

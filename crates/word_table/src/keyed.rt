@@ -3,9 +3,9 @@ ghost use Rattle.std.specs.Prelude.{◌≡◌};
 ghost use Rattle.std.specs.Ordering.{eq_by_cmp, as_partial_cmp};
 ghost use Rattle.std.specs.Cmp.{eq_by_cmp_equiv, partial_equiv_from_equiv, partial_order_from_total};
 ghost use Rattle.std.specs.Cmp.Lexicographic.{nat_list_cmp_total};
-ghost use Rattle.word_table.specs.SortKeys.{IsKeyOf};
+ghost use Rattle.rel_base.specs.SortKeys.{IsKeyOf};
 
-use crate::keys::sort_key;
+use rel_base::sort_key;
 use std::cmp::Ordering;
 use std::marker::Model;
 
@@ -18,7 +18,7 @@ pub(crate) struct Keyed<'a> {
 
 impl<'a> Model for Keyed<'a> {
     ghost use Rattle.std.specs.Prelude.{List, ℕ};
-    ghost use Rattle.word_table.specs.SortKeys.{IsKeyOf};
+    ghost use Rattle.rel_base.specs.SortKeys.{IsKeyOf};
 
     ghost Value = { List ℕ };
 

@@ -15,7 +15,6 @@ mod dictionary;
 mod entries;
 mod gathering;
 mod keyed;
-mod keys;
 mod tables;
 #[cfg(test)]
 mod tests;

@@ -1,5 +1,5 @@
 use Rattle.std.proofs.Common.{◌≡◌, ◌%◌, sym, arith}
-use Rattle.word_table.proofs.SortKeyLemmas.{lesser_key, greater_key, even_key}
+use Rattle.rel_base.proofs.SortKeyLemmas.{lesser_key, greater_key, even_key}
 use Rattle.word_table.proofs.entries.Entry.compare.Goals as goal
 
 pub returns-then-self-key : goal.returns-then-self-key

@@ -1,5 +1,5 @@
 use Rattle.std.proofs.Common.{sym}
-use Rattle.word_table.proofs.SortKeyLemmas.{lesser_key, greater_key, even_key}
+use Rattle.rel_base.proofs.SortKeyLemmas.{lesser_key, greater_key, even_key}
 use Rattle.word_table.proofs.keyed.KeyedOrd.cmp.Goals as goal
 
 pub returns-then-self-other : goal.returns-then-self-other

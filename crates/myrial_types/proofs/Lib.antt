@@ -1,0 +1,11 @@
+mod FetchingLemmas
+mod NamesLemmas
+mod KindLemmas
+mod TypingLemmas
+mod TermLemmas
+mod RangeLemmas
+mod ClassesLemmas
+mod AssignLemmas
+mod ComprehensionLemmas
+mod CheckingLemmas
+mod WorkedRows

@@ -1,0 +1,4 @@
+-- Words of private functions.
+pub mod Leaders
+pub mod Terms
+pub mod Progress

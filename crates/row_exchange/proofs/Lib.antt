@@ -1,0 +1,8 @@
+-- Laws of what the crate promises.
+pub mod FillingLemmas
+pub mod ShippingLemmas
+pub mod ReceivingLemmas
+pub mod GatheringLemmas
+pub mod SumLemmas
+pub mod AssemblyLemmas
+pub mod MessageLemmas

@@ -1,0 +1,22 @@
+use Rattle.std.proofs.Common.{◌≡◌, ◌∙◌, ◌++◌, ◌∷◌, [], List, ℕ, sym, ap}
+use Rattle.exchange_channels.specs.declared.messages.Batch.{Batch}
+use Rattle.std.specs.Option.{option_to_list}
+use Rattle.std.proofs.lemmas.Result.{IfOk-weaker}
+use Rattle.row_exchange.specs.Routes.{Rows}
+use Rattle.row_exchange.specs.inner.Stations.{AreGathered}
+use Rattle.row_exchange.proofs.ReceivingLemmas.{nothing-gathered, gathered-step, all-gathered, nil-from_pop}
+use Rattle.row_exchange.proofs.receiving.gather.Goals as goal
+
+pub loop-batch-init : goal.loop-batch-init
+loop-batch-init c = nothing-gathered c.args.atoms c.args.drained c.in_ok-gathered.gathered.items c.in_ok-gathered.ensures
+
+pub loop-batch-preserved : goal.loop-batch-preserved
+loop-batch-preserved c =
+    gathered-step c.args.atoms c.args.drained c.loop-batch.drained c.pop.new.self (c.in-Some.field-0-0, c.in-Some.batch) c.loop-batch.gathered.items c.add.new.gathered.items
+    c.in-Some.ensures.items c.in_ok-add.ensures c.loop-batch.invariant
+
+pub returns : goal.returns
+returns c =
+    let left : c.loop-batch.drained ≡ [] = nil-from_pop c.loop-batch.drained c.pop.result c.in_default.is c.pop.ensures.some in
+    IfOk-weaker c.into_parts.result (λ parts. parts ≡ c.loop-batch.gathered.items) (AreGathered c.args.atoms c.args.drained)
+    (λ parts e. all-gathered c.args.atoms c.args.drained c.loop-batch.drained c.loop-batch.gathered.items parts left e c.loop-batch.invariant) c.into_parts.ensures

@@ -1,0 +1,4 @@
+-- Words of private functions.
+pub mod Shipments
+pub mod Stations
+pub mod Gatherings
