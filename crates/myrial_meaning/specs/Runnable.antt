@@ -1,27 +1,17 @@
 -- Which scripts the evaluator runs, and when a script has a meaning.
 --
---   runs script                  it has no `unionall`
+--   runs script                  it is any script
 --   has_meaning files script     each relation expression stands for a relation, and each stored name is assigned
-use Rattle.std.specs.Prelude.{Bool, true, false, ◌&&◌, List, [], ◌∷◌, Option, Some, None, is_some}
-use Rattle.std.specs.List.{list_all}
+use Rattle.std.specs.Prelude.{Bool, true, ◌&&◌, List, [], ◌∷◌, is_some}
 use Rattle.rel_base.specs.Keys.{File}
-use Rattle.myrial_ast.specs.Trees.{RelTree, StatementTree}
+use Rattle.myrial_ast.specs.Trees.{StatementTree}
 use Rattle.myrial_ast.specs.Trees as tree
 use Rattle.myrial_meaning.specs.Environments.{nothing_yet, assigned_to}
 use Rattle.myrial_meaning.specs.Meaning.{RelationEnvironment, relation_of, after}
 
--- whether the evaluator runs such a relation expression
-abbrev pub runs_relation : RelTree → Bool
-runs_relation (tree.UnionAll o p) = false
-runs_relation _ = true
-
-abbrev pub runs_statement : StatementTree → Bool
-runs_statement (tree.Assign name r) = runs_relation r
-runs_statement _ = true
-
--- whether the evaluator runs the script
+-- whether the evaluator runs the script: it runs every one
 abbrev pub runs : List StatementTree → Bool
-runs script = list_all runs_statement script
+runs script = true
 
 -- whether a statement stands for something
 abbrev pub is_defined : List File → RelationEnvironment → StatementTree → Bool

@@ -61,7 +61,7 @@ loop-i-preserved c =
     ]
 
 pub loop-i-init : goal.loop-i-init
-loop-i-init c = rw c.new-names.ensures (bag-start c.args.files.now (trees_of c.args.script.now) c.requires)
+loop-i-init c = rw c.new-names.ensures (bag-start c.args.files.now (trees_of c.args.script.now) c.requires.meaning)
 
 pub into_stored-requires : goal.into_stored-requires
 into_stored-requires c =
