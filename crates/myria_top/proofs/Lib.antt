@@ -4,7 +4,6 @@ mod VerdictLemmas
 mod OutputLemmas
 mod OneAnswerLemmas
 mod ScriptLemmas
-mod FormLemmas
 mod ScanLemmas
 mod RunLemmas
 mod WorkedRows

@@ -202,7 +202,11 @@ fn loaded_from<'a>(files: &'a Files, name: &Text) -> Option<&'a Relation>
     ensures { option_copied result ≡ loaded_from files.entry.now name.now }
 {
     for file in files.as_slice() {
-        let Key { user, program, name: own } = &file.0;
+        let Key {
+            user,
+            program,
+            name: own,
+        } = &file.0;
         if user.as_str().is_empty() && program.as_str().is_empty() && *own == *name {
             return Some(&file.1);
         }

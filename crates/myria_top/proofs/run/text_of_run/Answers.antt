@@ -1,12 +1,8 @@
 use Rattle.std.proofs.Common.{◌∙◌, sym}
 use Rattle.myrial_ast.specs.Trees.{trees_of}
-use Rattle.myria_top.proofs.FormLemmas.{runs-built}
 use Rattle.myria_top.proofs.RunLemmas.{run_prints}
 use Rattle.myria_top.proofs.VerdictLemmas.{meets_step}
 use Rattle.myria_top.proofs.run.text_of_run.Goals as goal
-
-pub evaluate-requires-clause-runs : goal.evaluate-requires-clause-runs
-evaluate-requires-clause-runs c = runs-built (trees_of c.args.script.now) c.requires
 
 pub returns-in-Ok-of_stored-clause-agrees : goal.returns-in-Ok-of_stored-clause-agrees
 returns-in-Ok-of_stored-clause-agrees c =

@@ -23,49 +23,39 @@ use Rattle.myrial_meaning.specs.Meaning.{RelationEnvironment, ItemRelation, afte
 use Rattle.bag_laws.proofs.GroupPermutations.{result_rows-same}
 use Rattle.bag_laws.proofs.RowPermutations.{listed_rows-same, union_all-same, distinct-same, difference-same}
 use Rattle.bag_laws.specs.Permuted.{SameTables, a_table, no_table}
-use Rattle.myrial_laws.specs.Permuted.{SameFiles, SameTable, a_file, no_file}
+use Rattle.myrial_meaning.specs.Permuted.{SameFiles, SameTable, a_file, no_file, Alike, no_more, one_more, Matched, neither, both, SameEntry, SameEnvironment}
 
 -- ---- lists and options whose items are alike
-
--- item by item, alike
-data Alike {X : Type 0} (R : X → X → Type 0) : List X → List X → Type 0 where
-  no_more : Alike R [] []
-  one_more : (x y : X) (xs ys : List X) → R x y → Alike R xs ys → Alike R (x ∷ xs) (y ∷ ys)
-
--- nothing twice, or two that are alike
-data Matched {X : Type 0} (R : X → X → Type 0) : Option X → Option X → Type 0 where
-  neither : Matched R None None
-  both : (x y : X) → R x y → Matched R (Some x) (Some y)
 
 module _ {X : Type 0} (R : X → X → Type 0) where
   Alike-append : {xs ys us vs : List X} → Alike R xs ys → Alike R us vs → Alike R (xs ++ us) (ys ++ vs)
   Alike-append no_more others = others
   Alike-append (one_more x y xs ys same rest) others = one_more x y _ _ same (Alike-append rest others)
 
-  Alike-reverse : {xs ys : List X} → Alike R xs ys → Alike R (reverse xs) (reverse ys)
+  pub Alike-reverse : {xs ys : List X} → Alike R xs ys → Alike R (reverse xs) (reverse ys)
   Alike-reverse no_more = no_more
   Alike-reverse (one_more x y xs ys same rest) =
       rw (reverse-append (x ∷ []) xs, reverse-append (y ∷ []) ys)
       (Alike-append (Alike-reverse rest) (one_more x y [] [] same no_more))
 
   module _ {Y : Type 0} (S : Y → Y → Type 0) where
-    Matched-map : (f g : X → Y) → ((x y : X) → R x y → S (f x) (g y))
+    pub Matched-map : (f g : X → Y) → ((x y : X) → R x y → S (f x) (g y))
         → {a b : Option X} → Matched R a b → Matched S (option_map f a) (option_map g b)
     Matched-map f g step neither = neither
     Matched-map f g step (both x y same) = both (f x) (g y) (step x y same)
 
-    Matched-and_then : (f g : X → Option Y) → ((x y : X) → R x y → Matched S (f x) (g y))
+    pub Matched-and_then : (f g : X → Option Y) → ((x y : X) → R x y → Matched S (f x) (g y))
         → {a b : Option X} → Matched R a b → Matched S (option_and_then f a) (option_and_then g b)
     Matched-and_then f g step neither = neither
     Matched-and_then f g step (both x y same) = step x y same
 
-    Matched-map_or : (f g : X → Y) (d e : Y) → ((x y : X) → R x y → S (f x) (g y)) → S d e
+    pub Matched-map_or : (f g : X → Y) (d e : Y) → ((x y : X) → R x y → S (f x) (g y)) → S d e
         → {a b : Option X} → Matched R a b → S (option_map_or f a d) (option_map_or g b e)
     Matched-map_or f g d e step default neither = default
     Matched-map_or f g d e step default (both x y same) = step x y same
 
 -- what is made of each item
-Matched-each : {X Y : Type 0} (R : Y → Y → Type 0) (f g : X → Option Y) → ((x : X) → Matched R (f x) (g x))
+pub Matched-each : {X Y : Type 0} (R : Y → Y → Type 0) (f g : X → Option Y) → ((x : X) → Matched R (f x) (g x))
     → (xs : List X) → Matched (Alike R) (each_or_none f xs) (each_or_none g xs)
 Matched-each R f g step [] = both [] [] no_more
 Matched-each R f g step (x ∷ xs) =
@@ -77,17 +67,12 @@ Matched-each R f g step (x ∷ xs) =
 
 -- ---- relations under names and keys
 
--- one name or key, with one relation in another order
-record SameEntry {K : Type 0} (p q : K × RelationState) : Type 0 where
-  name : p.0 ≡ q.0
-  table : SameTable p.1 q.1
-
-entries-of_files : {files others : List File} → SameFiles files others → Alike (SameEntry {K = Key}) files others
+pub entries-of_files : {files others : List File} → SameFiles files others → Alike (SameEntry {K = Key}) files others
 entries-of_files no_file = no_more
 entries-of_files (a_file key t u files rest same others) =
     one_more (key, t) (key, u) files rest (record { name = refl; table = same }) (entries-of_files others)
 
-files-of_entries : {files others : List File} → Alike (SameEntry {K = Key}) files others → SameFiles files others
+pub files-of_entries : {files others : List File} → Alike (SameEntry {K = Key}) files others → SameFiles files others
 files-of_entries no_more = no_file
 files-of_entries (one_more p q files rest same others) =
     subst (λ (key : Key). SameFiles (p ∷ files) ((key, q.1) ∷ rest)) same.name
@@ -105,35 +90,30 @@ module _ {K : Type 0} (test : K → Bool) where
   found-first true p q ps qs same others = both p.1 q.1 same
   found-first false p q ps qs same others = others
 
-  found-same : {ps qs : List (K × RelationState)} → Alike SameEntry ps qs → Matched SameTable (found_in ps) (found_in qs)
+  pub found-same : {ps qs : List (K × RelationState)} → Alike SameEntry ps qs → Matched SameTable (found_in ps) (found_in qs)
   found-same no_more = neither
   found-same (one_more p q ps qs same others) =
       rw same.name (found-first (test q.0) (q.0, p.1) q ps qs same.table (found-same others))
 
--- the same names and keys, each with one relation in another order
-record SameEnvironment (there here : RelationEnvironment) : Type 0 where
-  assigned : Alike (SameEntry {K = Name}) there.assigned here.assigned
-  stored : Alike (SameEntry {K = Key}) there.stored here.stored
-
 -- ---- the items of a comprehension
 
 -- one alias, with one relation in another order
-record SameSource (s r : ItemRelation) : Type 0 where
-  alias : s.alias ≡ r.alias
-  table : SameTable s.table r.table
+pub record SameSource (s r : ItemRelation) : Type 0 where
+  pub alias : s.alias ≡ r.alias
+  pub table : SameTable s.table r.table
 
-items-same : {sources others : List ItemRelation} → Alike SameSource sources others → items_of sources ≡ items_of others
+pub items-same : {sources others : List ItemRelation} → Alike SameSource sources others → items_of sources ≡ items_of others
 items-same no_more = refl
 items-same (one_more s r sources others same rest) = let t = items-same rest in cc (same.table.schema)
 
-tables-same : {sources others : List ItemRelation} → Alike SameSource sources others → SameTables (tables_of sources) (tables_of others)
+pub tables-same : {sources others : List ItemRelation} → Alike SameSource sources others → SameTables (tables_of sources) (tables_of others)
 tables-same no_more = no_table
 tables-same (one_more s r sources others same rest) =
     a_table s.table.rows r.table.rows (tables_of sources) (tables_of others) same.table.rows (tables-same rest)
 
 -- ---- what relation expressions, statements and scripts stand for
 
-comprehension-same : {sources others : List ItemRelation} → Alike SameSource sources others → (condition : Option Tree) (emits : List EmitTree)
+pub comprehension-same : {sources others : List ItemRelation} → Alike SameSource sources others → (condition : Option Tree) (emits : List EmitTree)
     → Matched SameTable (comprehension_over sources condition emits) (comprehension_over others condition emits)
 comprehension-same {sources} {others} same condition emits =
     rw (items-same same) (by (resolved (scope_of (items_of others)) condition emits))
@@ -151,19 +131,19 @@ comprehension-same {sources} {others} same condition emits =
     })
 
 module _ (files others : List File) (there here : RelationEnvironment) (files-same : Alike (SameEntry {K = Key}) files others) (same : SameEnvironment there here) where
-  operand-same : (o : Operand) → Matched SameTable (operand_of files there o) (operand_of others here o)
+  pub operand-same : (o : Operand) → Matched SameTable (operand_of files there o) (operand_of others here o)
   operand-same (operand.Named name) = found-same (λ n. same_name n name) same.assigned
   operand-same (operand.Scan key) = found-same (λ k. same_key k key) (Alike-append SameEntry same.stored files-same)
   operand-same (operand.Load name schema skip) = found-same (is_load_key name) files-same
 
-  source-same : (item : FromItem) → Matched SameSource (item_relation files there item) (item_relation others here item)
+  pub source-same : (item : FromItem) → Matched SameSource (item_relation files there item) (item_relation others here item)
   source-same item =
       Matched-map SameTable SameSource
       (λ table. record { alias = item.alias; table = table }) (λ table. record { alias = item.alias; table = table })
       (λ t u tables. record { alias = refl; table = tables })
       (operand-same item.source)
 
-  of_one-same : (f : Rows → Rows) → ((a b : Rows) → SameBag a b → SameBag (f a) (f b)) → (o : Operand)
+  pub of_one-same : (f : Rows → Rows) → ((a b : Rows) → SameBag a b → SameBag (f a) (f b)) → (o : Operand)
       → Matched SameTable (of_one f (operand_of files there o)) (of_one f (operand_of others here o))
   of_one-same f step o =
       Matched-map SameTable SameTable
@@ -171,7 +151,7 @@ module _ (files others : List File) (there here : RelationEnvironment) (files-sa
       (λ t u tables. record { schema = tables.schema; rows = step t.rows u.rows tables.rows })
       (operand-same o)
 
-  of_two-same : (f : Rows → Rows → Rows) → ((a b x y : Rows) → SameBag a b → SameBag x y → SameBag (f a x) (f b y)) → (o p : Operand)
+  pub of_two-same : (f : Rows → Rows → Rows) → ((a b x y : Rows) → SameBag a b → SameBag x y → SameBag (f a x) (f b y)) → (o p : Operand)
       → Matched SameTable (of_two f (operand_of files there o) (operand_of files there p)) (of_two f (operand_of others here o) (operand_of others here p))
   of_two-same f step o p =
       Matched-and_then SameTable SameTable
@@ -183,7 +163,7 @@ module _ (files others : List File) (there here : RelationEnvironment) (files-sa
       (operand-same p))
       (operand-same o)
 
-  relation-same : (r : RelTree) → Matched SameTable (relation_of files there r) (relation_of others here r)
+  pub relation-same : (r : RelTree) → Matched SameTable (relation_of files there r) (relation_of others here r)
   relation-same (tree.Copy o) = operand-same o
   relation-same (tree.Empty schema) = both _ _ (record { schema = refl; rows = IsPermutation-refl [] })
   relation-same (tree.Distinct o) = of_one-same distinct distinct-same o
@@ -195,7 +175,7 @@ module _ (files others : List File) (there here : RelationEnvironment) (files-sa
       (λ sources rest alike. comprehension-same alike condition emits)
       (Matched-each SameSource (item_relation files there) (item_relation others here) source-same items)
 
-  after-same : (s : StatementTree) → SameEnvironment (after files there s) (after others here s)
+  pub after-same : (s : StatementTree) → SameEnvironment (after files there s) (after others here s)
   after-same tree.Nothing = same
   after-same (tree.Assign name r) =
       Matched-map_or SameTable SameEnvironment (with_name there name) (with_name here name) there here
