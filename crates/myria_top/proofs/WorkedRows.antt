@@ -19,7 +19,6 @@ use Rattle.myrial_ast.specs.Trees.{Name, Tree, StatementTree, Nothing, Assign, S
 use Rattle.myrial_lexer.specs.declared.faults.LexWhat.TheVariants as lexical
 use Rattle.myrial_parser.specs.declared.faults.What.TheVariants as many
 use Rattle.myria_top.specs.declared.outcomes.Outcome.TheVariants as outcome
-use Rattle.myria_top.specs.declared.outcomes.Part.TheVariants as part
 use Rattle.myria_top.specs.Outcomes.{line_of}
 use Rattle.myria_top.specs.Reading.{HasFetchCause}
 use Rattle.myria_top.specs.Verdicts.{passes, refused}
@@ -98,11 +97,11 @@ pub printed-bad_file_of_a_join : printed_verdict (shelf_of (codes "public:adhoc:
 unfolding files_on_literals
 printed-bad_file_of_a_join = refl
 
--- ---- what isn't built yet
+-- ---- other statements
 
--- A = distinct(scan(R)); store(B, Out); -- typing comes before what isn't built
+-- A = distinct(scan(R)); store(A, Out);
 pub printed-distinct : printed_verdict edges (Assign (codes "A") (Distinct (operand.Scan (adhoc (codes "R")))) ∷ Store (codes "A") (adhoc (codes "Out")) ∷ [])
-    ≡ refused (outcome.NotBuilt part.Script)
+    ≡ passes (codes "-- store public:adhoc:Out 3 rows\nx:int,y:int\n1,2\n2,3\n3,1\n")
 unfolding files_on_literals
 printed-distinct = refl
 

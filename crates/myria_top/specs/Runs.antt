@@ -5,7 +5,7 @@
 --   run_verdict script files           what the script comes to over its files: the stored relations
 --   printed_verdict content script     what it comes to: the text that is printed
 --   ComesTo words content step         what the words and the files come to
-use Rattle.std.specs.Prelude.{◌≡◌, ℕ, ◌&&◌, if◌then◌else◌, List, [], ◌∷◌, ◌++◌, fold, Contains, Option, Some, None, Result, Ok, Err}
+use Rattle.std.specs.Prelude.{◌≡◌, ℕ, if◌then◌else◌, List, [], ◌∷◌, ◌++◌, fold, Contains, Option, Some, None, Result, Ok, Err}
 use Rattle.std.specs.Option.{option_map_or}
 use Rattle.rel_base.specs.Keys.{File}
 use Rattle.rel_base.specs.Limits.{most_relation_bytes}
@@ -22,7 +22,7 @@ use Rattle.myrial_ast.specs.CandidateFaults.{Uncounted}
 use Rattle.myrial_meaning.specs.declared.needed_files.Fetch.{Fetch}
 use Rattle.myrial_meaning.specs.Faults.{run_fault}
 use Rattle.myrial_meaning.specs.Meaning.{stored_relations}
-use Rattle.myrial_meaning.specs.Runnable.{runs, has_meaning}
+use Rattle.myrial_meaning.specs.Runnable.{has_meaning}
 use Rattle.myrial_meaning.specs.Fetches.{fetches}
 use Rattle.myrial_types.specs.declared.faults.TypeFault.{TypeFault}
 use Rattle.myrial_types.specs.declared.faults.TypeFault.TheVariants as typing
@@ -88,10 +88,10 @@ abbrev pub if_typed : {X Y : Type 0} → Result X TypeFault → Verdict Y → Ve
 if_typed (Ok checked) then_verdict = then_verdict
 if_typed (Err why) then_verdict = refused (typing_answer why)
 
--- what a typed script comes to over its files: the evaluator has to run it, and its run has no fault
+-- what a typed script comes to over its files: it has a meaning, and its run has no fault
 abbrev pub typed_verdict : List StatementTree → List File → Verdict (List File)
 typed_verdict script files =
-    if runs script && has_meaning files script
+    if has_meaning files script
     then option_map_or (λ found. refused (run_answer found)) (run_fault Uncounted files script) (passes (stored_relations files script))
     else refused (outcome.NotBuilt part.Script)
 

@@ -13,7 +13,7 @@ use relation_csv::RelFault;
 pub enum Part {
     /// The words of the command line.
     Words,
-    /// The script: a statement that isn't evaluated yet.
+    /// The script: it is typed and has no meaning.
     Script,
 }
 

@@ -17,7 +17,7 @@ use crate::pieces::Pieces;
 use crate::reading::{read_files, read_script, script_name};
 use crate::{Outcome, Part};
 use myrial_ast::Script;
-use myrial_meaning::{evaluate, has_meaning, runs};
+use myrial_meaning::{evaluate, has_meaning};
 use myrial_types::{check, fetches};
 use rel_base::{Files, TAPS, Text};
 use rel_io::{Shelf, Sink, SinkFault, Tap};
@@ -141,9 +141,6 @@ fn text_of_typed(alloc: Global, script: &Script, files: &Files) -> Result<Pieces
         result }
     ensures kind { IfErr result IsOfTexts }
 {
-    if !runs(script) {
-        return Err(Outcome::NotBuilt { part: Part::Script });
-    }
     match has_meaning(alloc, script, files) {
         Ok(true) => {}
         Ok(false) => return Err(Outcome::NotBuilt { part: Part::Script }),

@@ -1,2 +1,1 @@
 -- Proofs of the laws.
-mod MeaningPermutations

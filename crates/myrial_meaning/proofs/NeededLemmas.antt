@@ -1,10 +1,10 @@
 -- Which statements are needed, statement by statement.
 use Rattle.std.proofs.Common.{◌≡◌, ℕ, zero, suc, ◌+◌, ◌<◌, Bool, List, [], ◌∷◌, length, get_or, drop, map, refl, ap}
 use Rattle.std.proofs.lemmas.List.{drop_more, drop-map}
-use Rattle.std.proofs.Common.{true, false, not, ◌&&◌, ◌||◌, ◌++◌}
+use Rattle.std.proofs.Common.{true, false, not, ◌&&◌, ◌||◌, ◌++◌, arith}
 use Rattle.std.proofs.lemmas.List.Elements.{All-nil, All-cons, All-head, All-tail}
 use Rattle.std.specs.Prelude.{◌↔◌, All, IsTrue}
-use Rattle.std.specs.List.{list_any}
+use Rattle.std.specs.List.{list_any, list_all}
 use Rattle.rel_base.specs.declared.names.Key.{Key}
 use Rattle.myrial_ast.specs.Trees as tree
 use Rattle.myrial_scopes.specs.Scopes.{same_name}
@@ -138,3 +138,18 @@ from-test (tree.Assign name r) rest h = by-member name r rest (member-of name re
 -- the test tells what the rule says
 pub needed_by_rule : (s : StatementTree) (rest : List StatementTree) → IsNeeded s rest ↔ IsTrue (is_needed s rest)
 needed_by_rule s rest = (to-test s rest, from-test s rest)
+
+-- a test that passes on all trees passes on each
+pub passes-at : {X Y : Type 0} (test : Y → Bool) (f : X → Y) (xs : List X) (i : ℕ) (x : X) → list_all test (map f xs) ≡ true
+    → i < length xs → x ≡ get_or xs i x → test (f x) ≡ true
+passes-at test f [] i x h low at = absurd (omega arith)
+passes-at test f (y ∷ ys) zero x h low at = rw at (first (test (f y)) h)
+  where
+    first : (b : Bool) → (b && list_all test (map f ys)) ≡ true → b ≡ true
+    first true e = refl
+    first false e = e
+passes-at test f (y ∷ ys) (suc i) x h low at = passes-at test f ys i x (others (test (f y)) h) (omega arith) at
+  where
+    others : (b : Bool) → (b && list_all test (map f ys)) ≡ true → list_all test (map f ys) ≡ true
+    others true e = e
+    others false e = cc

@@ -1,5 +1,5 @@
 -- How far the evaluation of a script has come.
-use Rattle.std.proofs.Common.{◌≡◌, ◌∙◌, ℕ, suc, ◌+◌, ◌<◌, true, false, cond, Option, Some, None, List, [], ◌∷◌, length, reverse, fold, is_some, refl, sym, ap, arith, add-one}
+use Rattle.std.proofs.Common.{◌≡◌, ◌∙◌, ℕ, suc, ◌+◌, ◌<◌, true, false, cond, Option, Some, None, List, [], ◌∷◌, length, reverse, fold, is_some, map, refl, sym, ap, subst, arith, add-one}
 use Rattle.std.specs.Option.{option_map_or}
 use Rattle.rel_base.specs.Keys.{File}
 use Rattle.rel_base.specs.Relations.{RelationState}
@@ -14,6 +14,10 @@ use Rattle.myrial_meaning.specs.Needed.{is_needed}
 use Rattle.myrial_meaning.specs.Faults.{fault_from, run_fault, statement_fault}
 use Rattle.myrial_meaning.specs.Runnable.{all_defined, has_meaning, is_defined}
 use Rattle.myrial_meaning.specs.Evaluating.{IsFault}
+use Rattle.myrial_meaning.specs.SortedFiles.{sorted_file}
+use Rattle.myrial_meaning.specs.Permuted.{SameEntry, SameEnvironment}
+use Rattle.myrial_meaning.proofs.MeaningPermutations.{Alike-reverse, after-same}
+use Rattle.myrial_meaning.proofs.FaultPermutations.{SameEnvironment-itself, SameEnvironment-trans, entries-itself, entries-long, files-sorted, statement_fault-permuted}
 use Rattle.myrial_meaning.proofs.AgreementLemmas.{Agrees, after-assign, after-nothing, after-store, after-unneeded, mentioned, relation_fault-agrees}
 use Rattle.myrial_meaning.proofs.BoolLemmas.{and-first, and-second}
 
@@ -150,3 +154,48 @@ module _ (files : List File) (script : List StatementTree) where
   stage-fault s rest number here (fault.Overflow n) needed is stage = fault-some s rest number here (fault.Overflow n) needed is stage
   stage-fault s rest number here (fault.AggregateOverflow n) needed is stage = fault-some s rest number here (fault.AggregateOverflow n) needed is stage
   stage-fault s rest number here fault.Memory needed is stage = tt
+
+-- the same, where the evaluator's relations have their rows in another order
+pub record BagStage (files : List File) (script rest : List StatementTree) (number : ℕ) (here : RelationEnvironment) : Type 0 where
+  pub same_as : RelationEnvironment
+  pub same : SameEnvironment same_as here
+  pub stage : Stage files script rest number same_as
+
+module _ (files : List File) (script : List StatementTree) where
+  pub bag-start : has_meaning files script ≡ true → BagStage files script script 1 nothing_yet
+  bag-start meaningful = record { same_as = nothing_yet; same = SameEnvironment-itself nothing_yet; stage = stage-start files script meaningful }
+
+  pub bag-stored : (number : ℕ) (here : RelationEnvironment) → BagStage files script [] number here → map sorted_file (reverse here.stored) ≡ map sorted_file (stored_relations files script)
+  bag-stored number here b =
+      sym (files-sorted (Alike-reverse SameEntry b.same.stored)) ∙ ap (map sorted_file) (stored-end files script number b.same_as b.stage)
+
+  pub bag-few : (number : ℕ) (rest : List StatementTree) (here : RelationEnvironment) → BagStage files script rest number here → length here.stored < number
+  bag-few number rest here b = omega (arith, b.stage.few, entries-long b.same.stored)
+
+  pub bag-end : (number : ℕ) (here : RelationEnvironment) → BagStage files script [] number here → run_fault Uncounted files script ≡ None
+  bag-end number here b = fault-end files script number b.same_as b.stage
+
+  pub bag-skipped : (s : StatementTree) (rest : List StatementTree) (number : ℕ) (here : RelationEnvironment) → is_needed s rest ≡ false
+      → BagStage files script (s ∷ rest) number here → BagStage files script rest (number + 1) here
+  bag-skipped s rest number here unneeded b =
+      record { same_as = b.same_as; same = b.same; stage = stage-skipped files script s rest number b.same_as unneeded b.stage }
+
+  -- what a statement without a fault leaves
+  pub bag-run : (s : StatementTree) (rest : List StatementTree) (number : ℕ) (here new : RelationEnvironment) → is_needed s rest ≡ true
+      → statement_fault Uncounted number files here s ≡ None → SameEnvironment (after files here s) new
+      → BagStage files script (s ∷ rest) number here → BagStage files script rest (number + 1) new
+  bag-run s rest number here new needed faultless made b = record {
+    same_as = after files b.same_as s;
+    same =
+        SameEnvironment-trans (after files b.same_as s) (after files here s) new
+        (after-same files files b.same_as here (entries-itself files) b.same s) made;
+    stage =
+        stage-run files script s rest number b.same_as needed
+        (statement_fault-permuted files (entries-itself files) b.same_as here b.same number s ∙ faultless) b.stage;
+  }
+
+  pub bag-fault : (s : StatementTree) (rest : List StatementTree) (number : ℕ) (here : RelationEnvironment) (f : RunFault) → is_needed s rest ≡ true
+      → IsFault f (statement_fault Uncounted number files here s) → BagStage files script (s ∷ rest) number here → IsFault f (run_fault Uncounted files script)
+  bag-fault s rest number here f needed is b =
+      stage-fault files script s rest number b.same_as f needed
+      (subst (IsFault f) (sym (statement_fault-permuted files (entries-itself files) b.same_as here b.same number s)) is) b.stage

@@ -1,22 +1,33 @@
--- The rows that the nested loops list have the types of the emitted columns.
-use Rattle.std.proofs.Common.{◌≡◌, ◌∙◌, ℕ, zero, suc, ◌+◌, Bool, true, false, cond, List, [], ◌∷◌, ◌++◌, map, get_or, refl, sym, ap}
-use Rattle.std.proofs.lemmas.List.{append-nil, append_assoc, map-append}
-use Rattle.std.proofs.lemmas.List.Elements.{All-nil, All-cons, All-head, All-tail, All-append}
-use Rattle.std.specs.Prelude.{All}
-use Rattle.std.specs.List.{flat_map, enumerate_from}
+-- The rows of a comprehension have the types of the emitted columns.
+use Rattle.std.proofs.Common.{◌≡◌, ◌∙◌, ℕ, zero, suc, ◌+◌, ◌<◌, Bool, true, false, not, cond, Option, Some, None, option_map, List, [], ◌∷◌, ◌++◌, length, map, filter, get_or, refl, sym, ap, subst, arith}
+use Rattle.std.proofs.lemmas.List.{append-nil, map-append, length-map}
+use Rattle.std.proofs.lemmas.List.Elements.{All-nil, All-cons, All-head, All-tail, All-append, All-map, All-filter, All-weaker}
+use Rattle.std.specs.Prelude.{All, fold, unwrap_or}
+use Rattle.std.specs.List.{flat_map, enumerate_from, range_with_len}
+use Rattle.std.specs.Ordering.{is_lt, is_gt}
+use Rattle.rel_base.specs.Each.{each_or_none, put_before}
+use Rattle.rel_base.specs.declared.values.Value.{Value}
+use Rattle.rel_base.specs.declared.values.Value.TheVariants as value
+use Rattle.rel_base.specs.Values.{value_order}
 use Rattle.rel_base.specs.declared.relations.Column.{Column}
 use Rattle.rel_base.specs.declared.values.ColType.{ColType}
 use Rattle.rel_base.specs.declared.values.ColType.TheVariants as kind
 use Rattle.rel_base.specs.Relations.{HasTypes, fits_schema, same_type, type_of}
-use Rattle.myrial_ast.specs.Trees.{Name}
-use Rattle.myrial_ast.specs.Scalars.{At, value_at}
-use Rattle.myrial_scopes.specs.Scopes.{ItemSchema, ScopeColumn, column_at, columns_of, scope_of, scoped}
-use Rattle.myrial_meaning.specs.declared.equijoins.Equijoin.{Equijoin}
+use Rattle.myrial_ast.specs.declared.operators.AggOp.{AggOp}
+use Rattle.myrial_ast.specs.declared.operators.AggOp.TheVariants as agg
+use Rattle.myrial_ast.specs.declared.operators.BinOp.TheVariants as op
+use Rattle.myrial_ast.specs.Trees.{Name, Tree, EmitTree}
+use Rattle.myrial_ast.specs.Trees as tree
+use Rattle.myrial_ast.specs.Scalars.{Scalar, Lit, At, Not, Neg, Bin, exact_value, value_at}
+use Rattle.myrial_ast.specs.Bags.{same_row, distinct}
+use Rattle.myrial_ast.specs.Combinations.{Row, Rows, all_hold, candidates, combinations, combined_row, combined_rows, emitted, listed_from}
+use Rattle.myrial_ast.specs.Groups.{Kinds, has_aggregate, key_of, keys, members, lesser, greater, cell, group_row, groups, result_rows}
+use Rattle.bag_laws.proofs.ColumnLemmas.{behind, firsts, by_columns, group_row-columns}
+use Rattle.bag_laws.proofs.PartialLemmas.{itself, other}
+use Rattle.myrial_scopes.specs.Scopes.{ItemSchema, ScopeColumn, column_at, columns_of, kind_of, places_under, scalar_of, scope_of, scoped}
+use Rattle.myrial_scopes.specs.Emits.{Emit, emit_at, aggregate_kind, aggregated, emit_of_scalar, emit_of_tree, named, emits_of_item, emits_of, numbered_name, schema_of}
 use Rattle.myrial_meaning.specs.Meaning.{ItemRelation, items_of, schema_of_item, tables_of}
 use Rattle.myrial_meaning.specs.inner.ItemRows.{HasTypedRows}
-use Rattle.myrial_meaning.specs.inner.Equijoins.{comprehension_of}
-use Rattle.myrial_meaning.specs.inner.Listing.{listed_behind}
-use Rattle.myrial_ast.specs.Combinations.{Row, Rows, all_hold, emitted}
 use Rattle.myrial_meaning.proofs.BoolLemmas.{and-first, and-second}
 
 -- ---- rows of types
@@ -62,23 +73,6 @@ type-at : (kinds : List ColType) (row : Row) (place : ℕ) → types_of row ≡ 
 unfolding types_of
 type-at kinds row place e = sym (at-mapped type_of row place _) ∙ ap (λ kinds. get_or kinds place kind.Int) e
 
--- the types that stand at these places
-kinds_at : List ColType → List ℕ → List ColType
-kinds_at kinds places = map (λ place. get_or kinds place kind.Int) places
-
--- what is emitted on such a row has the types of the columns there
-emitted-typed : (kinds : List ColType) (row : Row) (schema : List Column) (places : List ℕ) → types_of row ≡ kinds
-    → map (λ (column : Column). column.kind) schema ≡ kinds_at kinds places → fits_schema schema (emitted (map At places) row) ≡ true
-unfolding kinds_at
-emitted-typed kinds row [] [] e k = refl
-emitted-typed kinds row [] (place ∷ places) e k = cc
-emitted-typed kinds row (column ∷ schema) [] e k = cc
-emitted-typed kinds row (column ∷ schema) (place ∷ places) e k =
-    let first : column.kind ≡ get_or kinds place kind.Int = cc in
-    let others : map (λ (column : Column). column.kind) schema ≡ map (λ place. get_or kinds place kind.Int) places = cc in
-    let same : type_of (value_at row place) ≡ column.kind = type-at kinds row place e ∙ sym first in
-    rw (same, same_type-itself column.kind) (emitted-typed kinds row schema places e others)
-
 -- ---- the rows of the loops
 
 -- the types of the items' columns
@@ -105,54 +99,315 @@ kind-at items place =
     sym (at-mapped (λ (c : ScopeColumn). c.kind) (scope_of (items_of items)) place _)
     ∙ ap (λ kinds. get_or kinds place kind.Int) (scope-kinds-from 0 items)
 
-kinds-at : (items : List ItemRelation) (places : List ℕ) → map (λ place. (column_at (scope_of (items_of items)) place).kind) places ≡ kinds_at (kinds_of items) places
-unfolding kinds_at
-kinds-at items [] = refl
-kinds-at items (place ∷ places) = λ i. kind-at items place i ∷ kinds-at items places i
-
 types-append : (row next : Row) → types_of (row ++ next) ≡ types_of row ++ types_of next
 unfolding types_of
 types-append row next = map-append type_of row next
 
--- the row with one of the item's behind it
-longer-typed : (kinds : List ColType) (row next : Row) (s : ItemRelation) → types_of row ≡ kinds → HasTypes s.table.schema next
-    → types_of (row ++ next) ≡ kinds ++ map (λ (column : Column). column.kind) s.table.schema
-longer-typed kinds row next s e typed = types-append row next ∙ (λ i. e i ++ types-of_row s.table.schema next typed i)
+-- each combination of the items' rows has the types of their columns
+combinations-typed : (items : List ItemRelation) → All HasTypedRows items
+    → All (λ (rows : List Row). types_of (combined_row rows) ≡ kinds_of items) (combinations (tables_of items))
+unfolding kinds_of types_of
+combinations-typed [] typed = All-cons (λ (rows : List Row). types_of (combined_row rows) ≡ []) [] [] refl (All-nil (λ (rows : List Row). types_of (combined_row rows) ≡ []))
+combinations-typed (s ∷ items) typed = each (combinations-typed items (All-tail HasTypedRows s items typed)) s.table.rows (All-head HasTypedRows s items typed)
+  where
+    each : All (λ (rows : List Row). types_of (combined_row rows) ≡ kinds_of items) (combinations (tables_of items)) → (rows : Rows) → All (HasTypes s.table.schema) rows → All (λ (rows : List Row). types_of (combined_row rows) ≡ kinds_of (s ∷ items)) (flat_map (λ row. map (λ rest. row ∷ rest) (combinations (tables_of items))) rows)
+    each others [] all = All-nil (λ (rows : List Row). types_of (combined_row rows) ≡ kinds_of (s ∷ items))
+    each others (row ∷ rows) all =
+        All-append (λ (rows : List Row). types_of (combined_row rows) ≡ kinds_of (s ∷ items)) (map (λ rest. row ∷ rest) (combinations (tables_of items))) _
+        (All-map (λ (rows : List Row). types_of (combined_row rows) ≡ kinds_of (s ∷ items)) (λ rest. row ∷ rest) (combinations (tables_of items))
+        (All-weaker (λ (rows : List Row). types_of (combined_row rows) ≡ kinds_of items) (λ rest. types_of (combined_row (row ∷ rest)) ≡ kinds_of (s ∷ items))
+        (λ rest e. types-append row (combined_row rest) ∙ (λ i. types-of_row s.table.schema row (All-head (HasTypes s.table.schema) row rows all) i ++ e i))
+        (combinations (tables_of items)) others))
+        (each others rows (All-tail (HasTypes s.table.schema) row rows all))
 
-module _ (j : Equijoin) (schema : List Column) where
-  one-typed : (kinds : List ColType) (row : Row) → types_of row ≡ kinds → map (λ (column : Column). column.kind) schema ≡ kinds_at kinds j.places
-      → All (HasTypes schema) (listed_behind (comprehension_of j) row [])
-  one-typed kinds row e k = by (all_hold (comprehension_of j).conjuncts row)
-    where
-      by : (holds : Bool) → All (HasTypes schema) (map (emitted (comprehension_of j).emits) (cond holds (row ∷ []) []))
-      by true = All-cons (HasTypes schema) _ [] (emitted-typed kinds row schema j.places e k) (All-nil (HasTypes schema))
-      by false = All-nil (HasTypes schema)
+-- the value of a scalar has the scalar's type
+value-typed : (items : List ItemRelation) (row : Row) → types_of row ≡ kinds_of items → (e : Scalar) → type_of (exact_value e row) ≡ kind_of (scope_of (items_of items)) e
+value-typed items row t (Lit v) = refl
+value-typed items row t (At place) = type-at (kinds_of items) row place t ∙ sym (kind-at items place)
+value-typed items row t (Not e) = refl
+value-typed items row t (Neg e) = refl
+value-typed items row t (Bin op.Or l r) = refl
+value-typed items row t (Bin op.And l r) = refl
+value-typed items row t (Bin op.Eq l r) = refl
+value-typed items row t (Bin op.Ne l r) = refl
+value-typed items row t (Bin op.Lt l r) = refl
+value-typed items row t (Bin op.Le l r) = refl
+value-typed items row t (Bin op.Gt l r) = refl
+value-typed items row t (Bin op.Ge l r) = refl
+value-typed items row t (Bin op.Add l r) = refl
+value-typed items row t (Bin op.Sub l r) = refl
+value-typed items row t (Bin op.Mul l r) = refl
 
-  -- all rows of an item
-  each-typed : (s : ItemRelation) (f : Row → Rows) (rows : Rows) → All (HasTypes s.table.schema) rows
-      → ((next : Row) → HasTypes s.table.schema next → All (HasTypes schema) (f next)) → All (HasTypes schema) (flat_map f rows)
-  each-typed s f [] typed each = All-nil (HasTypes schema)
-  each-typed s f (next ∷ rows) typed each =
-      All-append (HasTypes schema) (f next) (flat_map f rows)
-      (each next (All-head (HasTypes s.table.schema) next rows typed))
-      (each-typed s f rows (All-tail (HasTypes s.table.schema) next rows typed) each)
+emitted-typed : (items : List ItemRelation) (row : Row) → types_of row ≡ kinds_of items → (es : List Scalar) → types_of (emitted es row) ≡ map (kind_of (scope_of (items_of items))) es
+unfolding types_of
+emitted-typed items row t [] = refl
+emitted-typed items row t (e ∷ es) = λ i. value-typed items row t e i ∷ emitted-typed items row t es i
 
-  behind-typed : (items : List ItemRelation) (kinds : List ColType) (row : Row) → types_of row ≡ kinds → All HasTypedRows items
-      → map (λ (column : Column). column.kind) schema ≡ kinds_at (kinds ++ kinds_of items) j.places
-      → All (HasTypes schema) (listed_behind (comprehension_of j) row (tables_of items))
-  unfolding kinds_of
-  behind-typed [] kinds row e typed k = one-typed kinds row e (k ∙ ap (λ all. kinds_at all j.places) (append-nil kinds))
-  behind-typed (s ∷ items) kinds row e typed k =
-      let own = map (λ (column : Column). column.kind) s.table.schema in
-      let whole = append_assoc kinds own (kinds_of items) in
-      each-typed s (λ next. listed_behind (comprehension_of j) (row ++ next) (tables_of items)) s.table.rows
-      (All-head HasTypedRows s items typed)
-      (λ next fits. behind-typed items (kinds ++ own) (row ++ next) (longer-typed kinds row next s e fits)
-      (All-tail HasTypedRows s items typed) (k ∙ ap (λ all. kinds_at all j.places) (sym whole)))
+-- what is listed has the types of what is emitted
+listed-typed : (items : List ItemRelation) → All HasTypedRows items → (tests arithmetic es : List Scalar)
+    → All (λ row. types_of row ≡ map (kind_of (scope_of (items_of items))) es) (listed_from arithmetic es (candidates tests (tables_of items)))
+listed-typed items typed tests arithmetic es =
+    All-map (λ row. types_of row ≡ map (kind_of (scope_of (items_of items))) es) (emitted es) (filter (all_hold arithmetic) (candidates tests (tables_of items)))
+    (All-weaker (λ row. types_of row ≡ kinds_of items) (λ row. types_of (emitted es row) ≡ map (kind_of (scope_of (items_of items))) es)
+    (λ row t. emitted-typed items row t es) (filter (all_hold arithmetic) (candidates tests (tables_of items)))
+    (All-filter (all_hold arithmetic) (λ row. types_of row ≡ kinds_of items) (candidates tests (tables_of items))
+    (All-filter (all_hold tests) (λ row. types_of row ≡ kinds_of items) (combined_rows (tables_of items))
+    (All-map (λ row. types_of row ≡ kinds_of items) combined_row (combinations (tables_of items)) (combinations-typed items typed)))))
 
-  -- what is listed has the types of the emitted columns
-  pub listed-typed : (items : List ItemRelation) → All HasTypedRows items
-      → map (λ (column : Column). column.kind) schema ≡ map (λ place. (column_at (scope_of (items_of items)) place).kind) j.places
-      → All (HasTypes schema) (listed_behind (comprehension_of j) [] (tables_of items))
-  unfolding types_of
-  listed-typed items typed k = behind-typed items [] [] refl typed (k ∙ kinds-at items j.places)
+-- ---- groups of rows of types
+
+-- the type of a column of groups
+abbrev result_kind : Option AggOp → ColType → ColType
+result_kind None k = k
+result_kind (Some op) k = aggregate_kind op k
+
+lesser-typed : (k : ColType) (a b : Value) → type_of a ≡ k → type_of b ≡ k → type_of (lesser a b) ≡ k
+lesser-typed k a b e f = by (is_lt (value_order b a))
+  where
+    by : (t : Bool) → type_of (cond t b a) ≡ k
+    by true = f
+    by false = e
+
+greater-typed : (k : ColType) (a b : Value) → type_of a ≡ k → type_of b ≡ k → type_of (greater a b) ≡ k
+greater-typed k a b e f = by (is_gt (value_order b a))
+  where
+    by : (t : Bool) → type_of (cond t b a) ≡ k
+    by true = f
+    by false = e
+
+fold-typed : (f : Value → Value → Value) (k : ColType) → ((a b : Value) → type_of a ≡ k → type_of b ≡ k → type_of (f a b) ≡ k)
+    → (v : Value) (vs : List Value) → type_of v ≡ k → All (λ w. type_of w ≡ k) vs → type_of (fold f v vs) ≡ k
+fold-typed f k step v [] e all = e
+fold-typed f k step v (w ∷ vs) e all = fold-typed f k step (f v w) vs (step v w e (All-head (λ w. type_of w ≡ k) w vs all)) (All-tail (λ w. type_of w ≡ k) w vs all)
+
+cell-typed : (kind : Option AggOp) (k : ColType) (v : Value) (vs : List Value) → All (λ w. type_of w ≡ k) (v ∷ vs) → type_of (cell kind (v ∷ vs)) ≡ result_kind kind k
+cell-typed None k v vs all = All-head (λ w. type_of w ≡ k) v vs all
+cell-typed (Some agg.CountAll) k v vs all = refl
+cell-typed (Some agg.Count) k v vs all = refl
+cell-typed (Some agg.Sum) k v vs all = refl
+cell-typed (Some agg.Min) k v vs all = fold-typed lesser k (lesser-typed k) v vs (All-head (λ w. type_of w ≡ k) v vs all) (All-tail (λ w. type_of w ≡ k) v vs all)
+cell-typed (Some agg.Max) k v vs all = fold-typed greater k (greater-typed k) v vs (All-head (λ w. type_of w ≡ k) v vs all) (All-tail (λ w. type_of w ≡ k) v vs all)
+
+-- the types of a group's row
+result_kinds : List (Option AggOp) → List ColType → List ColType
+result_kinds (kind ∷ kinds) (k ∷ ks) = result_kind kind k ∷ result_kinds kinds ks
+result_kinds _ _ = []
+
+first-typed : (k : ColType) (ks : List ColType) (rows : Rows) → All (λ row. types_of row ≡ k ∷ ks) rows → All (λ w. type_of w ≡ k) (firsts rows)
+unfolding types_of
+first-typed k ks [] all = All-nil (λ w. type_of w ≡ k)
+first-typed k ks (row ∷ rows) all =
+    All-cons (λ w. type_of w ≡ k) (value_at row 0) (firsts rows) (first row (All-head (λ row. types_of row ≡ k ∷ ks) row rows all)) (first-typed k ks rows (All-tail (λ row. types_of row ≡ k ∷ ks) row rows all))
+  where
+    first : (row : Row) → map type_of row ≡ k ∷ ks → type_of (value_at row 0) ≡ k
+    first [] e = cc
+    first (v ∷ row) e = cc
+
+behind-typed : (k : ColType) (ks : List ColType) (rows : Rows) → All (λ row. types_of row ≡ k ∷ ks) rows → All (λ row. types_of row ≡ ks) (map behind rows)
+unfolding types_of
+behind-typed k ks [] all = All-nil (λ row. types_of row ≡ ks)
+behind-typed k ks (row ∷ rows) all =
+    All-cons (λ row. types_of row ≡ ks) (behind row) (map behind rows) (rest row (All-head (λ row. types_of row ≡ k ∷ ks) row rows all)) (behind-typed k ks rows (All-tail (λ row. types_of row ≡ k ∷ ks) row rows all))
+  where
+    rest : (row : Row) → map type_of row ≡ k ∷ ks → map type_of (behind row) ≡ ks
+    rest [] e = cc
+    rest (v ∷ row) e = cc
+
+columns-typed : (kinds : List (Option AggOp)) (ks : List ColType) (row : Row) (rows : Rows) → length kinds ≡ length ks → All (λ row. types_of row ≡ ks) (row ∷ rows)
+    → types_of (by_columns kinds (row ∷ rows)) ≡ result_kinds kinds ks
+unfolding types_of result_kinds
+columns-typed [] [] row rows e all = refl
+columns-typed [] (k ∷ ks) row rows e all = absurd (omega (arith, e))
+columns-typed (kind ∷ kinds) [] row rows e all = absurd (omega (arith, e))
+columns-typed (kind ∷ kinds) (k ∷ ks) row rows e all =
+    let first = cell-typed kind k (value_at row 0) (firsts rows) (first-typed k ks (row ∷ rows) all) in
+    let others = columns-typed kinds ks (behind row) (map behind rows) (omega (arith, e)) (behind-typed k ks (row ∷ rows) all) in
+    λ i. first i ∷ others i
+
+filter-none-at : {X : Type 0} (p : X → Bool) (xs : List X) (i : ℕ) (d : X) → i < length xs → filter p xs ≡ [] → p (get_or xs i d) ≡ false
+filter-none-at p [] i d low e = absurd (omega arith)
+filter-none-at {X} p (x ∷ xs) i d low e = by (λ k small none. filter-none-at p xs k d small none) (p x) refl e i low
+  where
+    by : ((k : ℕ) → k < length xs → filter p xs ≡ [] → p (get_or xs k d) ≡ false) → (b : Bool) → p x ≡ b → cond b (x ∷ filter p xs) (filter p xs) ≡ []
+        → (i : ℕ) → i < length (x ∷ xs) → p (get_or (x ∷ xs) i d) ≡ false
+    by others true h e i low = absurd (cc)
+    by others false h e zero low = h
+    by others false h e (suc i) low = others i (omega arith) e
+
+pub All-distinct : (P : Row → Type 0) (rows : Rows) → All P rows → All P (distinct rows)
+All-distinct P [] all = All-nil P
+All-distinct P (row ∷ rows) all =
+    All-cons P row (filter (other row) (distinct rows)) (All-head P row rows all) (All-filter (other row) P (distinct rows) (All-distinct P rows (All-tail P row rows all)))
+
+-- a key of the groups has members
+has-members : (kinds : Kinds) (rows : Rows) (i : ℕ) (d : Row) → i < length rows → members kinds rows (key_of kinds (get_or rows i d)) ≡ [] → ⊥
+has-members kinds rows i d low none =
+    let passes : same_row (key_of kinds (get_or rows i d)) (key_of kinds (get_or rows i d)) ≡ true = itself (key_of kinds (get_or rows i d)) in
+    let fails = filter-none-at (λ row. same_row (key_of kinds (get_or rows i d)) (key_of kinds row)) rows i d low none in
+    cc
+
+module _ (kinds : Kinds) (ks : List ColType) (same : length kinds ≡ length ks) where
+  -- the row of a group with members
+  one-typed : (rows : Rows) → All (λ row. types_of row ≡ ks) rows → (rows ≡ [] → ⊥) → types_of (group_row kinds rows) ≡ result_kinds kinds ks
+  one-typed [] all some = absurd (some refl)
+  one-typed (row ∷ rows) all some = ap types_of (group_row-columns kinds (row ∷ rows)) ∙ columns-typed kinds ks row rows same all
+
+  groups-typed : (rows : Rows) → All (λ row. types_of row ≡ ks) rows → All (λ row. types_of row ≡ result_kinds kinds ks) (groups kinds rows)
+  groups-typed rows all =
+      All-map (λ row. types_of row ≡ result_kinds kinds ks) (λ key. group_row kinds (members kinds rows key)) (keys kinds rows)
+      (All-distinct (λ key. types_of (group_row kinds (members kinds rows key)) ≡ result_kinds kinds ks) (map (key_of kinds) rows)
+      (All-map (λ key. types_of (group_row kinds (members kinds rows key)) ≡ result_kinds kinds ks) (key_of kinds) rows
+      (λ i d low. one-typed (members kinds rows (key_of kinds (get_or rows i d)))
+      (All-filter (λ row. same_row (key_of kinds (get_or rows i d)) (key_of kinds row)) (λ row. types_of row ≡ ks) rows all)
+      (has-members kinds rows i d low))))
+
+-- where nothing is aggregated, the types are those of what is emitted
+plain-kinds : (kinds : Kinds) (ks : List ColType) → length kinds ≡ length ks → has_aggregate kinds ≡ false → result_kinds kinds ks ≡ ks
+unfolding result_kinds
+plain-kinds [] [] e h = refl
+plain-kinds [] (k ∷ ks) e h = absurd (omega (arith, e))
+plain-kinds (kind ∷ kinds) [] e h = absurd (omega (arith, e))
+plain-kinds (None ∷ kinds) (k ∷ ks) e h = ap (λ (rest : List ColType). k ∷ rest) (plain-kinds kinds ks (omega (arith, e)) h)
+plain-kinds (Some op ∷ kinds) (k ∷ ks) e h = absurd (cc)
+
+results-typed : (kinds : Kinds) (ks : List ColType) → length kinds ≡ length ks → (rows : Rows) → All (λ row. types_of row ≡ ks) rows
+    → All (λ row. types_of row ≡ result_kinds kinds ks) (result_rows kinds rows)
+results-typed kinds ks e rows all = by (has_aggregate kinds) refl
+  where
+    by : (b : Bool) → has_aggregate kinds ≡ b → All (λ row. types_of row ≡ result_kinds kinds ks) (cond b (groups kinds rows) rows)
+    by true h = groups-typed kinds ks e rows all
+    by false h = All-weaker (λ row. types_of row ≡ ks) (λ row. types_of row ≡ result_kinds kinds ks) (λ row t. t ∙ sym (plain-kinds kinds ks e h)) rows all
+
+-- ---- the types of emitted columns
+
+abbrev HasKind : List ScopeColumn → Emit → Type 0
+HasKind scope e = e.kind ≡ result_kind e.aggregate (kind_of scope e.scalar)
+
+scalar-kind : (scope : List ScopeColumn) (e : Scalar) → HasKind scope (emit_of_scalar scope e)
+scalar-kind scope (Lit v) = refl
+scalar-kind scope (At place) = refl
+scalar-kind scope (Not e) = refl
+scalar-kind scope (Neg e) = refl
+scalar-kind scope (Bin op l r) = refl
+
+named-kind : (scope : List ScopeColumn) (name : Option Name) (e : Emit) → HasKind scope e → HasKind scope (named name e)
+named-kind scope None e h = h
+named-kind scope (Some name) e h = h
+
+scalar-tree : (scope : List ScopeColumn) (e : Tree) (made : Emit) → option_map (emit_of_scalar scope) (scalar_of scope e) ≡ Some made → HasKind scope made
+scalar-tree scope e made is = by (scalar_of scope e) is
+  where
+    by : (found : Option Scalar) → option_map (emit_of_scalar scope) found ≡ Some made → HasKind scope made
+    by None k = absurd (cc)
+    by (Some s) k = let same : emit_of_scalar scope s ≡ made = cc in subst (HasKind scope) same (scalar-kind scope s)
+
+-- what an expression emits
+tree-kind : (scope : List ScopeColumn) (e : Tree) (made : Emit) → emit_of_tree scope e ≡ Some made → HasKind scope made
+tree-kind scope (tree.Agg op e) made is = by (scalar_of scope e) is
+  where
+    by : (found : Option Scalar) → option_map (aggregated scope op) found ≡ Some made → HasKind scope made
+    by None k = absurd (cc)
+    by (Some s) k = let same : aggregated scope op s ≡ made = cc in subst (HasKind scope) same refl
+tree-kind scope (tree.AggAll op) made is = let same : aggregated scope op (Lit (value.Bool true)) ≡ made = cc in subst (HasKind scope) same refl
+tree-kind scope (tree.Lit v) made is = scalar-tree scope (tree.Lit v) made is
+tree-kind scope (tree.Col column) made is = scalar-tree scope (tree.Col column) made is
+tree-kind scope (tree.Not e) made is = scalar-tree scope (tree.Not e) made is
+tree-kind scope (tree.Neg e) made is = scalar-tree scope (tree.Neg e) made is
+tree-kind scope (tree.Bin op l r) made is = scalar-tree scope (tree.Bin op l r) made is
+
+-- the columns of an emit item
+places-kind : (scope : List ScopeColumn) (places : List ℕ) → All (HasKind scope) (map (emit_at scope) places)
+places-kind scope [] = All-nil (HasKind scope)
+places-kind scope (place ∷ places) = All-cons (HasKind scope) (emit_at scope place) (map (emit_at scope) places) refl (places-kind scope places)
+
+item-kind : (scope : List ScopeColumn) (item : EmitTree) (made : List Emit) → emits_of_item scope item ≡ Some made → All (HasKind scope) made
+item-kind scope tree.All made is =
+    let same : map (emit_at scope) (range_with_len 0 (length scope)) ≡ made = cc in subst (λ es. All (HasKind scope) es) same (places-kind scope (range_with_len 0 (length scope)))
+item-kind scope (tree.AllOf alias) made is =
+    let same : map (emit_at scope) (places_under scope alias) ≡ made = cc in subst (λ es. All (HasKind scope) es) same (places-kind scope (places_under scope alias))
+item-kind scope (tree.One e name) made is = by (emit_of_tree scope e) refl is
+  where
+    by : (found : Option Emit) → emit_of_tree scope e ≡ found → option_map (λ emit. named name emit ∷ []) found ≡ Some made → All (HasKind scope) made
+    by None h k = absurd (cc)
+    by (Some one) h k =
+        let same : named name one ∷ [] ≡ made = cc in
+        subst (λ es. All (HasKind scope) es) same (All-cons (HasKind scope) (named name one) [] (named-kind scope name one (tree-kind scope e one h)) (All-nil (HasKind scope)))
+
+lists-kind : (scope : List ScopeColumn) (items : List EmitTree) (lists : List (List Emit)) → each_or_none (emits_of_item scope) items ≡ Some lists
+    → All (HasKind scope) (flat_map (λ columns. columns) lists)
+lists-kind scope [] lists is = let same : [] ≡ lists = cc in subst (λ ls. All (HasKind scope) (flat_map (λ columns. columns) ls)) same (All-nil (HasKind scope))
+lists-kind scope (item ∷ items) lists is =
+    by (λ more k. lists-kind scope items more k) (emits_of_item scope item) (each_or_none (emits_of_item scope) items) refl refl is
+  where
+    by : ((more : List (List Emit)) → each_or_none (emits_of_item scope) items ≡ Some more → All (HasKind scope) (flat_map (λ columns. columns) more))
+        → (first : Option (List Emit)) (rest : Option (List (List Emit))) → emits_of_item scope item ≡ first → each_or_none (emits_of_item scope) items ≡ rest
+        → put_before first rest ≡ Some lists → All (HasKind scope) (flat_map (λ columns. columns) lists)
+    by others None rest h k e = absurd (cc)
+    by others (Some one) None h k e = absurd (cc)
+    by others (Some one) (Some more) h k e =
+        let same : one ∷ more ≡ lists = cc in
+        subst (λ ls. All (HasKind scope) (flat_map (λ columns. columns) ls)) same
+        (All-append (HasKind scope) one (flat_map (λ columns. columns) more) (item-kind scope item one h) (others more k))
+
+emits-kind : (scope : List ScopeColumn) (items : List EmitTree) (es : List Emit) → emits_of scope items ≡ Some es → All (HasKind scope) es
+emits-kind scope items es is = by (each_or_none (emits_of_item scope) items) refl is
+  where
+    by : (found : Option (List (List Emit))) → each_or_none (emits_of_item scope) items ≡ found → option_map (flat_map (λ columns. columns)) found ≡ Some es → All (HasKind scope) es
+    by None h k = absurd (cc)
+    by (Some lists) h k = let same : flat_map (λ columns. columns) lists ≡ es = cc in subst (λ es. All (HasKind scope) es) same (lists-kind scope items lists h)
+
+-- the types of the schema
+schema-kinds : (n : ℕ) (es : List Emit)
+    → map (λ (column : Column). column.kind) (map (λ (p : ℕ × Emit). record { name = unwrap_or p.1.name (numbered_name p.0); kind = p.1.kind }) (enumerate_from n es)) ≡ map (λ (e : Emit). e.kind) es
+schema-kinds n [] = refl
+schema-kinds n (e ∷ es) = ap (λ (rest : List ColType). e.kind ∷ rest) (schema-kinds (n + 1) es)
+
+emitted-kinds : (scope : List ScopeColumn) (es : List Emit) → All (HasKind scope) es
+    → map (λ (e : Emit). e.kind) es ≡ result_kinds (map (λ (e : Emit). e.aggregate) es) (map (kind_of scope) (map (λ (e : Emit). e.scalar) es))
+unfolding result_kinds
+emitted-kinds scope [] all = refl
+emitted-kinds scope (e ∷ es) all =
+    let first = All-head (HasKind scope) e es all in
+    let rest = emitted-kinds scope es (All-tail (HasKind scope) e es all) in
+    λ i. first i ∷ rest i
+
+typed-fits : (schema : List Column) (row : Row) → types_of row ≡ map (λ (column : Column). column.kind) schema → fits_schema schema row ≡ true
+unfolding types_of
+typed-fits [] [] e = refl
+typed-fits [] (v ∷ row) e = cc
+typed-fits (column ∷ schema) [] e = cc
+typed-fits (column ∷ schema) (v ∷ row) e =
+    let first : type_of v ≡ column.kind = cc in
+    let others : map type_of row ≡ map (λ (column : Column). column.kind) schema = cc in
+    rw (first, same_type-itself column.kind) (typed-fits schema row others)
+
+-- the rows of a comprehension have the types of its schema
+pub comprehension-typed : (items : List ItemRelation) → All HasTypedRows items → (trees : List EmitTree) (es : List Emit) → emits_of (scope_of (items_of items)) trees ≡ Some es
+    → (tests arithmetic : List Scalar)
+    → All (HasTypes (schema_of es)) (result_rows (map (λ (e : Emit). e.aggregate) es) (listed_from arithmetic (map (λ (e : Emit). e.scalar) es) (candidates tests (tables_of items))))
+comprehension-typed items typed trees es is tests arithmetic =
+    All-weaker (λ row. types_of row ≡ result_kinds kinds ks) (HasTypes (schema_of es)) (λ row t. typed-fits (schema_of es) row (t ∙ sym own)) (result_rows kinds rows)
+    (results-typed kinds ks long rows (listed-typed items typed tests arithmetic (map (λ (e : Emit). e.scalar) es)))
+  where
+    kinds : Kinds
+    kinds = map (λ (e : Emit). e.aggregate) es
+
+    ks : List ColType
+    ks = map (kind_of (scope_of (items_of items))) (map (λ (e : Emit). e.scalar) es)
+
+    rows : Rows
+    rows = listed_from arithmetic (map (λ (e : Emit). e.scalar) es) (candidates tests (tables_of items))
+
+    long : length kinds ≡ length ks
+    long =
+        length-map es (λ (e : Emit). e.aggregate)
+        ∙ sym (length-map (map (λ (e : Emit). e.scalar) es) (kind_of (scope_of (items_of items))) ∙ length-map es (λ (e : Emit). e.scalar))
+
+    own : map (λ (column : Column). column.kind) (schema_of es) ≡ result_kinds kinds ks
+    own = schema-kinds 0 es ∙ emitted-kinds (scope_of (items_of items)) es (emits-kind (scope_of (items_of items)) trees es is)
+
+-- rows of one schema have the types of another with the same types
+pub typed-by : (schema others : List Column) → map (λ (column : Column). column.kind) schema ≡ map (λ (column : Column). column.kind) others
+    → (rows : Rows) → All (HasTypes others) rows → All (HasTypes schema) rows
+typed-by schema others same rows all =
+    All-weaker (HasTypes others) (HasTypes schema) (λ row t. typed-fits schema row (types-of_row others row t ∙ sym same)) rows all

@@ -1,51 +1,17 @@
 -- Which scripts the evaluator runs, and when a script has a meaning.
 --
---   runs script                  it has empty statements, stores, and assignments of operands and of comprehensions that join
---                                items by equalities of columns and emit columns
+--   runs script                  it is any script
 --   has_meaning files script     each relation expression stands for a relation, and each stored name is assigned
-use Rattle.std.specs.Prelude.{Bool, true, false, ◌&&◌, List, [], ◌∷◌, Option, Some, None, is_some}
-use Rattle.std.specs.List.{list_all}
+use Rattle.std.specs.Prelude.{Bool, true, ◌&&◌, List, [], ◌∷◌, is_some}
 use Rattle.rel_base.specs.Keys.{File}
-use Rattle.myrial_ast.specs.declared.operators.BinOp.TheVariants as op
-use Rattle.myrial_ast.specs.Trees.{Tree, EmitTree, RelTree, StatementTree}
+use Rattle.myrial_ast.specs.Trees.{StatementTree}
 use Rattle.myrial_ast.specs.Trees as tree
 use Rattle.myrial_meaning.specs.Environments.{nothing_yet, assigned_to}
 use Rattle.myrial_meaning.specs.Meaning.{RelationEnvironment, relation_of, after}
 
--- whether it is a column
-abbrev pub is_column : Tree → Bool
-is_column (tree.Col column) = true
-is_column _ = false
-
--- whether it is equalities of columns with `and` between them
-abbrev pub joins_by_equalities : Tree → Bool
-joins_by_equalities (tree.Bin op.And l r) = joins_by_equalities l && joins_by_equalities r
-joins_by_equalities (tree.Bin op.Eq l r) = is_column l && is_column r
-joins_by_equalities _ = false
-
--- whether there is no condition, or such a one
-abbrev pub is_join_condition : Option Tree → Bool
-is_join_condition None = true
-is_join_condition (Some condition) = joins_by_equalities condition
-
--- whether it emits a column
-abbrev pub emits_a_column : EmitTree → Bool
-emits_a_column (tree.One e name) = is_column e
-emits_a_column _ = false
-
--- whether the evaluator runs such a relation expression
-abbrev pub runs_relation : RelTree → Bool
-runs_relation (tree.Copy o) = true
-runs_relation (tree.From items condition emits) = is_join_condition condition && list_all emits_a_column emits
-runs_relation _ = false
-
-abbrev pub runs_statement : StatementTree → Bool
-runs_statement (tree.Assign name r) = runs_relation r
-runs_statement _ = true
-
--- whether the evaluator runs the script
+-- whether the evaluator runs the script: it runs every one
 abbrev pub runs : List StatementTree → Bool
-runs script = list_all runs_statement script
+runs script = true
 
 -- whether a statement stands for something
 abbrev pub is_defined : List File → RelationEnvironment → StatementTree → Bool

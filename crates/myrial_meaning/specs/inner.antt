@@ -3,5 +3,5 @@ pub mod ItemRows
 pub mod NeededFlags
 pub mod Columns
 pub mod Assignments
-pub mod Equijoins
+pub mod Rules
 pub mod Listing

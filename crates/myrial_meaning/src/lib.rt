@@ -1,16 +1,16 @@
 //! The meaning of scripts, and an evaluator that computes it as it is defined.
 //!
 //! Stands on `rel_base` for relations and files, on `myrial_ast` for the trees of scripts and the meaning of expressions,
-//! comprehensions and groups, and on `myrial_scopes` for what names mean. Nothing here reads text, reads a file or waits.
+//! comprehensions and groups, on `myrial_scopes` for what names mean, on `expr_eval` for the values of scalars and on
+//! `aggregate_ops` for groups and the operators on bags. Nothing here reads text, reads a file or waits.
 //!
 //! Promises: `evaluate` gives what a script stores, each relation's rows in ascending order, or the fault of its run, as
 //! the definitions say; statements that no store needs are not run. `has_meaning` tells whether each name, key and
-//! reference of a script stands for something, which `evaluate` requires beside `runs`; `fetched_keys` gives the keys whose
+//! reference of a script stands for something, which is all that `evaluate` requires; `fetched_keys` gives the keys whose
 //! files a script scans or loads. That the test of needed statements tells what their rule says is a law. Contracts see a script by
 //! `trees_of`.
 //! Not promised: that memory is there; speed, since a comprehension goes over every combination of its items' rows.
-//! The definitions are of the whole language, and the scripts that are evaluated are those that `runs` admits: operands,
-//! and comprehensions that join items by equalities of columns and emit columns.
+//! A script whose `unionall` has operands of other column types, which no typed script has, is answered by want of memory.
 //!
 //! Read `specs/Environments.antt`, `specs/Meaning.antt`, `specs/Needed.antt`, `specs/Faults.antt` and
 //! `specs/Runnable.antt`, then `evaluating.rt`, `statements.rt` and `loops.rt`.
@@ -20,7 +20,6 @@ mod checking;
 mod combined_rows;
 mod comprehensions;
 mod environment;
-mod equijoins;
 mod evaluating;
 mod holding;
 mod items;
@@ -29,6 +28,7 @@ mod list_faults;
 mod loops;
 mod needed;
 mod needed_files;
+mod rules;
 mod stages;
 mod statements;
 

@@ -3,9 +3,10 @@ ghost use Rattle.std.specs.Prelude.{◌≡◌, [], ◌∷◌, IfOk, length};
 ghost use Rattle.rel_base.specs.declared.values.Value.TheVariants as value;
 ghost use Rattle.rel_base.specs.declared.values.ColType.TheVariants as kind;
 
-use crate::{evaluate, has_meaning, runs};
+use crate::{evaluate, has_meaning};
 use myrial_ast::{
-    BinOp, ColRef, EmitItem, EmitItems, Expr, FromItem, FromItems, Operand, RelExpr, Script, Stmt,
+    AggOp, BinOp, ColRef, EmitItem, EmitItems, Expr, FromItem, FromItems, Operand, RelExpr, Script,
+    Stmt,
 };
 use rel_base::{
     ColType, Column, Files, Key, Memory, Relation, Row, Rows, Schema, Stored, Text, Value,
@@ -177,7 +178,6 @@ fn evaluated(
     script: &Script,
     files: &Files,
 ) -> Result<Stored, Fail> {
-    assert!(rt; runs(script));
     assert!(rt; has_meaning(alloc, script, files)?);
     Ok(evaluate(alloc, script, files)?)
 }
@@ -338,5 +338,43 @@ fn a_column_that_is_not_there_means_nothing(rt: HostRuntime) -> Result<(), Fail>
     let files = files_of(alloc, &[(1, 5)])?;
     let script = stored_join(alloc, join_on(alloc, "x", "z", "x", "x")?)?;
     assert!(rt; !has_meaning(alloc, &script, &files)?);
+    Ok(())
+}
+
+/// `relation` over two scans of R.
+fn operands(alloc: Global) -> Result<(Operand, Operand), Memory> {
+    let first = Operand::Scan(key_of(alloc, "R")?);
+    Ok((first, Operand::Scan(key_of(alloc, "R")?)))
+}
+
+#[test]
+fn both_relations_are_put_together(rt: HostRuntime) -> Result<(), Fail> {
+    let alloc = rt.alloc();
+    let files = files_of(alloc, &[(2, 1), (1, 2)])?;
+    let (first, second) = operands(alloc)?;
+    let script = stored_join(alloc, RelExpr::UnionAll(first, second))?;
+    let stored = evaluated(&rt, alloc, &script, &files)?;
+    assert!(rt; has_rows(alloc, &stored, 0, &[(1, 2), (1, 2), (2, 1), (2, 1)])?);
+    Ok(())
+}
+
+/// `[from scan(R) as a emit a.x, sum(a.y)]`
+fn sums(alloc: Global) -> Result<RelExpr, Memory> {
+    let mut items = FromItems::new(alloc);
+    items.push(item(alloc, "a")?)?;
+    let mut emits = EmitItems::new(alloc);
+    emits.push(EmitItem::One(column(alloc, "a", "x")?, None))?;
+    let argument = Box::new(alloc, column(alloc, "a", "y")?)?;
+    emits.push(EmitItem::One(Expr::Agg(AggOp::Sum, Some(argument)), None))?;
+    Ok(RelExpr::From(items, None, emits))
+}
+
+#[test]
+fn rows_are_grouped(rt: HostRuntime) -> Result<(), Fail> {
+    let alloc = rt.alloc();
+    let files = files_of(alloc, &[(2, 1), (1, i64::MAX), (2, 5), (1, -1)])?;
+    let script = stored_join(alloc, sums(alloc)?)?;
+    let stored = evaluated(&rt, alloc, &script, &files)?;
+    assert!(rt; has_rows(alloc, &stored, 0, &[(1, i64::MAX - 1), (2, 6)])?);
     Ok(())
 }

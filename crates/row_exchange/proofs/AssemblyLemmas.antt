@@ -164,7 +164,7 @@ module _ {W T : Type 0} (accepts : W → ℕ → Row → Type 0) (goes : W → �
           let s = (get_or before k d).outgoing in
           let opens : r.out.outlet ≡ new_outlet keep k = same_Some r.out.outlet (new_outlet keep k) (sym r.out.was ∙ opened-at k d below) in
           subst (λ (x : W × (List (List Rows) × (Size × (ℕ × (OutletState × OutletState))))).
-            HasSentAll (goes x.0) x.1.0 x.1.1.0.workers x.1.1.0.batch x.1.1.1.0 x.1.1.1.1.0 x.1.1.1.1.1 (get_or after k d).outgoing.sent)
+          HasSentAll (goes x.0) x.1.0 x.1.1.0.workers x.1.1.0.batch x.1.1.1.0 x.1.1.1.1.0 x.1.1.1.1.1 (get_or after k d).outgoing.sent)
           (λ i. (w.out.route_is i, (w.out.parts_are i, (w.out.size_is i, (worker-at k d below i, (opens i, sym (end-at k d e below) i))))))
           r.out.sent
 
@@ -206,20 +206,22 @@ module _ {W T : Type 0} (accepts : W → ℕ → Row → Type 0) (goes : W → �
       sent-tap k d t e below =
           let r = run-at k d below in
           let now : get_or taps (2 * k) t ≡ (get_or after k d).outgoing.tap = ap (λ (l : List T). get_or l (2 * k) t) taps-are ∙ first-tap after k t d (omega (arith, below, after-long)) in
-          let was : get_or front (2 * k) t ≡ (get_or before k d).outgoing.tap = ap (λ (l : List T). get_or l (2 * k) t) manned.taps_are ∙ first-tap before k t d (omega (arith, below, before-long)) in
-          (ap totals now ∙ r.out.told ∙ ap (λ (x : T). with_sent (totals x) (rows_sent r.out.end)) (sym was)
-          ∙ ap (λ (o : OutletState). with_sent (totals (get_or front (2 * k) t)) (rows_sent o)) (sym (end-at k d e below)),
-          ap tag now ∙ r.out.same_tag ∙ ap tag (sym was))
+          let was : get_or front (2 * k) t ≡ (get_or before k d).outgoing.tap = ap (λ (l : List T). get_or l (2 * k) t) manned.taps_are ∙ first-tap before k t d (omega (arith, below, before-long)) in (
+            ap totals now ∙ r.out.told ∙ ap (λ (x : T). with_sent (totals x) (rows_sent r.out.end)) (sym was)
+                ∙ ap (λ (o : OutletState). with_sent (totals (get_or front (2 * k) t)) (rows_sent o)) (sym (end-at k d e below)),
+            ap tag now ∙ r.out.same_tag ∙ ap tag (sym was),
+          )
 
       pub got-tap : (k : ℕ) (d : Station W T) (t : T) (e : IntakeState) → k < size.workers
           → (totals (get_or taps (2 * k + 1) t) ≡ with_got (totals (get_or front (2 * k + 1) t)) (rows_of (get_or ins k e).got)) × (tag (get_or taps (2 * k + 1) t) ≡ tag (get_or front (2 * k + 1) t))
       got-tap k d t e below =
           let r = run-at k d below in
           let now : get_or taps (2 * k + 1) t ≡ (get_or after k d).incoming.tap = ap (λ (l : List T). get_or l (2 * k + 1) t) taps-are ∙ second-tap after k t d (omega (arith, below, after-long)) in
-          let was : get_or front (2 * k + 1) t ≡ (get_or before k d).incoming.tap = ap (λ (l : List T). get_or l (2 * k + 1) t) manned.taps_are ∙ second-tap before k t d (omega (arith, below, before-long)) in
-          (ap totals now ∙ r.taken.told ∙ ap (λ (x : T). with_got (totals x) (rows_of r.taken.end.got)) (sym was)
-          ∙ ap (λ (o : IntakeState). with_got (totals (get_or front (2 * k + 1) t)) (rows_of o.got)) (sym (taken-at k d e below)),
-          ap tag now ∙ r.taken.same_tag ∙ ap tag (sym was))
+          let was : get_or front (2 * k + 1) t ≡ (get_or before k d).incoming.tap = ap (λ (l : List T). get_or l (2 * k + 1) t) manned.taps_are ∙ second-tap before k t d (omega (arith, below, before-long)) in (
+            ap totals now ∙ r.taken.told ∙ ap (λ (x : T). with_got (totals x) (rows_of r.taken.end.got)) (sym was)
+                ∙ ap (λ (o : IntakeState). with_got (totals (get_or front (2 * k + 1) t)) (rows_of o.got)) (sym (taken-at k d e below)),
+            ap tag now ∙ r.taken.same_tag ∙ ap tag (sym was),
+          )
 
       module _ (delivered : All (IsDelivered outs) ins) where
         cell-at : (k : ℕ) (d : Station W T) (e : IntakeState) → k < size.workers → (get_or ins k e).cell ≡ k
@@ -297,7 +299,7 @@ module _ {W T : Type 0} (accepts : W → ℕ → Row → Type 0) (goes : W → �
                 let at : get_or (map rows_sent outs) u 0 ≡ rows_sent (get_or outs u o) = get_or-map rows_sent outs u o 0 (omega (arith, below, outs-long)) in
                 ap totals (told-at (2 * u) t (omega arith)) ∙ r
                 ∙ uncapped-sent (totals (get_or front (2 * u) t)) (rows_sent (get_or outs u o))
-                    (subst (λ (x : T). (totals x).sent ≤ 9223372036854775808) (front-at (2 * u) t (omega arith)) (low (2 * u) t (omega (arith, below, long-whole))).sent) (few-sent u d o below)
+                (subst (λ (x : T). (totals x).sent ≤ 9223372036854775808) (front-at (2 * u) t (omega arith)) (low (2 * u) t (omega (arith, below, long-whole))).sent) (few-sent u d o below)
                 ∙ ap (λ (x : T). with_more_sent (totals x) (rows_sent (get_or outs u o))) (sym (front-at (2 * u) t (omega arith)))
                 ∙ ap (with_more_sent (totals (get_or whole (2 * u) t))) (sym at);
             got_is = λ w t below.
@@ -305,7 +307,7 @@ module _ {W T : Type 0} (accepts : W → ℕ → Row → Type 0) (goes : W → �
                 let at : get_or (map (λ (x : IntakeState). rows_of x.got) ins) w 0 ≡ rows_of (get_or ins w i).got = get_or-map (λ (x : IntakeState). rows_of x.got) ins w i 0 (omega (arith, below, ins-long)) in
                 ap totals (told-at (2 * w + 1) t (omega arith)) ∙ r
                 ∙ uncapped-got (totals (get_or front (2 * w + 1) t)) (rows_of (get_or ins w i).got)
-                    (subst (λ (x : T). (totals x).got ≤ 9223372036854775808) (front-at (2 * w + 1) t (omega arith)) (low (2 * w + 1) t (omega (arith, below, long-whole))).got) (few-got w d i below)
+                (subst (λ (x : T). (totals x).got ≤ 9223372036854775808) (front-at (2 * w + 1) t (omega arith)) (low (2 * w + 1) t (omega (arith, below, long-whole))).got) (few-got w d i below)
                 ∙ ap (λ (x : T). with_more_got (totals x) (rows_of (get_or ins w i).got)) (sym (front-at (2 * w + 1) t (omega arith)))
                 ∙ ap (with_more_got (totals (get_or whole (2 * w + 1) t))) (sym at);
             others = behind;
@@ -385,7 +387,7 @@ module _ {W T : Type 0} (accepts : W → ℕ → Row → Type 0) (goes : W → �
               ∙ sum_by-places (λ out. rows_of (sent_to out w)) outs o
               ∙ ap (λ (n : ℕ). sum_by (λ u. rows_of (sent_to (get_or outs u o) w)) (range_with_len 0 n)) outs-long
               ∙ sum_by-range_same (λ u. rows_of (sent_to (get_or outs u o) w)) (λ u. sum_by (λ atom. length (rows_to (goes route atom) w (rows_at parts atom u))) (range_with_len 0 (length parts))) size.workers
-                  (λ u below. rows-between u w d o below inside))
+              (λ u below. rows-between u w d o below inside))
 
           pub is-given : (d : Station W T) (o : OutletState) (i : IntakeState) → IsGiven (goes route) parts size.workers made
           is-given d o i = record {

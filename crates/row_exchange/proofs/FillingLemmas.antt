@@ -82,27 +82,41 @@ flushed-here s cell below =
 
 flushed-other_cell : (s : FillingState) (cell w a : ℕ) → w ≢ cell → gathered (flushed s cell) w a ≡ gathered s w a ++ cond (a == s.atom) [] []
 flushed-other_cell s cell w a ne =
-    rw (shipped-push s.filled (cell, record { atom = s.atom; rows = items_at s.rows (pending_for s cell) }) w a, ne_eqb cell w (λ e. ne (sym e)), get_or-set_other s.pending cell w [] [] ne,
-        append-nil (shipped s.filled w a), cond-same {X = Rows} (a == s.atom) [], append-nil (gathered s w a)) refl
+    rw (
+      shipped-push s.filled (cell, record { atom = s.atom; rows = items_at s.rows (pending_for s cell) }) w a,
+      ne_eqb cell w (λ e. ne (sym e)),
+      get_or-set_other s.pending cell w [] [] ne,
+      append-nil (shipped s.filled w a),
+      cond-same {X = Rows} (a == s.atom) [],
+      append-nil (gathered s w a),
+    ) refl
 
 flushed-other_atom : (s : FillingState) (cell w a : ℕ) → a ≢ s.atom → gathered (flushed s cell) w a ≡ gathered s w a ++ cond (a == s.atom) [] []
 flushed-other_atom s cell w a ne =
-    rw (shipped-push s.filled (cell, record { atom = s.atom; rows = items_at s.rows (pending_for s cell) }) w a, ne_eqb s.atom a (λ e. ne (sym e)), ne_eqb a s.atom ne,
-        cond-same {X = Rows} (cell == w) []) refl
+    rw (
+      shipped-push s.filled (cell, record { atom = s.atom; rows = items_at s.rows (pending_for s cell) }) w a,
+      ne_eqb s.atom a (λ e. ne (sym e)),
+      ne_eqb a s.atom ne,
+      cond-same {X = Rows} (cell == w) [],
+    ) refl
 
 pub flushed-gathers : (s : FillingState) (cell : ℕ) → IsFilling s → cell < length s.pending → Gathers no_more 0 s (flushed s cell)
 flushed-gathers s cell f below = record {
   same_work = record { atom = refl; atoms = refl; rows = refl; batch = refl; cells = length-set s.pending cell [] };
   rows = λ w a. ⊎_elim
       (λ e. ⊎_elim
-          (λ h. subst (λ (v : ℕ). gathered (flushed s cell) v a ≡ gathered s v a ++ cond (a == s.atom) [] []) (sym h.1)
-              (subst (λ (b : ℕ). gathered (flushed s cell) cell b ≡ gathered s cell b ++ cond (b == s.atom) [] []) (sym e.1) (flushed-here s cell below)))
-          (λ h. flushed-other_cell s cell w a h.1)
-          (eqb_tells w cell))
+      (λ h. subst (λ (v : ℕ). gathered (flushed s cell) v a ≡ gathered s v a ++ cond (a == s.atom) [] []) (sym h.1)
+      (subst (λ (b : ℕ). gathered (flushed s cell) cell b ≡ gathered s cell b ++ cond (b == s.atom) [] []) (sym e.1) (flushed-here s cell below)))
+      (λ h. flushed-other_cell s cell w a h.1)
+      (eqb_tells w cell))
       (λ e. flushed-other_atom s cell w a e.1)
       (eqb_tells a s.atom);
-  count_is = omega (arith, rows_in-push s.filled (cell, record { atom = s.atom; rows = items_at s.rows (pending_for s cell) }),
-      sum_by-set (λ (places : List ℕ). length places) s.pending cell [] [] below, places_below s cell f below);
+  count_is = omega (
+    arith,
+    rows_in-push s.filled (cell, record { atom = s.atom; rows = items_at s.rows (pending_for s cell) }),
+    sum_by-set (λ (places : List ℕ). length places) s.pending cell [] [] below,
+    places_below s cell f below,
+  );
 }
 
 -- ---- a row's place waits for a cell
@@ -148,11 +162,11 @@ put_in-gathers s cell number below row = record {
   same_work = record { atom = refl; atoms = refl; rows = refl; batch = refl; cells = length-set s.pending cell (pending_for s cell ++ number ∷ []) };
   rows = λ w a. ⊎_elim
       (λ e. ⊎_elim
-          (λ h. subst (λ (v : ℕ). gathered (put_in s cell number) v a ≡ gathered s v a ++ cond (a == s.atom) (times_to v (cell ∷ []) (row_at s number)) []) (sym h.1)
-              (subst (λ (b : ℕ). gathered (put_in s cell number) cell b ≡ gathered s cell b ++ cond (b == s.atom) (times_to cell (cell ∷ []) (row_at s number)) []) (sym e.1)
-              (put_in-here s cell number below row)))
-          (λ h. put_in-other_cell s cell number w a h.1)
-          (eqb_tells w cell))
+      (λ h. subst (λ (v : ℕ). gathered (put_in s cell number) v a ≡ gathered s v a ++ cond (a == s.atom) (times_to v (cell ∷ []) (row_at s number)) []) (sym h.1)
+      (subst (λ (b : ℕ). gathered (put_in s cell number) cell b ≡ gathered s cell b ++ cond (b == s.atom) (times_to cell (cell ∷ []) (row_at s number)) []) (sym e.1)
+      (put_in-here s cell number below row)))
+      (λ h. put_in-other_cell s cell number w a h.1)
+      (eqb_tells w cell))
       (λ e. put_in-other_atom s cell number w a e.1)
       (eqb_tells a s.atom);
   count_is = omega (arith, sum_by-set (λ (places : List ℕ). length places) s.pending cell (pending_for s cell ++ number ∷ []) [] below, length-append (pending_for s cell) (number ∷ []));
@@ -256,9 +270,9 @@ pub rest-empty : (s t : FillingState) (cell : ℕ) → cell < length s.pending �
 rest-empty s t cell below is before k lt =
     ap (λ (l : List (List ℕ)). get_or l k []) is
     ∙ ⊎_elim
-        (λ (h : k < cell). let ne : k ≢ cell = omega arith in get_or-set_other s.pending cell k [] [] ne ∙ before k h)
-        (λ (h : cell ≤ k). let e : k ≡ cell = omega arith in subst (λ (j : ℕ). get_or (set s.pending cell []) j [] ≡ []) (sym e) (get_or-set_same s.pending cell [] [] below))
-        (cases_lt k cell)
+    (λ (h : k < cell). let ne : k ≢ cell = omega arith in get_or-set_other s.pending cell k [] [] ne ∙ before k h)
+    (λ (h : cell ≤ k). let e : k ≡ cell = omega arith in subst (λ (j : ℕ). get_or (set s.pending cell []) j [] ≡ []) (sym e) (get_or-set_same s.pending cell [] [] below))
+    (cases_lt k cell)
 
 -- nothing waits for any cell
 pub none-waits : (s : FillingState) → All (λ (places : List ℕ). places ≡ []) s.pending → (w : ℕ) → pending_for s w ≡ []
@@ -325,7 +339,7 @@ fill-atom goes atom atoms batch cells rows filled made s few a f = record {
   rows_are = λ w b.
       f.rows_are w b ∙ a.rows w b
       ∙ ap (λ l. (shipped filled w b ++ l) ++ cond (b == atom) (rows_to goes w rows) [])
-          (ap (λ (ps : List ℕ). cond (b == atom) (items_at rows ps) []) (replicate-none cells w) ∙ cond-same {X = Rows} (b == atom) [])
+      (ap (λ (ps : List ℕ). cond (b == atom) (items_at rows ps) []) (replicate-none cells w) ∙ cond-same {X = Rows} (b == atom) [])
       ∙ ap (λ l. l ++ cond (b == atom) (rows_to goes w rows) []) (append-nil (shipped filled w b));
   count_is = let none : sum_by (λ (places : List ℕ). length places) (replicate cells []) ≡ cells * 0 = sum_by-replicate (λ (places : List ℕ). length places) cells [] in
       omega (arith, f.count_is, a.count_is, none);
@@ -357,11 +371,11 @@ one-atom-more goes parts cells most worker atom old new f a = record {
   sized = a.sized;
   rows_are = λ w b below. ⊎_elim
       (λ (h : b < atom). let ne : b ≢ atom = omega arith in
-          a.rows_are w b ∙ ap (λ (t : Bool). shipped old w b ++ cond t (rows_to (goes atom) w (rows_at parts atom worker)) []) (ne_eqb b atom ne) ∙ append-nil (shipped old w b) ∙ f.rows_are w b h)
+      a.rows_are w b ∙ ap (λ (t : Bool). shipped old w b ++ cond t (rows_to (goes atom) w (rows_at parts atom worker)) []) (ne_eqb b atom ne) ∙ append-nil (shipped old w b) ∙ f.rows_are w b h)
       (λ (h : atom ≤ b). let e : b ≡ atom = omega arith in
-          subst (λ (d : ℕ). shipped new w d ≡ rows_to (goes d) w (rows_at parts d worker)) (sym e)
-          (a.rows_are w atom ∙ ap (λ (t : Bool). shipped old w atom ++ cond t (rows_to (goes atom) w (rows_at parts atom worker)) []) (eq-eqb atom atom refl)
-          ∙ ap (λ l. l ++ rows_to (goes atom) w (rows_at parts atom worker)) (f.none w atom (omega arith))))
+      subst (λ (d : ℕ). shipped new w d ≡ rows_to (goes d) w (rows_at parts d worker)) (sym e)
+      (a.rows_are w atom ∙ ap (λ (t : Bool). shipped old w atom ++ cond t (rows_to (goes atom) w (rows_at parts atom worker)) []) (eq-eqb atom atom refl)
+      ∙ ap (λ l. l ++ rows_to (goes atom) w (rows_at parts atom worker)) (f.none w atom (omega arith))))
       (cases_lt b atom);
   none = λ w b above. let ne : b ≢ atom = omega arith in
       a.rows_are w b ∙ ap (λ (t : Bool). shipped old w b ++ cond t (rows_to (goes atom) w (rows_at parts atom worker)) []) (ne_eqb b atom ne) ∙ append-nil (shipped old w b) ∙ f.none w b (omega arith);
@@ -419,4 +433,3 @@ pub pairs-few : (goes : Row → List ℕ) (workers : ℕ) (rows : Rows) → All 
 pairs-few goes workers [] all = omega arith
 pairs-few goes workers (row ∷ rows) all =
     omega (arith, sum_by-cons (λ r. length (goes r)) row rows, (All-head (λ r. GoesWithin workers (goes r)) row rows all).few, pairs-few goes workers rows (All-tail (λ r. GoesWithin workers (goes r)) row rows all))
-

@@ -71,11 +71,15 @@ rows-by-atom-step atoms most ms s None every rest =
     omega (arith, one, rest every)
 rows-by-atom-step atoms most ms s (Some b) every rest =
     let one : rows_of (record { sender = s; batch = Some b } ∷ ms) ≡ length b.rows + rows_of ms = sum_by-cons (λ (m : Message). row_count m.batch) (record { sender = s; batch = Some b }) ms in
-    omega (arith, one, rest (All-tail (IsBatch atoms most) b (batches_of ms) every),
-        batch-by-atom atoms most b (All-head (IsBatch atoms most) b (batches_of ms) every),
-        sum_by-range_add (λ a. length (batch_rows a b)) (λ a. length (rows_of_atom a (batches_of ms))) atoms,
-        sum_by-range_same (λ a. length (rows_of_atom a (b ∷ batches_of ms))) (λ a. length (batch_rows a b) + length (rows_of_atom a (batches_of ms))) atoms
-        (λ a below. ap length (flat_map-cons (batch_rows a) b (batches_of ms)) ∙ length-append (batch_rows a b) (rows_of_atom a (batches_of ms))))
+    omega (
+      arith,
+      one,
+      rest (All-tail (IsBatch atoms most) b (batches_of ms) every),
+      batch-by-atom atoms most b (All-head (IsBatch atoms most) b (batches_of ms) every),
+      sum_by-range_add (λ a. length (batch_rows a b)) (λ a. length (rows_of_atom a (batches_of ms))) atoms,
+      sum_by-range_same (λ a. length (rows_of_atom a (b ∷ batches_of ms))) (λ a. length (batch_rows a b) + length (rows_of_atom a (batches_of ms))) atoms
+          (λ a below. ap length (flat_map-cons (batch_rows a) b (batches_of ms)) ∙ length-append (batch_rows a b) (rows_of_atom a (batches_of ms))),
+    )
 
 pub rows-by-atom : (atoms most : ℕ) (ms : List Message) → All (IsBatch atoms most) (batches_of ms)
     → rows_of ms ≡ sum_by (λ a. length (rows_of_atom a (batches_of ms))) (range_with_len 0 atoms)

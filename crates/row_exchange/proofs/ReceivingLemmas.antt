@@ -43,10 +43,10 @@ gathered-more atoms drained before left taken lists after e inside is g = record
   rows_are = λ atom below. ⊎_elim
       (λ h. subst (λ (a : ℕ). IsPermutation (drained_rows a drained) (drained_rows a left ++ get_or after a [])) (sym h.1) here)
       (λ h. subst (IsPermutation (drained_rows atom drained))
-          (ap (λ l. l ++ get_or lists atom []) (ap (drained_rows atom) e ∙ other-atom atom left taken (λ k. h.1 (sym k)))
-          ∙ ap (λ (l : Rows). drained_rows atom left ++ l) (sym (ap (λ (l : List Rows). get_or l atom []) is
-          ∙ get_or-set_other lists taken.1.atom atom (get_or lists taken.1.atom [] ++ taken.1.rows) [] h.1)))
-          (g.rows_are atom below))
+      (ap (λ l. l ++ get_or lists atom []) (ap (drained_rows atom) e ∙ other-atom atom left taken (λ k. h.1 (sym k)))
+      ∙ ap (λ (l : Rows). drained_rows atom left ++ l) (sym (ap (λ (l : List Rows). get_or l atom []) is
+      ∙ get_or-set_other lists taken.1.atom atom (get_or lists taken.1.atom [] ++ taken.1.rows) [] h.1)))
+      (g.rows_are atom below))
       (eqb_tells atom taken.1.atom);
 }
   where

@@ -102,7 +102,7 @@ module _ (xs : List Shipment) (outlet now : OutletState) (s : Shipment) (h : Has
     sized = λ atoms most w all inside. ⊎_elim
         (λ e. subst (λ (v : ℕ). All (IsBatch atoms most) (batches_of (sent_to after v))) (sym e.1) (sized-here atoms most all))
         (λ e. subst (λ (ms : List Message). All (IsBatch atoms most) (batches_of ms)) (sym (elsewhere w e.1))
-            (h.sized atoms most w (All-front (λ (t : Shipment). IsBatch atoms most t.1) xs (s ∷ []) all) (omega (arith, inside, long))))
+        (h.sized atoms most w (All-front (λ (t : Shipment). IsBatch atoms most t.1) xs (s ∷ []) all) (omega (arith, inside, long))))
         (eqb_tells w s.0);
     count_is = counts;
   }
@@ -145,11 +145,14 @@ fresh-long cells outlet f = ap length f.nothing ∙ length-replicate {A = List M
 
 pub sent-all : (goes : ℕ → Row → List ℕ) (parts : List (List Rows)) (cells most worker : ℕ) (xs : List Shipment) (outlet end : OutletState)
     → IsFresh cells outlet → IsFilled goes parts cells most worker xs → HasShipped xs outlet end → SendsAll goes parts cells most worker end × (length end.sent ≡ cells)
-sent-all goes parts cells most worker xs outlet end fresh f h = (record {
-  sized = λ w below. h.sized (length parts) most w (λ k d inside. (f.sized k d inside).is_batch) (omega (arith, below, long));
-  rows_are = λ w atom below one. h.rows_are w atom (omega (arith, below, long)) ∙ f.rows_are w atom one;
-  count_is = h.count_is ∙ f.count_is;
-}, long)
+sent-all goes parts cells most worker xs outlet end fresh f h = (
+  record {
+    sized = λ w below. h.sized (length parts) most w (λ k d inside. (f.sized k d inside).is_batch) (omega (arith, below, long));
+    rows_are = λ w atom below one. h.rows_are w atom (omega (arith, below, long)) ∙ f.rows_are w atom one;
+    count_is = h.count_is ∙ f.count_is;
+  },
+  long,
+)
   where
     long : length end.sent ≡ cells
     long = h.cells ∙ fresh-long cells outlet fresh

@@ -37,8 +37,16 @@ pub sum_by-range_add : (f g : ℕ → ℕ) (n : ℕ) → sum_by (λ k. f k + g k
 sum_by-range_add f g zero = refl
 sum_by-range_add f g (suc n) =
     let more : suc n ≡ n + 1 = omega arith in
-    omega (arith, ap (λ (k : ℕ). sum_by (λ k. f k + g k) (range_with_len 0 k)) more, ap (λ (k : ℕ). sum_by f (range_with_len 0 k)) more, ap (λ (k : ℕ). sum_by g (range_with_len 0 k)) more,
-        sum_by-range_more (λ k. f k + g k) n, sum_by-range_more f n, sum_by-range_more g n, sum_by-range_add f g n)
+    omega (
+      arith,
+      ap (λ (k : ℕ). sum_by (λ k. f k + g k) (range_with_len 0 k)) more,
+      ap (λ (k : ℕ). sum_by f (range_with_len 0 k)) more,
+      ap (λ (k : ℕ). sum_by g (range_with_len 0 k)) more,
+      sum_by-range_more (λ k. f k + g k) n,
+      sum_by-range_more f n,
+      sum_by-range_more g n,
+      sum_by-range_add f g n,
+    )
 
 pub sum_by-range_zero : (n : ℕ) → sum_by (λ (k : ℕ). 0) (range_with_len 0 n) ≡ 0
 sum_by-range_zero zero = refl
@@ -57,7 +65,7 @@ sum_by-range_once x r (suc n) below =
     ⊎_elim
     (λ (h : x < n). let ne : x ≢ n = omega arith in omega (arith, step, sum_by-range_once x r n h, ap (λ (b : Bool). cond b r 0) (ne_eqb x n ne)))
     (λ (h : n ≤ x). let e : x ≡ n = omega arith in
-        omega (arith, step, sum_by-range_past x r n h, ap (λ (k : ℕ). cond (x == k) r 0) (sym e) ∙ ap (λ (b : Bool). cond b r 0) (eq-eqb x x refl)))
+    omega (arith, step, sum_by-range_past x r n h, ap (λ (k : ℕ). cond (x == k) r 0) (sym e) ∙ ap (λ (b : Bool). cond b r 0) (eq-eqb x x refl)))
     (cases_lt x n)
 
 -- two sums change places
@@ -65,8 +73,13 @@ pub sums-swap : {X : Type 0} (f : X → ℕ → ℕ) (xs : List X) (n : ℕ)
     → sum_by (λ x. sum_by (f x) (range_with_len 0 n)) xs ≡ sum_by (λ k. sum_by (λ x. f x k) xs) (range_with_len 0 n)
 sums-swap f [] n = sym (sum_by-range_zero n)
 sums-swap f (x ∷ xs) n =
-    omega (arith, sum_by-cons (λ x. sum_by (f x) (range_with_len 0 n)) x xs, sums-swap f xs n, sum_by-range_add (f x) (λ k. sum_by (λ x. f x k) xs) n,
-        sum_by-range_same (λ k. sum_by (λ x. f x k) (x ∷ xs)) (λ k. f x k + sum_by (λ x. f x k) xs) n (λ k below. sum_by-cons (λ x. f x k) x xs))
+    omega (
+      arith,
+      sum_by-cons (λ x. sum_by (f x) (range_with_len 0 n)) x xs,
+      sums-swap f xs n,
+      sum_by-range_add (f x) (λ k. sum_by (λ x. f x k) xs) n,
+      sum_by-range_same (λ k. sum_by (λ x. f x k) (x ∷ xs)) (λ k. f x k + sum_by (λ x. f x k) xs) n (λ k below. sum_by-cons (λ x. f x k) x xs),
+    )
 
 -- a sum over a list is one over its places
 pub sum_by-places : {X : Type 0} (f : X → ℕ) (xs : List X) (d : X) → sum_by f xs ≡ sum_by (λ k. f (get_or xs k d)) (range_with_len 0 (length xs))
@@ -76,15 +89,28 @@ sum_by-places {X = X} f xs d = by xs
     shifted g zero = omega arith
     shifted g (suc n) =
         let more : suc n ≡ n + 1 = omega arith in
-        omega (arith, sum_by-range_more g (suc n), ap (λ (k : ℕ). sum_by g (range_with_len 0 k)) more, shifted g n,
-            ap (λ (k : ℕ). sum_by (λ k. g (k + 1)) (range_with_len 0 k)) more, sum_by-range_more (λ k. g (k + 1)) n, ap g more)
+        omega (
+          arith,
+          sum_by-range_more g (suc n),
+          ap (λ (k : ℕ). sum_by g (range_with_len 0 k)) more,
+          shifted g n,
+          ap (λ (k : ℕ). sum_by (λ k. g (k + 1)) (range_with_len 0 k)) more,
+          sum_by-range_more (λ k. g (k + 1)) n,
+          ap g more,
+        )
 
     by : (xs : List X) → sum_by f xs ≡ sum_by (λ k. f (get_or xs k d)) (range_with_len 0 (length xs))
     by [] = refl
     by (x ∷ xs) =
         let more : suc (length xs) ≡ length xs + 1 = omega arith in
-        omega (arith, sum_by-cons f x xs, by xs, ap (λ (k : ℕ). sum_by (λ k. f (get_or (x ∷ xs) k d)) (range_with_len 0 k)) more, shifted (λ k. f (get_or (x ∷ xs) k d)) (length xs),
-            sum_by-range_same (λ k. f (get_or (x ∷ xs) (k + 1) d)) (λ k. f (get_or xs k d)) (length xs) (λ k below. let e : k + 1 ≡ suc k = omega arith in ap (λ (j : ℕ). f (get_or (x ∷ xs) j d)) e))
+        omega (
+          arith,
+          sum_by-cons f x xs,
+          by xs,
+          ap (λ (k : ℕ). sum_by (λ k. f (get_or (x ∷ xs) k d)) (range_with_len 0 k)) more,
+          shifted (λ k. f (get_or (x ∷ xs) k d)) (length xs),
+          sum_by-range_same (λ k. f (get_or (x ∷ xs) (k + 1) d)) (λ k. f (get_or xs k d)) (length xs) (λ k below. let e : k + 1 ≡ suc k = omega arith in ap (λ (j : ℕ). f (get_or (x ∷ xs) j d)) e),
+        )
 
 pub sum_by-flat_map : {X Y : Type 0} (g : Y → ℕ) (f : X → List Y) (xs : List X) → sum_by g (flat_map f xs) ≡ sum_by (λ x. sum_by g (f x)) xs
 sum_by-flat_map g f [] = refl

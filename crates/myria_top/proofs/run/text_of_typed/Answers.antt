@@ -7,4 +7,4 @@ use Rattle.myria_top.proofs.run.text_of_typed.Goals as goal
 pub returns-in-Ok-of_stored-clause-agrees : goal.returns-in-Ok-of_stored-clause-agrees
 returns-in-Ok-of_stored-clause-agrees c =
     meets_step _ _ (run_prints (trees_of c.args.script.now) c.args.files.now c.in-Ok.stored c.in-Ok-of_stored.text
-    (sym c.runs.ensures ∙ c.if-not-runs.false) (sym c.in-Ok-true.ensures ∙ c.in-Ok-true.field-0-test) c.in-Ok.ensures.no_fault c.in-Ok.ensures.stored c.in-Ok-of_stored.ensures)
+    (sym c.in-Ok-true.ensures ∙ c.in-Ok-true.field-0-test) c.in-Ok.ensures.no_fault c.in-Ok.ensures.stored c.in-Ok-of_stored.ensures)

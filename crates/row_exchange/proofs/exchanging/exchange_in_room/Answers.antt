@@ -69,8 +69,20 @@ take_apart-given-requires-clause-taps g c =
     let a = c.args in
     let w = a.room.wiring in
     let room = c.requires.room in
-    omega (arith, ap length c.man.ensures.taps, c.man.new.taps.ok.0, c.run_halves.ensures.len, c.run_halves.new.halves.ok.0, c.man.new.halves.ok.0, c.man.ensures.len, wired-outs w.keep w.outlets w.intakes a.size.workers a.size.workers a.size.capacity room.wired,
-        c.man.ensures.room, c.set_aside.ensures.room, c.requires.taps, c.args.taps.now.ok.1)
+    omega (
+      arith,
+      ap length c.man.ensures.taps,
+      c.man.new.taps.ok.0,
+      c.run_halves.ensures.len,
+      c.run_halves.new.halves.ok.0,
+      c.man.new.halves.ok.0,
+      c.man.ensures.len,
+      wired-outs w.keep w.outlets w.intakes a.size.workers a.size.workers a.size.capacity room.wired,
+      c.man.ensures.room,
+      c.set_aside.ensures.room,
+      c.requires.taps,
+      c.args.taps.now.ok.1,
+    )
 
 pub take_apart-given-requires-clause-outs : goal.take_apart-given-requires-clause-outs
 take_apart-given-requires-clause-outs g c =
@@ -108,11 +120,24 @@ bring_back-requires g c =
     let ran = stations-ran goes totals tag c.man.new.halves.items c.run_halves.new.halves.items c.man.ensures.paired c.run_halves.ensures in
     let t = c.take_apart-given in
     let apart = subst (λ (x : List OutletState × (List IntakeState × (List (List Rows) × List _))).
-      IsTakenApart (the_stations c.run_halves.new.halves.items) x.1.1.1 t.new.taps.items x.0 t.new.outs.items x.1.0 t.new.ins.items x.1.1.0 t.result)
+    IsTakenApart (the_stations c.run_halves.new.halves.items) x.1.1.1 t.new.taps.items x.0 t.new.outs.items x.1.0 t.new.ins.items x.1.1.0 t.result)
     (λ i. (room.outs i, (room.ins i, (room.given i, c.man.ensures.taps i)))) t.ensures.apart in
-    omega (arith, taps-as-long accepts goes totals tag a.route.now a.parts.now a.size a.size.capacity w.keep w.outlets w.intakes c.set_aside.new.taps.items (the_stations c.man.new.halves.items) c.requires.size c.requires.routed room.wired c.man.ensures.manned (the_stations c.run_halves.new.halves.items) ran.1 t.new.outs.items t.new.ins.items t.new.taps.items t.result apart, t.new.taps.ok.0, t.ensures.room, c.man.ensures.room, c.set_aside.ensures.room, c.set_aside.ensures.len,
-        ap length c.set_aside.ensures.all, length-append c.set_aside.new.taps.items (reverse c.set_aside.new.idle.items), length-reverse c.set_aside.new.idle.items,
-        c.set_aside.new.taps.ok.0, c.set_aside.new.idle.ok.0, c.args.taps.now.ok.0, c.args.taps.now.ok.1)
+    omega (
+      arith,
+      taps-as-long accepts goes totals tag a.route.now a.parts.now a.size a.size.capacity w.keep w.outlets w.intakes c.set_aside.new.taps.items (the_stations c.man.new.halves.items) c.requires.size c.requires.routed room.wired c.man.ensures.manned (the_stations c.run_halves.new.halves.items) ran.1 t.new.outs.items t.new.ins.items t.new.taps.items t.result apart,
+      t.new.taps.ok.0,
+      t.ensures.room,
+      c.man.ensures.room,
+      c.set_aside.ensures.room,
+      c.set_aside.ensures.len,
+      ap length c.set_aside.ensures.all,
+      length-append c.set_aside.new.taps.items (reverse c.set_aside.new.idle.items),
+      length-reverse c.set_aside.new.idle.items,
+      c.set_aside.new.taps.ok.0,
+      c.set_aside.new.idle.ok.0,
+      c.args.taps.now.ok.0,
+      c.args.taps.now.ok.1,
+    )
 
 pub close-receipt-requires-clause-outs : goal.close-receipt-requires-clause-outs
 close-receipt-requires-clause-outs g c =
@@ -126,7 +151,7 @@ close-receipt-requires-clause-outs g c =
     let ran = stations-ran goes totals tag c.man.new.halves.items c.run_halves.new.halves.items c.man.ensures.paired c.run_halves.ensures in
     let t = c.take_apart-given in
     let apart = subst (λ (x : List OutletState × (List IntakeState × (List (List Rows) × List _))).
-      IsTakenApart (the_stations c.run_halves.new.halves.items) x.1.1.1 t.new.taps.items x.0 t.new.outs.items x.1.0 t.new.ins.items x.1.1.0 t.result)
+    IsTakenApart (the_stations c.run_halves.new.halves.items) x.1.1.1 t.new.taps.items x.0 t.new.outs.items x.1.0 t.new.ins.items x.1.1.0 t.result)
     (λ i. (room.outs i, (room.ins i, (room.given i, c.man.ensures.taps i)))) t.ensures.apart in
     let d = element (the_stations c.man.new.halves.items) 0 (omega (arith, before-long accepts goes totals tag a.route.now a.parts.now a.size a.size.capacity w.keep w.outlets w.intakes c.set_aside.new.taps.items (the_stations c.man.new.halves.items) c.requires.size c.requires.routed room.wired c.man.ensures.manned, c.requires.size.some_worker)) in
     outs-are-ends accepts goes totals tag a.route.now a.parts.now a.size a.size.capacity w.keep w.outlets w.intakes c.set_aside.new.taps.items (the_stations c.man.new.halves.items) c.requires.size c.requires.routed room.wired c.man.ensures.manned (the_stations c.run_halves.new.halves.items) ran.1 t.new.outs.items t.new.ins.items t.new.taps.items t.result apart d
@@ -143,7 +168,7 @@ close-receipt-requires-clause-ins g c =
     let ran = stations-ran goes totals tag c.man.new.halves.items c.run_halves.new.halves.items c.man.ensures.paired c.run_halves.ensures in
     let t = c.take_apart-given in
     let apart = subst (λ (x : List OutletState × (List IntakeState × (List (List Rows) × List _))).
-      IsTakenApart (the_stations c.run_halves.new.halves.items) x.1.1.1 t.new.taps.items x.0 t.new.outs.items x.1.0 t.new.ins.items x.1.1.0 t.result)
+    IsTakenApart (the_stations c.run_halves.new.halves.items) x.1.1.1 t.new.taps.items x.0 t.new.outs.items x.1.0 t.new.ins.items x.1.1.0 t.result)
     (λ i. (room.outs i, (room.ins i, (room.given i, c.man.ensures.taps i)))) t.ensures.apart in
     let d = element (the_stations c.man.new.halves.items) 0 (omega (arith, before-long accepts goes totals tag a.route.now a.parts.now a.size a.size.capacity w.keep w.outlets w.intakes c.set_aside.new.taps.items (the_stations c.man.new.halves.items) c.requires.size c.requires.routed room.wired c.man.ensures.manned, c.requires.size.some_worker)) in
     ins-are-ends accepts goes totals tag a.route.now a.parts.now a.size a.size.capacity w.keep w.outlets w.intakes c.set_aside.new.taps.items (the_stations c.man.new.halves.items) c.requires.size c.requires.routed room.wired c.man.ensures.manned (the_stations c.run_halves.new.halves.items) ran.1 t.new.outs.items t.new.ins.items t.new.taps.items t.result apart d
@@ -160,8 +185,7 @@ returns g c =
     let ran = stations-ran goes totals tag c.man.new.halves.items c.run_halves.new.halves.items c.man.ensures.paired c.run_halves.ensures in
     let t = c.take_apart-given in
     let apart = subst (λ (x : List OutletState × (List IntakeState × (List (List Rows) × List _))).
-      IsTakenApart (the_stations c.run_halves.new.halves.items) x.1.1.1 t.new.taps.items x.0 t.new.outs.items x.1.0 t.new.ins.items x.1.1.0 t.result)
+    IsTakenApart (the_stations c.run_halves.new.halves.items) x.1.1.1 t.new.taps.items x.0 t.new.outs.items x.1.0 t.new.ins.items x.1.1.0 t.result)
     (λ i. (room.outs i, (room.ins i, (room.given i, c.man.ensures.taps i)))) t.ensures.apart in
     is-exchange accepts goes totals tag a.route.now a.parts.now a.size a.size.capacity w.keep w.outlets w.intakes c.set_aside.new.taps.items (the_stations c.man.new.halves.items) c.requires.size c.requires.routed room.wired c.man.ensures.manned (the_stations c.run_halves.new.halves.items) ran.1 t.new.outs.items t.new.ins.items t.new.taps.items t.result apart c.close-receipt.ensures.delivered (reverse c.set_aside.new.idle.items) a.taps.now.items c.bring_back.new.taps.items
     c.requires.low c.set_aside.ensures.all c.bring_back.ensures.all c.close-receipt.result c.close-receipt.ensures.receipt refl c.with_receipt.result c.with_receipt.ensures
-

@@ -26,7 +26,7 @@ loop-atom-preserved g c =
     (subst (λ (l : List Rows). c.args.worker < length l) (sym c.get.ensures) (omega (arith, each, c.requires.worker))) c.get.ensures c.get-rows.ensures in
     one-atom-more goes c.args.parts.now c.args.size.workers c.args.size.batch c.args.worker c.loop-atom.atom c.loop-atom.filled.items c.in_ok-filled.filled.items c.loop-atom.invariant
     (subst (λ (n : ℕ). AddsAtom (goes c.loop-atom.atom) c.args.size.workers n c.args.size.batch c.loop-atom.atom (rows_at c.args.parts.now c.loop-atom.atom c.args.worker)
-        c.loop-atom.filled.items c.in_ok-filled.filled.items) c.len-atoms.ensures
+    c.loop-atom.filled.items c.in_ok-filled.filled.items) c.len-atoms.ensures
     (subst (λ (rows : Rows). AddsAtom (goes c.loop-atom.atom) c.args.size.workers c.len-atoms.result c.args.size.batch c.loop-atom.atom rows c.loop-atom.filled.items c.in_ok-filled.filled.items) at
     c.in_ok-filled.ensures))
 

@@ -10,7 +10,8 @@ use Rattle.row_exchange.proofs.filling.fill_atom.Goals as goal
 pub loop-row-init : goal.loop-row-init
 loop-row-init g c =
     let start = filling_of c.args.atom c.args.atoms c.args.rows.now c.args.size.batch c.args.size.workers c.args.filled.items in (
-      tt, tt,
+      tt,
+      tt,
       sym (c.into_iter-row-iterator.ensures.into_iter_gives ∙ c.iter-row-items.ensures.value),
       subst (λ (s : FillingState). Gathers no_more 0 start s) (sym c.in_ok-filling.ensures) (Gathers-nothing start),
     )
@@ -43,7 +44,8 @@ loop-row-preserved g c =
     let n = next-row rows c.loop-row.number c.in-Some.row.now c.next.new.self (inv.2 ∙ c.in-Some.ensures.steps) in
     let goes = g.W.Route.cells c.args.route.now c.args.atom in
     let start = filling_of c.args.atom c.args.atoms rows c.args.size.batch c.args.size.workers c.args.filled.items in (
-      tt, tt,
+      tt,
+      tt,
       n.1.1,
       fill-step goes start c.loop-row.filling c.put_row.new.self c.loop-row.number c.as_slice.result.now n.0
           (c.as_slice.ensures.value ∙ c.cells.ensures ∙ ap goes (sym n.1.0)) inv.3 c.in_ok-put_row.ensures,

@@ -8,4 +8,4 @@ invariant-loop-row g l =
     (goal.iterator-loop-row g).can_next l.row-iterator × (goal.iterator-loop-row g).is_finite l.row-iterator
     × (drop l.number l.rows ≡ l.row-iterator)
     × Gathers (λ w. rows_to (g.W.Route.cells l.route l.atom) w (take l.number l.rows)) (pairs_of (g.W.Route.cells l.route l.atom) (take l.number l.rows))
-        (filling_of l.atom l.atoms l.rows l.fn.size.batch l.fn.size.workers l.fn.filled.items) l.filling
+    (filling_of l.atom l.atoms l.rows l.fn.size.batch l.fn.size.workers l.fn.filled.items) l.filling

@@ -29,7 +29,7 @@ invariant_of-self-2 c =
 pub returns-clause-gathers : goal.returns-clause-gathers
 returns-clause-gathers c =
     subst (λ (s : FillingState). Gathers no_more 0 s (state_of c.self.inside.atom c.self.inside.atoms c.self.inside.rows.now c.self.inside.batch
-        (set c.self.inside.pending.items c.args.cell c.clear.new.self) c.push.new.self.items)) c.self.view_is
+    (set c.self.inside.pending.items c.args.cell c.clear.new.self) c.push.new.self.items)) c.self.view_is
     (subst (λ (t : FillingState). Gathers no_more 0 (before c) t) (sym (after c)) (flushed-gathers (before c) c.args.cell c.self.invariant (below c)))
 
 pub returns-clause-pending : goal.returns-clause-pending
