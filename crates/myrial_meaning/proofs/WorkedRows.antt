@@ -24,7 +24,7 @@ use Rattle.myrial_meaning.specs.Meaning.{stored_relations}
 use Rattle.myrial_meaning.specs.Needed.{is_needed}
 use Rattle.myrial_meaning.specs.Fetches.{fetched_keys, fetches}
 use Rattle.myrial_meaning.specs.Faults.{run_fault}
-use Rattle.myrial_meaning.specs.Runnable.{runs, has_meaning}
+use Rattle.myrial_meaning.specs.Runnable.{has_meaning}
 
 -- ---- shorter words for the examples
 
@@ -75,9 +75,6 @@ stored-two_edges = refl
 
 pub fault-two_edges : run_fault Counted edges two_edges ≡ None
 fault-two_edges = refl
-
-pub runs-two_edges : runs two_edges ≡ true
-runs-two_edges = refl
 
 pub meaning-two_edges : has_meaning edges two_edges ≡ true
 meaning-two_edges = refl

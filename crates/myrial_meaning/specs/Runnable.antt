@@ -1,6 +1,5 @@
--- Which scripts the evaluator runs, and when a script has a meaning.
+-- When a script has a meaning.
 --
---   runs script                  it is any script
 --   has_meaning files script     each relation expression stands for a relation, and each stored name is assigned
 use Rattle.std.specs.Prelude.{Bool, true, ◌&&◌, List, [], ◌∷◌, is_some}
 use Rattle.rel_base.specs.Keys.{File}
@@ -8,10 +7,6 @@ use Rattle.myrial_ast.specs.Trees.{StatementTree}
 use Rattle.myrial_ast.specs.Trees as tree
 use Rattle.myrial_meaning.specs.Environments.{nothing_yet, assigned_to}
 use Rattle.myrial_meaning.specs.Meaning.{RelationEnvironment, relation_of, after}
-
--- whether the evaluator runs the script: it runs every one
-abbrev pub runs : List StatementTree → Bool
-runs script = true
 
 -- whether a statement stands for something
 abbrev pub is_defined : List File → RelationEnvironment → StatementTree → Bool

@@ -4,7 +4,7 @@ ghost use Rattle.myrial_ast.specs.Trees.{trees_of};
 ghost use Rattle.myrial_meaning.specs.Meaning.{stored_relations};
 ghost use Rattle.myrial_ast.specs.CandidateFaults.{Uncounted};
 ghost use Rattle.myrial_meaning.specs.Faults.{run_fault};
-ghost use Rattle.myrial_meaning.specs.Runnable.{runs, has_meaning};
+ghost use Rattle.myrial_meaning.specs.Runnable.{has_meaning};
 ghost use Rattle.myrial_meaning.specs.SortedFiles.{sorted_file};
 ghost use Rattle.myrial_meaning.specs.Evaluating.{IsFault};
 
@@ -19,7 +19,6 @@ use std::alloc::Global;
 /// Statements that no store needs are not run. Rows are lent and shared, and never copied for a combination; a
 /// comprehension of n rows and m rows takes time in n * m.
 pub fn evaluate<'a>(alloc: Global, script: &'a Script, files: &'a Files) -> Result<Stored, RunFault>
-    requires runs { IsTrue (runs (trees_of script.now)) }
     requires meaning { IsTrue (has_meaning files.now (trees_of script.now)) }
     ensures stored { IfOk result (λ stored. stored ≡ map sorted_file (stored_relations files.entry.now (trees_of script.entry.now))) }
     ensures no_fault { OnOk result (run_fault Uncounted files.entry.now (trees_of script.entry.now) ≡ None) }

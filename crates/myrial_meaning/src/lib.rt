@@ -29,14 +29,12 @@ mod loops;
 mod needed;
 mod needed_files;
 mod rules;
-mod stages;
 mod statements;
 
 pub use checking::has_meaning;
 pub use evaluating::evaluate;
 pub use laws::needed_statements_are_the_least_set;
 pub use needed_files::{Fetch, Fetches, fetched_keys};
-pub use stages::runs;
 
 #[cfg(test)]
 mod tests;
