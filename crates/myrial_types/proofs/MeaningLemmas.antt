@@ -1,5 +1,5 @@
 -- The steps of a script mean what the script means.
-use Rattle.std.proofs.Common.{◌≡◌, ◌∙◌, ℕ, ◌+◌, ◌<◌, ◌≤◌, ◌==◌, Bool, true, false, cond, find, fold, List, [], ◌∷◌, ◌++◌, length, map, reverse, refl, sym, ap, subst, arith, Option, Some, None}
+use Rattle.std.proofs.Common.{◌≡◌, ◌∙◌, ℕ, ◌+◌, ◌<◌, ◌≤◌, ◌==◌, Bool, true, false, ◌&&◌, cond, find, fold, List, [], ◌∷◌, ◌++◌, length, map, reverse, refl, sym, ap, subst, arith, Option, Some, None}
 use Rattle.std.specs.Prelude.{All, option_map, option_and_then, unwrap_or, slice_index_or, ⊤, Result, Ok, Err}
 use Rattle.std.specs.Option.{option_map_or, option_or, option_to_list}
 use Rattle.std.specs.Cmp.{second_so}
@@ -9,9 +9,10 @@ use Rattle.std.proofs.lemmas.Bool.Decides.{nat_tests}
 use Rattle.std.proofs.lemmas.List.{append_assoc, append-nil, map-append, reverse-append, reverse-reverse}
 use Rattle.std.proofs.lemmas.List.Elements.{All-nil, All-cons, All-head, All-tail, All-weaker}
 use Rattle.rel_base.specs.Each.{each_or_none, put_before}
-use Rattle.rel_base.specs.Keys.{File, same_key}
+use Rattle.rel_base.specs.Keys.{File, same_key, holds_key}
 use Rattle.rel_base.specs.Relations.{RelationState}
 use Rattle.rel_base.specs.declared.names.Key.{Key}
+use Rattle.rel_base.specs.declared.values.ColType.{ColType}
 use Rattle.myrial_ast.specs.declared.relations.FromItem.{FromItem}
 use Rattle.myrial_ast.specs.declared.relations.Operand.{Operand}
 use Rattle.myrial_ast.specs.declared.relations.Operand.TheVariants as operand
@@ -38,12 +39,12 @@ use Rattle.algebra.proofs.ShapeLemmas.{shape_of-listed}
 use Rattle.myrial_types.specs.declared.faults.TypeFault.{TypeFault}
 use Rattle.myrial_types.specs.declared.faults.TypeKind.{TypeKind}
 use Rattle.myrial_types.specs.declared.faults.TypeKind.TheVariants as fault
-use Rattle.myrial_types.specs.Fetching.{has_conflict, has_form}
-use Rattle.myrial_types.specs.Resolving.{Meant, MeantItem, Names, Typed, comprehension_term, file_meant, files_meant, item_meant, join_term, kinds_of_items, meant, of_one, of_two, schemas_of, sources_of, term_of}
+use Rattle.myrial_types.specs.Fetching.{are_fetched, has_conflict, has_columns, has_form, is_fetched}
+use Rattle.myrial_types.specs.Resolving.{Meant, MeantItem, Names, Typed, as_written, comprehension_term, file_meant, files_meant, item_meant, join_term, kinds_of_items, meant, of_one, of_two, schemas_of, sources_of, term_of}
 use Rattle.myrial_types.specs.Kinds.{first_kind, typing_kind}
-use Rattle.myrial_types.specs.Checking.{before, checked_from, checked_of, step_of, store_of, with_result}
+use Rattle.myrial_types.specs.Checking.{before, checked_from, checked_of, names_after, step_of, store_of, with_result, with_statement}
 use Rattle.myrial_types.specs.Laws.{StepsMeanTheScript}
-use Rattle.myrial_types.proofs.LoadLemmas.{AllFit, fit-append, fit-apart, loads-fit, written-columns}
+use Rattle.myrial_types.proofs.LoadLemmas.{AllFit, and-true, fit-append, fit-apart, loads-fit, written-columns}
 
 abbrev pub Results : Type 0
 Results = List (ℕ × RelationState)
