@@ -13,7 +13,7 @@ use Rattle.myrial_ast.specs.Trees.{Name, EmitTree, Tree}
 use Rattle.myrial_ast.specs.Trees as tree
 use Rattle.myrial_ast.specs.Scalars.{Scalar, Lit, At, Bin}
 use Rattle.myrial_scopes.specs.Scopes.{ItemSchema, ScopeColumn, has_doubled_alias, kind_of, place_of, places_of, scalar_of, scope_of}
-use Rattle.myrial_scopes.specs.Emits.{Emit, emits_of, schema_of}
+use Rattle.myrial_scopes.specs.Emits.{Emit, Resolved, emits_of, resolved, schema_of}
 
 -- ---- R as a (x int, y string), S as b (x bool)
 
@@ -126,3 +126,9 @@ pub schema-names : emitted_schema (tree.One (tree.Col (ref.ByPlace 2)) (Some (co
     ≡ Some (column (codes "z") kind.Bool ∷ column (codes "y") kind.Str ∷ column (codes "_COLUMN2_") kind.Str ∷ column (codes "_COLUMN3_") kind.Int ∷ [])
 unfolding digits
 schema-names = refl
+
+-- the aggregate of each emitted column, and its argument: `count(*)` counts rows, and `sum(b.x)` sums a column
+pub resolved-aggregates : option_map (λ (r : Resolved). (r.comprehension.aggregates, r.comprehension.emits))
+    (resolved two None (tree.AllOf (codes "b") ∷ tree.One (tree.AggAll agg.CountAll) None ∷ tree.One (tree.Agg agg.Sum (tree.Col (ref.ByPlace 0))) None ∷ []))
+    ≡ Some (None ∷ Some agg.CountAll ∷ Some agg.Sum ∷ [], At 2 ∷ Lit (value.Bool true) ∷ At 0 ∷ [])
+resolved-aggregates = refl
