@@ -20,6 +20,8 @@ mod receiving;
 mod routes;
 mod sending;
 mod stations;
+#[cfg(test)]
+mod tests;
 
 pub use exchanging::{Exchanged, Given, exchange};
 pub use routes::{Cells, Route, Size, Spreads};
