@@ -1,5 +1,5 @@
 //! Scripts built as trees, evaluated with ample memory.
-ghost use Rattle.std.specs.Prelude.{◌≡◌, [], ◌∷◌, IfOk, length};
+ghost use Rattle.std.specs.Prelude.{◌≡◌, [], ◌∷◌, IfOk};
 ghost use Rattle.rel_base.specs.declared.values.Value.TheVariants as value;
 ghost use Rattle.rel_base.specs.declared.values.ColType.TheVariants as kind;
 
@@ -101,12 +101,6 @@ fn store(alloc: Global, name: &str, key: &str) -> Result<Stmt, Memory> {
     Ok(Stmt::Store(Text::of(alloc, name)?, key_of(alloc, key)?))
 }
 
-/// `NAME = scan(KEY);`
-fn scan(alloc: Global, name: &str, key: &str) -> Result<Stmt, Memory> {
-    let key = key_of(alloc, key)?;
-    assign(alloc, name, RelExpr::Copy(Operand::Scan(key)))
-}
-
 /// What emits these two columns.
 fn emits(alloc: Global, first: (&str, &str), second: (&str, &str)) -> Result<EmitItems, Memory> {
     let mut emits = EmitItems::new(alloc);
@@ -116,25 +110,11 @@ fn emits(alloc: Global, first: (&str, &str), second: (&str, &str)) -> Result<Emi
 }
 
 /// `scan(R) as a, scan(R) as b`
-fn two_items(alloc: Global) -> Result<FromItems, Memory>
-    ensures { IfOk result (λ items. length items ≡ 2) }
-{
+fn two_items(alloc: Global) -> Result<FromItems, Memory> {
     let mut items = FromItems::new(alloc);
     items.push(item(alloc, "a")?)?;
     items.push(item(alloc, "b")?)?;
     Ok(items)
-}
-
-/// `[from scan(R) as a, scan(R) as b where condition emit a.first, b.second]`
-fn pairs_where(
-    alloc: Global,
-    condition: Option<Expr>,
-    first: &str,
-    second: &str,
-) -> Result<RelExpr, Memory> {
-    let items = two_items(alloc)?;
-    let emits = emits(alloc, ("a", first), ("b", second))?;
-    Ok(RelExpr::From(items, condition, emits))
 }
 
 /// `[from scan(R) as a, scan(R) as b where a.left = b.right emit a.first, b.second]`
@@ -146,7 +126,9 @@ fn join_on(
     second: &str,
 ) -> Result<RelExpr, Memory> {
     let condition = equality(alloc, ("a", left), ("b", right))?;
-    pairs_where(alloc, Some(condition), first, second)
+    let items = two_items(alloc)?;
+    let emits = emits(alloc, ("a", first), ("b", second))?;
+    Ok(RelExpr::From(items, Some(condition), emits))
 }
 
 /// The script of these two statements.
@@ -161,13 +143,6 @@ fn script_of(alloc: Global, first: Stmt, second: Stmt) -> Result<Script, Memory>
 fn stored_join(alloc: Global, relation: RelExpr) -> Result<Script, Memory> {
     let first = assign(alloc, "J", relation)?;
     let second = store(alloc, "J", "Out")?;
-    script_of(alloc, first, second)
-}
-
-/// `name = scan(from); store(name, to);`
-fn stored_scan(alloc: Global, name: &str, from: &str, to: &str) -> Result<Script, Memory> {
-    let first = scan(alloc, name, from)?;
-    let second = store(alloc, name, to)?;
     script_of(alloc, first, second)
 }
 
@@ -191,36 +166,6 @@ fn has_rows(alloc: Global, stored: &Stored, i: u32, pairs: &[(i64, i64)]) -> Res
     Ok(stored.get(i).1.rows() == wanted.rows())
 }
 
-/// `[.. where a.x = b.y and a.y = b.x emit a.x, b.y]`
-fn join_on_both(alloc: Global) -> Result<RelExpr, Memory> {
-    let first = equality(alloc, ("a", "x"), ("b", "y"))?;
-    let second = equality(alloc, ("a", "y"), ("b", "x"))?;
-    let condition = Expr::binary(alloc, BinOp::And, first, second)?;
-    pairs_where(alloc, Some(condition), "x", "y")
-}
-
-/// `[from scan(R) as a, scan(R) as b, scan(R) as c where a.y = b.x and b.y = c.x emit a.x, c.y]`
-fn chain_of_three(alloc: Global) -> Result<RelExpr, Memory> {
-    let mut items = two_items(alloc)?;
-    items.push(item(alloc, "c")?)?;
-    let first = equality(alloc, ("a", "y"), ("b", "x"))?;
-    let second = equality(alloc, ("b", "y"), ("c", "x"))?;
-    let condition = Expr::binary(alloc, BinOp::And, first, second)?;
-    let emits = emits(alloc, ("a", "x"), ("c", "y"))?;
-    Ok(RelExpr::From(items, Some(condition), emits))
-}
-
-#[test]
-fn a_row_is_listed_as_often_as_it_stands(rt: HostRuntime) -> Result<(), Fail> {
-    let alloc = rt.alloc();
-    let files = files_of(alloc, &[(7, 1), (7, 1), (7, 2), (4, 7), (5, 7)])?;
-    let script = stored_join(alloc, join_on(alloc, "x", "y", "y", "x")?)?;
-    let stored = evaluated(&rt, alloc, &script, &files)?;
-    let rows = [(1, 4), (1, 4), (1, 5), (1, 5), (2, 4), (2, 5)];
-    assert!(rt; has_rows(alloc, &stored, 0, &rows)?);
-    Ok(())
-}
-
 #[test]
 fn a_relation_is_joined_with_itself(rt: HostRuntime) -> Result<(), Fail> {
     let alloc = rt.alloc();
@@ -229,106 +174,6 @@ fn a_relation_is_joined_with_itself(rt: HostRuntime) -> Result<(), Fail> {
     let stored = evaluated(&rt, alloc, &script, &files)?;
     let rows = [(1, 3), (1, 3), (2, 1), (2, 1), (3, 2)];
     assert!(rt; has_rows(alloc, &stored, 0, &rows)?);
-    Ok(())
-}
-
-#[test]
-fn two_equalities_hold_together(rt: HostRuntime) -> Result<(), Fail> {
-    let alloc = rt.alloc();
-    let files = files_of(alloc, &[(2, 2), (1, 2), (1, 1)])?;
-    let script = stored_join(alloc, join_on_both(alloc)?)?;
-    let stored = evaluated(&rt, alloc, &script, &files)?;
-    assert!(rt; has_rows(alloc, &stored, 0, &[(1, 1), (2, 2)])?);
-    Ok(())
-}
-
-#[test]
-fn without_a_condition_every_pair_is_listed(rt: HostRuntime) -> Result<(), Fail> {
-    let alloc = rt.alloc();
-    let files = files_of(alloc, &[(2, 8), (1, 9)])?;
-    let script = stored_join(alloc, pairs_where(alloc, None, "x", "y")?)?;
-    let stored = evaluated(&rt, alloc, &script, &files)?;
-    let rows = [(1, 8), (1, 9), (2, 8), (2, 9)];
-    assert!(rt; has_rows(alloc, &stored, 0, &rows)?);
-    Ok(())
-}
-
-#[test]
-fn three_items_are_joined(rt: HostRuntime) -> Result<(), Fail> {
-    let alloc = rt.alloc();
-    let files = files_of(alloc, &[(1, 2), (2, 3), (3, 1)])?;
-    let script = stored_join(alloc, chain_of_three(alloc)?)?;
-    let stored = evaluated(&rt, alloc, &script, &files)?;
-    assert!(rt; has_rows(alloc, &stored, 0, &[(1, 1), (2, 2), (3, 3)])?);
-    Ok(())
-}
-
-/// `A = scan(R); store(A, K); B = scan(K); store(B, L);`
-fn scanned_again(alloc: Global) -> Result<Script, Memory> {
-    let mut script = stored_scan(alloc, "A", "R", "K")?;
-    if script.len() < 3 {
-        script.push(scan(alloc, "B", "K")?)?;
-        script.push(store(alloc, "B", "L")?)?;
-    }
-    Ok(script)
-}
-
-#[test]
-fn a_stored_key_is_scanned_again(rt: HostRuntime) -> Result<(), Fail> {
-    let alloc = rt.alloc();
-    let files = files_of(alloc, &[(2, 0), (1, 0)])?;
-    let script = scanned_again(alloc)?;
-    let stored = evaluated(&rt, alloc, &script, &files)?;
-    assert!(rt; has_rows(alloc, &stored, 0, &[(1, 0), (2, 0)])?);
-    assert!(rt; has_rows(alloc, &stored, 1, &[(1, 0), (2, 0)])?);
-    Ok(())
-}
-
-/// `A = scan(R); store(A, K); A = [..]; store(A, K);`
-fn assigned_anew(alloc: Global) -> Result<Script, Memory> {
-    let mut script = stored_scan(alloc, "A", "R", "K")?;
-    if script.len() < 3 {
-        script.push(assign(alloc, "A", join_on(alloc, "x", "x", "y", "x")?)?)?;
-        script.push(store(alloc, "A", "K")?)?;
-    }
-    Ok(script)
-}
-
-#[test]
-fn a_later_assignment_hides_an_earlier_one(rt: HostRuntime) -> Result<(), Fail> {
-    let alloc = rt.alloc();
-    let files = files_of(alloc, &[(1, 5), (2, 6)])?;
-    let script = assigned_anew(alloc)?;
-    let stored = evaluated(&rt, alloc, &script, &files)?;
-    assert!(rt; has_rows(alloc, &stored, 0, &[(1, 5), (2, 6)])?);
-    assert!(rt; has_rows(alloc, &stored, 1, &[(5, 1), (6, 2)])?);
-    Ok(())
-}
-
-/// 2,049 rows, of which there are more than 4,194,304 pairs.
-fn many_rows(alloc: Global) -> Result<Files, Memory> {
-    let pairs = vec![in alloc; (3, 4); 2_049]?;
-    files_of(alloc, &pairs)
-}
-
-/// `A = [..]; B = scan(R); store(B, Out);`, where no store needs A.
-fn unneeded_pairs(alloc: Global) -> Result<Script, Memory> {
-    let first = assign(alloc, "A", pairs_where(alloc, None, "x", "y")?)?;
-    let second = scan(alloc, "B", "R")?;
-    let mut script = script_of(alloc, first, second)?;
-    if script.len() < 3 {
-        script.push(store(alloc, "B", "Out")?)?;
-    }
-    Ok(script)
-}
-
-#[test]
-fn what_is_not_needed_is_not_run(rt: HostRuntime) -> Result<(), Fail> {
-    let alloc = rt.alloc();
-    let files = many_rows(alloc)?;
-    let script = unneeded_pairs(alloc)?;
-    let stored = evaluated(&rt, alloc, &script, &files)?;
-    assert_eq!(rt; stored.len(), 1);
     Ok(())
 }
 
