@@ -8,4 +8,7 @@ mod ClassesLemmas
 mod AssignLemmas
 mod ComprehensionLemmas
 mod CheckingLemmas
+mod ResolvedLemmas
+mod LoadLemmas
+mod MeaningLemmas
 mod WorkedRows
