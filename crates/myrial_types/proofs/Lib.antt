@@ -10,5 +10,10 @@ mod ComprehensionLemmas
 mod CheckingLemmas
 mod ResolvedLemmas
 mod LoadLemmas
+mod FollowLemmas
+mod ValueLemmas
 mod MeaningLemmas
+mod DefinedLemmas
+mod UsedLemmas
+mod FaultLemmas
 mod WorkedRows

@@ -134,8 +134,12 @@ later-fits files (m ∷ pre) l h none some =
         (subst (λ cs. list_all (λ (file : File). not (is_load_key m.0 file.0) || same_columns file.1.schema cs) files ≡ true) (sym columns) h.0)
     by false e f g rest = rest g
 
+-- each file that one of the loads is of has the columns of the first of them
+abbrev pub Forms : List File → List Load → Type 0
+Forms files all = list_all (λ (file : File). has_form (form_among all file.0) file.1) files ≡ true
+
 -- without conflicts all do
-pub loads-fit : (files : List File) (all : List Load) → list_all (λ (file : File). has_form (form_among all file.0) file.1) files ≡ true
+pub loads-fit : (files : List File) (all : List Load) → Forms files all
     → (loads pre rest : List Load) → all ≡ pre ++ (loads ++ rest) → AllFit files pre → has_conflict pre loads ≡ false → AllFit files loads
 loads-fit files all forms [] pre rest e h none = tt
 loads-fit files all forms (l ∷ loads) pre rest e h none =

@@ -45,285 +45,8 @@ use Rattle.myrial_types.specs.Kinds.{first_kind, typing_kind}
 use Rattle.myrial_types.specs.Checking.{before, checked_from, checked_of, names_after, step_of, store_of, with_result, with_statement}
 use Rattle.myrial_types.specs.Laws.{StepsMeanTheScript}
 use Rattle.myrial_types.proofs.LoadLemmas.{AllFit, and-true, fit-append, fit-apart, loads-fit, written-columns}
-
-abbrev pub Results : Type 0
-Results = List (ℕ × RelationState)
-
--- what a source stands for
-abbrev pub value_of : List File → Results → Source → RelationState
-value_of files results o = found no_relation (relations_of files) results o
-
--- the relation of what a name stands for
-abbrev pub table_of : List File → Results → Meant → RelationState
-table_of files results m = record { schema = m.schema; rows = (value_of files results m.source).rows }
-
--- under the same name or key
-abbrev pub named : {K : Type 0} → List File → Results → K × Meant → K × RelationState
-named files results p = (p.0, table_of files results p.1)
-
--- the relation of a term
-abbrev pub typed_table : List File → Results → Typed → RelationState
-typed_table files results t = record { schema = t.schema; rows = term_rows (λ o. (value_of files results o).rows) t.term }
-
--- ---- looking up
-
-find-map : {K : Type 0} (test : K → Bool) (f : Meant → RelationState) (xs : List (K × Meant))
-    → option_map (λ (p : K × RelationState). p.1) (find (λ p. test p.0) (map (λ (p : K × Meant). (p.0, f p.1)) xs))
-    ≡ option_map f (option_map (λ (p : K × Meant). p.1) (find (λ p. test p.0) xs))
-find-map test f [] = refl
-find-map {K} test f (x ∷ xs) = by (test x.0) (find-map test f xs)
-  where
-    by : (t : Bool)
-        → option_map (λ (p : K × RelationState). p.1) (find (λ p. test p.0) (map (λ (p : K × Meant). (p.0, f p.1)) xs)) ≡ option_map f (option_map (λ (p : K × Meant). p.1) (find (λ p. test p.0) xs))
-        → option_map (λ (p : K × RelationState). p.1) (cond t (Some (x.0, f x.1)) (find (λ p. test p.0) (map (λ (p : K × Meant). (p.0, f p.1)) xs)))
-        ≡ option_map f (option_map (λ (p : K × Meant). p.1) (cond t (Some x) (find (λ p. test p.0) xs)))
-    by true rest = refl
-    by false rest = rest
-
--- what is in the option, if something is, has the property
-abbrev pub IfAny : {X : Type 0} → (X → Type 0) → Option X → Type 0
-IfAny P None = ⊤
-IfAny P (Some x) = P x
-
-meant-All : {K : Type 0} (P : Meant → Type 0) (test : K → Bool) (xs : List (K × Meant)) → All (λ (p : K × Meant). P p.1) xs
-    → IfAny P (option_map (λ (p : K × Meant). p.1) (find (λ p. test p.0) xs))
-meant-All P test [] all = tt
-meant-All {K} P test (x ∷ xs) all = by (test x.0) (meant-All P test xs (All-tail (λ (p : K × Meant). P p.1) x xs all))
-  where
-    by : (t : Bool) → IfAny P (option_map (λ (p : K × Meant). p.1) (find (λ p. test p.0) xs))
-        → IfAny P (option_map (λ (p : K × Meant). p.1) (cond t (Some x) (find (λ p. test p.0) xs)))
-    by true rest = All-head (λ (p : K × Meant). P p.1) x xs all
-    by false rest = rest
-
--- ---- files
-
--- the file at a place, behind others
-behind : (front : List File) (f : File) (rest : List File) → slice_index_or (relations_of (front ++ f ∷ rest)) (length front) no_relation ≡ f.1
-behind [] f rest = refl
-behind (g ∷ front) f rest = behind front f rest
-
-length-pushed : (xs : List File) (x : File) → length (xs ++ x ∷ []) ≡ length xs + 1
-length-pushed [] x = refl
-length-pushed (y ∷ xs) x = omega (arith, length-pushed xs x)
-
-files-named : (results : Results) (files front rest : List File) → files ≡ front ++ rest
-    → map (named files results) (map file_meant (enumerate_from (length front) rest)) ≡ rest
-files-named results files front [] e = refl
-files-named results files front (f ∷ rest) e =
-    let here : slice_index_or (relations_of files) (length front) no_relation ≡ f.1 = ap (λ fs. slice_index_or (relations_of fs) (length front) no_relation) e ∙ behind front f rest in
-    let first : ◌≡◌ {A = File} (f.0, record { schema = f.1.schema; rows = (slice_index_or (relations_of files) (length front) no_relation).rows }) f =
-    ap (λ (t : RelationState). (f.0, record { schema = f.1.schema; rows = t.rows })) here in
-    let longer : length (front ++ f ∷ []) ≡ length front + 1 = length-pushed front f in
-    let later = files-named results files (front ++ f ∷ []) rest (e ∙ sym (append_assoc front (f ∷ []) rest)) in
-    ap (λ g. g ∷ map (named files results) (map file_meant (enumerate_from (length front + 1) rest))) first
-    ∙ ap (λ gs. f ∷ gs) (subst (λ n. map (named files results) (map file_meant (enumerate_from n rest)) ≡ rest) longer later)
-
--- ---- an environment and the names
-
--- the source is not one that is still to come
-abbrev pub IsBefore : ℕ → Source → Type 0
-IsBefore number (source.File place) = ⊤
-IsBefore number (source.Result other) = other < number
-
--- what it stands for is known, with its columns
-abbrev pub IsEarlier : List File → ℕ → Results → Meant → Type 0
-IsEarlier files number results m = IsBefore number m.source × ((value_of files results m.source).schema ≡ m.schema)
-
--- the names stand for what the environment gives them, so far
-pub record Agrees (files : List File) (number : ℕ) (results : Results) (env : RelationEnvironment) (names : Names) : Type 0 where
-  pub assigned : env.assigned ≡ map (named files results) names.assigned
-  pub stored : env.stored ≡ map (named files results) names.stored
-  pub earlier : All (λ (p : Name × Meant). IsEarlier files number results p.1) names.assigned
-  pub earlier_stored : All (λ (p : Key × Meant). IsEarlier files number results p.1) names.stored
-
-same-option : (o : Option Meant) → option_map (λ m. m) o ≡ o
-same-option None = refl
-same-option (Some m) = refl
-
-module _ (files : List File) (results : Results) (env : RelationEnvironment) (names : Names)
-    (assigned : env.assigned ≡ map (named files results) names.assigned) (stored : env.stored ≡ map (named files results) names.stored) where
-  assigned-means : (name : Name) → assigned_to env name ≡ option_map (table_of files results) (assigned_to names name)
-  assigned-means name =
-      ap (λ xs. option_map (λ (p : Name × RelationState). p.1) (find (λ p. same_name p.0 name) xs)) assigned
-      ∙ find-map (λ n. same_name n name) (table_of files results) names.assigned
-
-  all_files : map (named files results) (files_meant files) ≡ files
-  all_files = files-named results files [] files refl
-
-  known-means : (o : Operand) → operand_of files env o ≡ option_map (table_of files results) (operand_of (files_meant files) names o)
-  known-means (operand.Named name) = assigned-means name
-  known-means (operand.Scan key) =
-      let all : env.stored ++ files ≡ map (named files results) (names.stored ++ files_meant files) =
-      ap (λ xs. xs ++ files) stored ∙ ap (λ xs. map (named files results) names.stored ++ xs) (sym all_files)
-      ∙ sym (map-append (named files results) names.stored (files_meant files)) in
-      ap (λ xs. option_map (λ (p : Key × RelationState). p.1) (find (λ p. same_key p.0 key) xs)) all
-      ∙ find-map (λ k. same_key k key) (table_of files results) (names.stored ++ files_meant files)
-  known-means (operand.Load name schema skip) =
-      ap (λ xs. option_map (λ (p : File). p.1) (find (λ p. is_load_key name p.0) xs)) (sym all_files)
-      ∙ find-map (is_load_key name) (table_of files results) (files_meant files)
-
-  written-same : (o : Operand) → AllFit files (loads_of o) → meant files names o ≡ operand_of (files_meant files) names o
-  written-same (operand.Named name) h = same-option (operand_of (files_meant files) names (operand.Named name))
-  written-same (operand.Scan key) h = same-option (operand_of (files_meant files) names (operand.Scan key))
-  written-same (operand.Load name schema skip) h = written-columns name schema skip 0 files h.0
-
-  operand-means : (o : Operand) → AllFit files (loads_of o) → operand_of files env o ≡ option_map (table_of files results) (meant files names o)
-  operand-means o h = known-means o ∙ ap (option_map (table_of files results)) (sym (written-same o h))
-
-  -- ---- items
-
-  abbrev relation_in : MeantItem → ItemRelation
-  relation_in g = record { alias = g.alias; table = table_of files results g.meant }
-
-  item-means : (item : FromItem) → AllFit files (loads_of item.source) → item_relation files env item ≡ option_map relation_in (item_meant files names item)
-  item-means item h =
-      ap (λ o. option_map (λ (t : RelationState). let s : ItemRelation = record { alias = item.alias; table = t } in s) o) (operand-means item.source h) ∙ by (meant files names item.source)
-    where
-      by : (o : Option Meant) → option_map (λ (t : RelationState). let s : ItemRelation = record { alias = item.alias; table = t } in s) (option_map (table_of files results) o)
-          ≡ option_map (λ (g : MeantItem). let s : ItemRelation = record { alias = g.alias; table = table_of files results g.meant } in s) (option_map (λ m. let g : MeantItem = record { alias = item.alias; meant = m } in g) o)
-      by None = refl
-      by (Some m) = refl
-
-  items-mean : (items : List FromItem) → AllFit files (flat_map loads_of (map (λ (item : FromItem). item.source) items))
-      → each_or_none (item_relation files env) items ≡ option_map (map relation_in) (each_or_none (item_meant files names) items)
-  items-mean [] h = refl
-  items-mean (item ∷ items) h =
-      let parts = fit-apart files (loads_of item.source) (flat_map loads_of (map (λ (item : FromItem). item.source) items)) h in
-      ap (λ o. put_before o (each_or_none (item_relation files env) items)) (item-means item parts.0)
-      ∙ ap (λ o. put_before (option_map relation_in (item_meant files names item)) o) (items-mean items parts.1)
-      ∙ by (item_meant files names item) (each_or_none (item_meant files names) items)
-    where
-      by : (first : Option MeantItem) (rest : Option (List MeantItem))
-          → put_before (option_map (λ (g : MeantItem). let s : ItemRelation = record { alias = g.alias; table = table_of files results g.meant } in s) first) (option_map (map (λ (g : MeantItem). let s : ItemRelation = record { alias = g.alias; table = table_of files results g.meant } in s)) rest)
-          ≡ option_map (map (λ (g : MeantItem). let s : ItemRelation = record { alias = g.alias; table = table_of files results g.meant } in s)) (put_before first rest)
-      by None rest = refl
-      by (Some g) None = refl
-      by (Some g) (Some gs) = refl
-
-  items-same : (given : List MeantItem) → items_of (map relation_in given) ≡ schemas_of given
-  items-same [] = refl
-  items-same (g ∷ given) = ap (λ rest. record { alias = g.alias; schema = g.meant.schema } ∷ rest) (items-same given)
-
-  tables-same : (given : List MeantItem) → tables_of (map relation_in given) ≡ map (λ o. (value_of files results o).rows) (sources_of given)
-  tables-same [] = refl
-  tables-same (g ∷ given) = ap (λ rest. (value_of files results g.meant.source).rows ∷ rest) (tables-same given)
-
-  -- ---- relation expressions
-
-  join-means : (given : List MeantItem) (b : Resolved)
-      → comprehension_rows b (tables_of (map relation_in given)) ≡ term_rows (λ o. (value_of files results o).rows) (join_term (kinds_of_items given) (sources_of given) b.comprehension)
-  join-means given b = ap (comprehension_rows b) (tables-same given) ∙ by (map (λ o. (value_of files results o).rows) (sources_of given)) refl (has_aggregate b.comprehension.aggregates)
-    where
-      by : (rows : List Rows) → rows ≡ map (λ o. (value_of files results o).rows) (sources_of given) → (t : Bool)
-          → cond t (groups b.comprehension.aggregates (listed_rows b.comprehension (map (λ o. (value_of files results o).rows) (sources_of given)))) (listed_rows b.comprehension (map (λ o. (value_of files results o).rows) (sources_of given)))
-          ≡ term_rows (λ o. (value_of files results o).rows) (cond t (Group (shape_of (kinds_of_items given) b.comprehension) (sources_of given) b.comprehension.aggregates) (Join (shape_of (kinds_of_items given) b.comprehension) (sources_of given)))
-      by rows e true = ap (groups b.comprehension.aggregates) (sym (shape_of-listed (kinds_of_items given) b.comprehension (map (λ o. (value_of files results o).rows) (sources_of given))))
-      by rows e false = sym (shape_of-listed (kinds_of_items given) b.comprehension (map (λ o. (value_of files results o).rows) (sources_of given)))
-
-  comprehension-means : (given : List MeantItem) (condition : Option Tree) (emits : List EmitTree)
-      → comprehension_over (map relation_in given) condition emits ≡ option_map (typed_table files results) (comprehension_term given condition emits)
-  comprehension-means given condition emits =
-      ap (λ items. option_map (λ (b : Resolved). let t : RelationState = record { schema = b.schema; rows = comprehension_rows b (tables_of (map relation_in given)) } in t) (resolved (scope_of items) condition emits)) (items-same given)
-      ∙ by (resolved (scope_of (schemas_of given)) condition emits) (join-means given)
-    where
-      by : (o : Option Resolved)
-          → ((b : Resolved) → comprehension_rows b (tables_of (map (λ (g : MeantItem). let s : ItemRelation = record { alias = g.alias; table = table_of files results g.meant } in s) given)) ≡ term_rows (λ o. (value_of files results o).rows) (join_term (kinds_of_items given) (sources_of given) b.comprehension))
-          → option_map (λ (b : Resolved). let t : RelationState = record { schema = b.schema; rows = comprehension_rows b (tables_of (map (λ (g : MeantItem). let s : ItemRelation = record { alias = g.alias; table = table_of files results g.meant } in s) given)) } in t) o
-          ≡ option_map (typed_table files results) (option_map (λ (b : Resolved). let t : Typed = record { term = join_term (kinds_of_items given) (sources_of given) b.comprehension; schema = b.schema } in t) o)
-      by None same = refl
-      by (Some b) same = ap (λ rows. let t : RelationState = record { schema = b.schema; rows = rows } in Some t) (same b)
-
-  one-means : (f : Rows → Rows) (g : Source → TermTree) → ((o : Source) → term_rows (λ o. (value_of files results o).rows) (g o) ≡ f (value_of files results o).rows)
-      → (m : Option Meant) → meaning.of_one f (option_map (table_of files results) m) ≡ option_map (typed_table files results) (of_one g m)
-  one-means f g h None = refl
-  one-means f g h (Some m) = ap (λ rows. let t : RelationState = record { schema = m.schema; rows = rows } in Some t) (sym (h m.source))
-
-  two-means : (f : Rows → Rows → Rows) (g : Source → Source → TermTree)
-      → ((o p : Source) → term_rows (λ o. (value_of files results o).rows) (g o p) ≡ f (value_of files results o).rows (value_of files results p).rows)
-      → (m n : Option Meant) → meaning.of_two f (option_map (table_of files results) m) (option_map (table_of files results) n) ≡ option_map (typed_table files results) (of_two g m n)
-  two-means f g h None n = refl
-  two-means f g h (Some m) None = refl
-  two-means f g h (Some m) (Some n) = ap (λ rows. let t : RelationState = record { schema = m.schema; rows = rows } in Some t) (sym (h m.source n.source))
-
-  same-means : (m : Option Meant) → option_map (table_of files results) m ≡ option_map (typed_table files results) (of_one Same m)
-  same-means None = refl
-  same-means (Some m) = refl
-
-  term-means : (r : RelTree) → AllFit files (flat_map loads_of (operands_of r)) → relation_of files env r ≡ option_map (typed_table files results) (term_of files names r)
-  term-means (tree.Copy o) h = operand-means o (fit-apart files (loads_of o) [] h).0 ∙ same-means (meant files names o)
-  term-means (tree.Empty schema) h = refl
-  term-means (tree.Distinct o) h =
-      ap (meaning.of_one distinct) (operand-means o (fit-apart files (loads_of o) [] h).0) ∙ one-means distinct Distinct (λ p. refl) (meant files names o)
-  term-means (tree.UnionAll o p) h =
-      let parts = fit-apart files (loads_of o) (loads_of p ++ []) h in
-      ap (λ x. meaning.of_two union_all x (operand_of files env p)) (operand-means o parts.0)
-      ∙ ap (λ x. meaning.of_two union_all (option_map (table_of files results) (meant files names o)) x) (operand-means p (fit-apart files (loads_of p) [] parts.1).0)
-      ∙ two-means union_all UnionAll (λ a b. refl) (meant files names o) (meant files names p)
-  term-means (tree.Diff o p) h =
-      let parts = fit-apart files (loads_of o) (loads_of p ++ []) h in
-      ap (λ x. meaning.of_two difference x (operand_of files env p)) (operand-means o parts.0)
-      ∙ ap (λ x. meaning.of_two difference (option_map (table_of files results) (meant files names o)) x) (operand-means p (fit-apart files (loads_of p) [] parts.1).0)
-      ∙ two-means difference Diff (λ a b. refl) (meant files names o) (meant files names p)
-  term-means (tree.From items condition emits) h =
-      ap (λ o. option_and_then (λ given. comprehension_over given condition emits) o) (items-mean items h)
-      ∙ by (each_or_none (item_meant files names) items) (λ given. comprehension-means given condition emits)
-    where
-      by : (o : Option (List MeantItem))
-          → ((given : List MeantItem) → comprehension_over (map (λ (g : MeantItem). let s : ItemRelation = record { alias = g.alias; table = table_of files results g.meant } in s) given) condition emits ≡ option_map (typed_table files results) (comprehension_term given condition emits))
-          → option_and_then (λ given. comprehension_over given condition emits) (option_map (map (λ (g : MeantItem). let s : ItemRelation = record { alias = g.alias; table = table_of files results g.meant } in s)) o)
-          ≡ option_map (typed_table files results) (option_and_then (λ given. comprehension_term given condition emits) o)
-      by None means = refl
-      by (Some given) means = means given
-
--- ---- statements
-
--- a result more leaves what is earlier as it was
-unchanged : (files : List File) (number : ℕ) (results : Results) (t : RelationState) (o : Source) → IsBefore number o
-    → value_of files ((number, t) ∷ results) o ≡ value_of files results o
-unchanged files number results t (source.File place) h = refl
-unchanged files number results t (source.Result other) h = by (number == other) refl
-  where
-    by : (b : Bool) → (number == other) ≡ b
-        → unwrap_or (option_map (λ (r : ℕ × RelationState). r.1) (cond b (Some (number, t)) (find (λ r. r.0 == other) results))) no_relation
-        ≡ unwrap_or (option_map (λ (r : ℕ × RelationState). r.1) (find (λ r. r.0 == other) results)) no_relation
-    by true e = absurd (omega (arith, eqb-true number other e, h))
-    by false e = refl
-
-weaker : (number : ℕ) (o : Source) → IsBefore number o → IsBefore (number + 1) o
-weaker number (source.File place) h = tt
-weaker number (source.Result other) h = omega (arith, h)
-
-still-earlier : (files : List File) (number : ℕ) (results : Results) (t : RelationState) (m : Meant) → IsEarlier files number results m
-    → IsEarlier files (number + 1) ((number, t) ∷ results) m
-still-earlier files number results t m h =
-    (weaker number m.source h.0, ap (λ (x : RelationState). x.schema) (unchanged files number results t m.source h.0) ∙ h.1)
-
-named-same : {K : Type 0} (files : List File) (number : ℕ) (results : Results) (t : RelationState) (xs : List (K × Meant))
-    → All (λ (p : K × Meant). IsEarlier files number results p.1) xs → map (named files results) xs ≡ map (named files ((number, t) ∷ results)) xs
-named-same files number results t [] all = refl
-named-same {K} files number results t (x ∷ xs) all =
-    let P : K × Meant → Type 0 = λ p. IsEarlier files number results p.1 in
-    let rest = named-same files number results t xs (All-tail P x xs all) in
-    let here = unchanged files number results t x.1.source (All-head P x xs all).0 in
-    ap (λ (v : RelationState). (x.0, record { schema = x.1.schema; rows = v.rows }) ∷ map (named files results) xs) (sym here)
-    ∙ ap (λ ys. named files ((number, t) ∷ results) x ∷ ys) rest
-
--- nothing is assigned
-with_nothing : (files : List File) (number : ℕ) (results : Results) (env : RelationEnvironment) (names : Names)
-    → Agrees files number results env names → Agrees files (number + 1) results env names
-with_nothing files number results env names a = record {
-  assigned = a.assigned;
-  stored = a.stored;
-  earlier = All-weaker (λ (p : Name × Meant). IsEarlier files number results p.1) (λ (p : Name × Meant). IsEarlier files (number + 1) results p.1) (λ p h. (weaker number p.1.source h.0, h.1)) names.assigned a.earlier;
-  earlier_stored = All-weaker (λ (p : Key × Meant). IsEarlier files number results p.1) (λ (p : Key × Meant). IsEarlier files (number + 1) results p.1) (λ p h. (weaker number p.1.source h.0, h.1)) names.stored a.earlier_stored;
-}
-
-newest : (files : List File) (number : ℕ) (results : Results) (t : RelationState) → value_of files ((number, t) ∷ results) (source.Result number) ≡ t
-newest files number results t = by (number == number) (grind (arith, nat_tests))
-  where
-    by : (b : Bool) → b ≡ true → unwrap_or (option_map (λ (r : ℕ × RelationState). r.1) (cond b (Some (number, t)) (find (λ r. r.0 == number) results))) no_relation ≡ t
-    by true e = refl
-    by false e = cc
+use Rattle.myrial_types.proofs.ValueLemmas.{Results, value_of, table_of, typed_table, IsBefore, IsEarlier, Agrees, meant-All, IfAny, assigned-means, term-means, with_nothing, unchanged, weaker, assigned-agrees, stored-agrees, none-agree}
+use Rattle.myrial_types.proofs.FollowLemmas.{Follows, at_end, a_nothing, an_assignment, a_store, later-steps, typed-follows}
 
 -- what the steps come to after these results
 abbrev finally : List File → Results → List StepTree → Results
@@ -346,206 +69,49 @@ abbrev stores_of : List File → Results → List StoreStep → List File
 stores_of files last stores = map (λ (s : StoreStep). (s.key, value_of files last s.source)) stores
 
 -- the rest of a script, with its names resolved, stores what the rest of the script stores
-record Means (files : List File) (number : ℕ) (results : Results) (env : RelationEnvironment) (script : List StatementTree) (c : CheckedTree) : Type 0 where
-  later : All (λ (s : StepTree). number ≤ s.statement) c.steps
-  stored : (fold (after files) env script).stored ≡ reverse (stores_of files (finally files results c.steps) c.stores) ++ env.stored
+abbrev Means : List File → Results → RelationEnvironment → List StatementTree → CheckedTree → Type 0
+Means files results env script c =
+    (fold (after files) env script).stored ≡ reverse (stores_of files (finally files results c.steps) c.stores) ++ env.stored
 
--- where the rest is typed
-abbrev IfTyped : (CheckedTree → Type 0) → Result CheckedTree TypeFault → Type 0
-IfTyped P (Ok c) = P c
-IfTyped P (Err fault) = ⊤
-
-module _ (files : List File) (number : ℕ) (results : Results) (env : RelationEnvironment) (names : Names) (a : Agrees files number results env names) where
-  -- a name more, for a statement's result
-  assigned-agrees : (name : Name) (t : Typed) → let made : RelationState = typed_table files results t in
-      Agrees files (number + 1) ((number, made) ∷ results) (with_name env name made) (with_result number names name t)
-  assigned-agrees name t =
-      let made : RelationState = typed_table files results t in
-      let new = newest files number results made in
-      let m : Meant = record { source = source.Result number; schema = t.schema } in
-      record {
-        assigned =
-            ap (λ (v : RelationState). (name, record { schema = t.schema; rows = v.rows }) ∷ env.assigned) (sym new)
-            ∙ ap (λ xs. named files ((number, made) ∷ results) (name, m) ∷ xs) (a.assigned ∙ named-same files number results made names.assigned a.earlier);
-        stored = a.stored ∙ named-same files number results made names.stored a.earlier_stored;
-        earlier =
-            All-cons (λ (p : Name × Meant). IsEarlier files (number + 1) ((number, made) ∷ results) p.1) (name, m) names.assigned
-            (omega arith, ap (λ (v : RelationState). v.schema) new)
-            (All-weaker (λ (p : Name × Meant). IsEarlier files number results p.1) (λ (p : Name × Meant). IsEarlier files (number + 1) ((number, made) ∷ results) p.1)
-            (λ p h. still-earlier files number results made p.1 h) names.assigned a.earlier);
-        earlier_stored =
-            All-weaker (λ (p : Key × Meant). IsEarlier files number results p.1) (λ (p : Key × Meant). IsEarlier files (number + 1) ((number, made) ∷ results) p.1)
-            (λ p h. still-earlier files number results made p.1 h) names.stored a.earlier_stored;
-      }
-
-  -- a stored key more
-  stored-agrees : (key : Key) (m : Meant) → IsEarlier files number results m
-      → Agrees files (number + 1) results (with_key env key (table_of files results m)) (with_key names key m)
-  stored-agrees key m h =
-      let next = with_nothing files number results env names a in
-      record {
-        assigned = a.assigned;
-        stored = ap (λ xs. named files results (key, m) ∷ xs) a.stored;
-        earlier = next.earlier;
-        earlier_stored = All-cons (λ (p : Key × Meant). IsEarlier files (number + 1) results p.1) (key, m) names.stored (weaker number m.source h.0, h.1) next.earlier_stored;
-      }
-
-  later-still : (c : CheckedTree) → All (λ (s : StepTree). number + 1 ≤ s.statement) c.steps → All (λ (s : StepTree). number ≤ s.statement) c.steps
-  later-still c h = All-weaker (λ (s : StepTree). number + 1 ≤ s.statement) (λ (s : StepTree). number ≤ s.statement) (λ s l. omega (arith, l)) c.steps h
-
-  -- an assignment before the rest
-  assigned-Means : (name : Name) (r : RelTree) (rest : List StatementTree) (t : Typed) (c : CheckedTree)
-      → relation_of files env r ≡ Some (typed_table files results t)
-      → Means files (number + 1) ((number, typed_table files results t) ∷ results) (with_name env name (typed_table files results t)) rest c
-      → Means files number results env (tree.Assign name r ∷ rest) (record { steps = step_of number t ∷ c.steps; stores = c.stores })
-  assigned-Means name r rest t c e m = record {
-    later = All-cons (λ (s : StepTree). number ≤ s.statement) (step_of number t) c.steps (omega arith) (later-still c m.later);
-    stored = ap (λ o. (fold (after files) (option_map_or (with_name env name) o env) rest).stored) e ∙ m.stored;
-  }
-
-  skipped-Means : (name : Name) (r : RelTree) (rest : List StatementTree) (c : CheckedTree) → relation_of files env r ≡ None
-      → Means files (number + 1) results env rest c → Means files number results env (tree.Assign name r ∷ rest) c
-  skipped-Means name r rest c e m = record {
-    later = later-still c m.later;
-    stored = ap (λ o. (fold (after files) (option_map_or (with_name env name) o env) rest).stored) e ∙ m.stored;
-  }
-
+module _ (files : List File) (number : ℕ) (results : Results) (env : RelationEnvironment) where
+  -- a store before the rest
   store-Means : (name : Name) (key : Key) (rest : List StatementTree) (m : Meant) (c : CheckedTree)
-      → assigned_to env name ≡ Some (table_of files results m) → IsEarlier files number results m
-      → Means files (number + 1) results (with_key env key (table_of files results m)) rest c
-      → Means files number results env (tree.Store name key ∷ rest) (record { steps = c.steps; stores = store_of number key m ∷ c.stores })
-  store-Means name key rest m c e h n =
+      → assigned_to env name ≡ Some (table_of files results m) → IsEarlier files number results m → All (λ (s : StepTree). number ≤ s.statement) c.steps
+      → Means files results (with_key env key (table_of files results m)) rest c
+      → Means files results env (tree.Store name key ∷ rest) (record { steps = c.steps; stores = store_of number key m ∷ c.stores })
+  store-Means name key rest m c e h later n =
       let last = finally files results c.steps in
-      let later = later-still c n.later in
       let here : value_of files last m.source ≡ table_of files results m =
       kept files number m.source h.0 c.steps later results ∙ ap (λ columns. record { schema = columns; rows = (value_of files results m.source).rows }) h.1 in
-      record {
-        later = later;
-        stored =
-            ap (λ o. (fold (after files) (option_map_or (with_key env key) o env) rest).stored) e
-            ∙ n.stored
-            ∙ ap (λ (v : RelationState). reverse (stores_of files last c.stores) ++ (key, v) ∷ env.stored) (sym here)
-            ∙ sym (append_assoc (reverse (stores_of files last c.stores)) ((key, value_of files last m.source) ∷ []) env.stored)
-            ∙ ap (λ xs. xs ++ env.stored) (sym (reverse-append ((key, value_of files last m.source) ∷ []) (stores_of files last c.stores)));
-      }
+      ap (λ o. (fold (after files) (option_map_or (with_key env key) o env) rest).stored) e
+      ∙ n
+      ∙ ap (λ (v : RelationState). reverse (stores_of files last c.stores) ++ (key, v) ∷ env.stored) (sym here)
+      ∙ sym (append_assoc (reverse (stores_of files last c.stores)) ((key, value_of files last m.source) ∷ []) env.stored)
+      ∙ ap (λ xs. xs ++ env.stored) (sym (reverse-append ((key, value_of files last m.source) ∷ []) (stores_of files last c.stores)))
 
-  unstored-Means : (name : Name) (key : Key) (rest : List StatementTree) (c : CheckedTree) → assigned_to env name ≡ None
-      → Means files (number + 1) results env rest c → Means files number results env (tree.Store name key ∷ rest) c
-  unstored-Means name key rest c e m = record {
-    later = later-still c m.later;
-    stored = ap (λ o. (fold (after files) (option_map_or (with_key env key) o env) rest).stored) e ∙ m.stored;
-  }
-
--- a statement without a kind has no conflict
-no-conflict : (typing : Option TypeKind) (b : Bool) → option_or typing (cond b (Some fault.LoadConflict) None) ≡ None → b ≡ false
-no-conflict (Some k) b e = cc
-no-conflict None true e = cc
-no-conflict None false e = refl
-
-module _ (files : List File) (all : List Load) (forms : list_all (λ (file : File). has_form (option_map (λ (l : Load). l.1) (find (λ (l : Load). is_load_key l.0 file.0) all)) file.1) files ≡ true) where
-  -- the loads of a statement that is typed fit the files
-  own-fit : (names : Names) (earlier : List Load) (name : Name) (r : RelTree) (rest : List Load) → all ≡ earlier ++ (loads_in (tree.Assign name r) ++ rest)
-      → AllFit files earlier → first_kind files names earlier (tree.Assign name r) ≡ None → AllFit files (loads_in (tree.Assign name r))
-  own-fit names earlier name r rest e h none =
-      loads-fit files all forms (loads_in (tree.Assign name r)) earlier rest e h
-      (no-conflict (typing_kind files names r) (has_conflict earlier (loads_in (tree.Assign name r))) none)
-
-  rest-Means : (script : List StatementTree) (number : ℕ) (results : Results) (env : RelationEnvironment) (names : Names) (earlier : List Load)
-      → all ≡ earlier ++ flat_map loads_in script → AllFit files earlier → Agrees files number results env names
-      → IfTyped (Means files number results env script) (checked_from files number names earlier script)
-  rest-Means [] number results env names earlier e h a = record { later = All-nil (λ (s : StepTree). number ≤ s.statement); stored = refl }
-  rest-Means (tree.Nothing ∷ rest) number results env names earlier e h a =
-      by (checked_from files (number + 1) names (earlier ++ []) rest)
-      (rest-Means rest (number + 1) results env names (earlier ++ []) (e ∙ ap (λ front. front ++ flat_map loads_in rest) (sym (append-nil earlier)))
-      (fit-append files earlier [] h tt) (with_nothing files number results env names a))
-    where
-      by : (o : Result CheckedTree TypeFault) → IfTyped (Means files (number + 1) results env rest) o
-          → IfTyped (Means files number results env (tree.Nothing ∷ rest)) (before number None (λ c. c) o)
-      by (Err f) m = tt
-      by (Ok c) m = record { later = later-still files number results env names a c m.later; stored = m.stored }
-  rest-Means (tree.Assign name r ∷ rest) number results env names earlier e h a =
-      by (first_kind files names earlier (tree.Assign name r)) refl (term_of files names r) refl
-      (λ fit (t : Typed). rest-Means rest (number + 1) ((number, typed_table files results t) ∷ results) (with_name env name (typed_table files results t))
-      (with_result number names name t) (earlier ++ loads_in (tree.Assign name r)) (e ∙ sym (append_assoc earlier (loads_in (tree.Assign name r)) (flat_map loads_in rest)))
-      (fit-append files earlier (loads_in (tree.Assign name r)) h fit) (assigned-agrees files number results env names a name t))
-      (λ fit. rest-Means rest (number + 1) results env names (earlier ++ loads_in (tree.Assign name r)) (e ∙ sym (append_assoc earlier (loads_in (tree.Assign name r)) (flat_map loads_in rest)))
-      (fit-append files earlier (loads_in (tree.Assign name r)) h fit) (with_nothing files number results env names a))
-    where
-      some : (t : Typed) → relation_of files env r ≡ Some (typed_table files results t) → (o : Result CheckedTree TypeFault)
-          → IfTyped (Means files (number + 1) ((number, typed_table files results t) ∷ results) (with_name env name (typed_table files results t)) rest) o
-          → IfTyped (Means files number results env (tree.Assign name r ∷ rest)) (before number None (λ c. record { steps = step_of number t ∷ c.steps; stores = c.stores }) o)
-      some t k (Err f) m = tt
-      some t k (Ok c) m = assigned-Means files number results env names a name r rest t c k m
-
-      none : relation_of files env r ≡ None → (o : Result CheckedTree TypeFault) → IfTyped (Means files (number + 1) results env rest) o
-          → IfTyped (Means files number results env (tree.Assign name r ∷ rest)) (before number None (λ c. record { steps = c.steps; stores = c.stores }) o)
-      none k (Err f) m = tt
-      none k (Ok c) m = skipped-Means files number results env names a name r rest c k m
-
-      by : (kind : Option TypeKind) → first_kind files names earlier (tree.Assign name r) ≡ kind → (o : Option Typed) → term_of files names r ≡ o
-          → (AllFit files (loads_in (tree.Assign name r)) → (t : Typed)
-          → IfTyped (Means files (number + 1) ((number, typed_table files results t) ∷ results) (with_name env name (typed_table files results t)) rest)
-          (checked_from files (number + 1) (with_result number names name t) (earlier ++ loads_in (tree.Assign name r)) rest))
-          → (AllFit files (loads_in (tree.Assign name r)) → IfTyped (Means files (number + 1) results env rest) (checked_from files (number + 1) names (earlier ++ loads_in (tree.Assign name r)) rest))
-          → IfTyped (Means files number results env (tree.Assign name r ∷ rest))
-          (before number kind (λ rest. record { steps = option_to_list (option_map (step_of number) o) ++ rest.steps; stores = rest.stores })
-          (checked_from files (number + 1) (option_map_or (with_result number names name) o names) (earlier ++ loads_in (tree.Assign name r)) rest))
-      by (Some k) ke o te one other = tt
-      by None ke (Some t) te one other =
-          let fit = own-fit names earlier name r (flat_map loads_in rest) e h ke in
-          some t (term-means files results env names a.assigned a.stored r fit ∙ ap (option_map (typed_table files results)) te)
-          (checked_from files (number + 1) (with_result number names name t) (earlier ++ loads_in (tree.Assign name r)) rest) (one fit t)
-      by None ke None te one other =
-          let fit = own-fit names earlier name r (flat_map loads_in rest) e h ke in
-          none (term-means files results env names a.assigned a.stored r fit ∙ ap (option_map (typed_table files results)) te)
-          (checked_from files (number + 1) names (earlier ++ loads_in (tree.Assign name r)) rest) (other fit)
-  rest-Means (tree.Store name key ∷ rest) number results env names earlier e h a =
-      by (first_kind files names earlier (tree.Store name key)) (assigned_to names name) (assigned-means files results env names a.assigned a.stored name)
-      (meant-All (IsEarlier files number results) (λ n. same_name n name) names.assigned a.earlier)
-      (λ (m : Meant) early. rest-Means rest (number + 1) results (with_key env key (table_of files results m)) (with_key names key m) (earlier ++ [])
-      (e ∙ ap (λ front. front ++ flat_map loads_in rest) (sym (append-nil earlier))) (fit-append files earlier [] h tt) (stored-agrees files number results env names a key m early))
-      (rest-Means rest (number + 1) results env names (earlier ++ []) (e ∙ ap (λ front. front ++ flat_map loads_in rest) (sym (append-nil earlier)))
-      (fit-append files earlier [] h tt) (with_nothing files number results env names a))
-    where
-      some : (m : Meant) → assigned_to env name ≡ Some (table_of files results m) → IsEarlier files number results m → (o : Result CheckedTree TypeFault)
-          → IfTyped (Means files (number + 1) results (with_key env key (table_of files results m)) rest) o
-          → IfTyped (Means files number results env (tree.Store name key ∷ rest)) (before number None (λ c. record { steps = c.steps; stores = store_of number key m ∷ c.stores }) o)
-      some m k early (Err f) n = tt
-      some m k early (Ok c) n = store-Means files number results env names a name key rest m c k early n
-
-      none : assigned_to env name ≡ None → (o : Result CheckedTree TypeFault) → IfTyped (Means files (number + 1) results env rest) o
-          → IfTyped (Means files number results env (tree.Store name key ∷ rest)) (before number None (λ c. record { steps = c.steps; stores = c.stores }) o)
-      none k (Err f) n = tt
-      none k (Ok c) n = unstored-Means files number results env names a name key rest c k n
-
-      by : (kind : Option TypeKind) (o : Option Meant) → assigned_to env name ≡ option_map (table_of files results) o → IfAny (IsEarlier files number results) o
-          → ((m : Meant) → IsEarlier files number results m
-          → IfTyped (Means files (number + 1) results (with_key env key (table_of files results m)) rest) (checked_from files (number + 1) (with_key names key m) (earlier ++ []) rest))
-          → IfTyped (Means files (number + 1) results env rest) (checked_from files (number + 1) names (earlier ++ []) rest)
-          → IfTyped (Means files number results env (tree.Store name key ∷ rest))
-          (before number kind (λ rest. record { steps = rest.steps; stores = option_to_list (option_map (store_of number key) o) ++ rest.stores })
-          (checked_from files (number + 1) (option_map_or (with_key names key) o names) (earlier ++ []) rest))
-      by (Some k) o oe early one other = tt
-      by None (Some m) oe early one other = some m oe early (checked_from files (number + 1) (with_key names key m) (earlier ++ []) rest) (one m early)
-      by None None oe early one other = none oe (checked_from files (number + 1) names (earlier ++ []) rest) other
-
--- a whole script
-whole-Means : (files : List File) (script : List StatementTree) (d : CheckedTree) → Means files 1 [] nothing_yet script d → stored_by files d ≡ stored_relations files script
-whole-Means files script d m =
-    sym (reverse-reverse (stores_of files (finally files [] d.steps) d.stores))
-    ∙ ap reverse (sym (append-nil (reverse (stores_of files (finally files [] d.steps) d.stores))))
-    ∙ ap reverse (sym m.stored)
+means : (files : List File) (number : ℕ) (names : Names) (script : List StatementTree) (c : CheckedTree) → Follows files number names script c
+    → (results : Results) (env : RelationEnvironment) → Agrees files number results env names → Means files results env script c
+means files _ _ _ _ (at_end number names) results env a = refl
+means files _ _ _ _ (a_nothing number names rest c f) results env a =
+    means files (number + 1) names rest c f results env (with_nothing files number results env names a)
+means files _ _ _ _ (an_assignment number names name r rest t c typed fit e f) results env a =
+    let made : RelationState = typed_table files results t in
+    ap (λ o. (fold (after files) (option_map_or (with_name env name) o env) rest).stored)
+    (term-means files results env names a.assigned a.stored r fit ∙ ap (option_map (typed_table files results)) e)
+    ∙ means files (number + 1) (with_result number names name t) rest c f ((number, made) ∷ results) (with_name env name made)
+    (assigned-agrees files number results env names a name t)
+means files _ _ _ _ (a_store number names name key rest m c e f) results env a =
+    let early : IfAny (IsEarlier files number results) (Some m) =
+    subst (IfAny (IsEarlier files number results)) e (meant-All (IsEarlier files number results) (λ n. same_name n name) names.assigned a.earlier) in
+    store-Means files number results env name key rest m c
+    (assigned-means files results env names a.assigned a.stored name ∙ ap (option_map (table_of files results)) e) early
+    (later-steps files number names (tree.Store name key ∷ rest) (record { steps = c.steps; stores = store_of number key m ∷ c.stores }) (a_store number names name key rest m c e f))
+    (means files (number + 1) (with_key names key m) rest c f results (with_key env key (table_of files results m))
+    (stored-agrees files number results env names a key m early))
 
 pub steps_mean_the_script : StepsMeanTheScript
-steps_mean_the_script files script c fetched typed =
-    let forms : list_all (λ (file : File). has_form (form_in script file.0) file.1) files ≡ true = second_so _ _ fetched in
-    by (checked_of files script) typed (rest-Means files (flat_map loads_in script) forms script 1 [] nothing_yet nothing_yet [] refl tt (record {
-      assigned = refl;
-      stored = refl;
-      earlier = All-nil (λ (p : Name × Meant). IsEarlier files 1 [] p.1);
-      earlier_stored = All-nil (λ (p : Key × Meant). IsEarlier files 1 [] p.1);
-    }))
-  where
-    by : (o : Result CheckedTree TypeFault) → o ≡ Ok c → IfTyped (Means files 1 [] nothing_yet script) o → stored_by files c ≡ stored_relations files script
-    by (Err f) k m = cc
-    by (Ok d) k m = let same : d ≡ c = cc in ap (stored_by files) (sym same) ∙ whole-Means files script d m
+steps_mean_the_script files script c forms typed =
+    let last = finally files [] c.steps in
+    sym (reverse-reverse (stores_of files last c.stores))
+    ∙ ap reverse (sym (append-nil (reverse (stores_of files last c.stores))))
+    ∙ ap reverse (sym (means files 1 nothing_yet script c (typed-follows files script c forms typed) [] nothing_yet (none-agree files)))
