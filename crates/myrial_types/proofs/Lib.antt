@@ -16,4 +16,6 @@ mod MeaningLemmas
 mod DefinedLemmas
 mod UsedLemmas
 mod FaultLemmas
+mod ScalarKindLemmas
+mod FormedLemmas
 mod WorkedRows

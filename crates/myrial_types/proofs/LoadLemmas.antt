@@ -3,6 +3,7 @@ use Rattle.std.proofs.Common.{◌≡◌, ◌∙◌, ℕ, ◌+◌, ◌==◌, Bool
 use Rattle.std.specs.Prelude.{option_map, ⊤}
 use Rattle.std.specs.List.{enumerate_from, list_any, list_all, flat_map}
 use Rattle.std.proofs.lemmas.List.{append_assoc}
+use Rattle.std.proofs.lemmas.Bool.{and_from, and_parts, or_parts}
 use Rattle.rel_base.specs.Keys.{File}
 use Rattle.rel_base.specs.Relations.{same_type}
 use Rattle.rel_base.specs.declared.names.Key.{Key}
@@ -19,23 +20,9 @@ use Rattle.algebra.specs.declared.terms.Source.TheVariants as source
 use Rattle.myrial_types.specs.Fetching.{same_columns, same_form, contradicts, has_conflict, has_form}
 use Rattle.myrial_types.specs.Resolving.{Meant, file_meant}
 
--- ---- truths
-
-or-false : (a b : Bool) → (a || b) ≡ false → (a ≡ false) × (b ≡ false)
-or-false true b e = cc
-or-false false b e = (refl, e)
-
-pub and-true : (a b : Bool) → (a && b) ≡ true → (a ≡ true) × (b ≡ true)
-and-true true b e = (refl, e)
-and-true false b e = cc
-
-both-true : (a b : Bool) → a ≡ true → b ≡ true → (a && b) ≡ true
-both-true true b e f = f
-both-true false b e f = cc
-
 -- ---- columns
 
-same_type-equal : (a b : ColType) → same_type a b ≡ true → a ≡ b
+pub same_type-equal : (a b : ColType) → same_type a b ≡ true → a ≡ b
 same_type-equal kind.Int kind.Int e = refl
 same_type-equal kind.Str kind.Str e = refl
 same_type-equal kind.Bool kind.Bool e = refl
@@ -51,8 +38,8 @@ same_columns-equal [] [] e = refl
 same_columns-equal [] (y ∷ ys) e = cc
 same_columns-equal (x ∷ xs) [] e = cc
 same_columns-equal (x ∷ xs) (y ∷ ys) e =
-    let parts = and-true (same_name x.name y.name && same_type x.kind y.kind) (same_columns xs ys) e in
-    let one = and-true (same_name x.name y.name) (same_type x.kind y.kind) parts.0 in
+    let parts = and_parts (same_name x.name y.name && same_type x.kind y.kind) (same_columns xs ys) e in
+    let one = and_parts (same_name x.name y.name) (same_type x.kind y.kind) parts.0 in
     ap (λ n. let c : Column = record { name = n; kind = x.kind } in c ∷ xs) (same_name-equal x.name y.name one.0)
     ∙ ap (λ k. let c : Column = record { name = y.name; kind = k } in c ∷ xs) (same_type-equal x.kind y.kind one.1)
     ∙ ap (λ rest. y ∷ rest) (same_columns-equal xs ys parts.1)
@@ -61,7 +48,7 @@ same_columns-equal (x ∷ xs) (y ∷ ys) e =
 
 load-name : (name : Name) (key : Key) → is_load_key name key ≡ true → key.name ≡ name
 load-name name key e =
-    same_name-equal key.name name (and-true (length key.user == 0 && length key.program == 0) (same_name key.name name) e).1
+    same_name-equal key.name name (and_parts (length key.user == 0 && length key.program == 0) (same_name key.name name) e).1
 
 one-name : (a b : Name) (key : Key) → is_load_key a key ≡ true → is_load_key b key ≡ true → same_name a b ≡ true
 one-name a b key e f =
@@ -94,7 +81,7 @@ find-first : (pre : List Load) (l : Load) (rest : List Load) (key : Key) → is_
     → find (λ (m : Load). is_load_key m.0 key) (pre ++ l ∷ rest) ≡ Some l
 find-first [] l rest key e none = ap (λ t. cond t (Some l) (find (λ (m : Load). is_load_key m.0 key) rest)) e
 find-first (m ∷ pre) l rest key e none =
-    let apart = or-false (same_name l.0 m.0) (list_any (λ (m : Load). same_name l.0 m.0) pre) none in
+    let apart = or_parts (same_name l.0 m.0) (list_any (λ (m : Load). same_name l.0 m.0) pre) none in
     by (is_load_key m.0 key) refl apart.0 (find-first pre l rest key e apart.1)
   where
     by : (t : Bool) → is_load_key m.0 key ≡ t → same_name l.0 m.0 ≡ false → find (λ (m : Load). is_load_key m.0 key) (pre ++ l ∷ rest) ≡ Some l
@@ -106,8 +93,8 @@ first-fits : (files : List File) (all pre : List Load) (l : Load) (rest : List L
     → list_all (λ (file : File). has_form (form_among all file.0) file.1) files ≡ true → Fits files l
 first-fits [] all pre l rest e none h = refl
 first-fits (file ∷ files) all pre l rest e none h =
-    let parts = and-true (has_form (form_among all file.0) file.1) (list_all (λ (file : File). has_form (form_among all file.0) file.1) files) h in
-    both-true (fits l file) (list_all (fits l) files) (by (is_load_key l.0 file.0) refl parts.0) (first-fits files all pre l rest e none parts.1)
+    let parts = and_parts (has_form (form_among all file.0) file.1) (list_all (λ (file : File). has_form (form_among all file.0) file.1) files) h in
+    and_from (fits l file) (list_all (fits l) files) (by (is_load_key l.0 file.0) refl parts.0) (first-fits files all pre l rest e none parts.1)
   where
     by : (t : Bool) → is_load_key l.0 file.0 ≡ t → has_form (form_among all file.0) file.1 ≡ true → (not t || same_columns file.1.schema l.1.schema) ≡ true
     by true f g =
@@ -119,7 +106,7 @@ first-fits (file ∷ files) all pre l rest e none h =
 later-fits : (files : List File) (pre : List Load) (l : Load) → AllFit files pre → list_any (contradicts l) pre ≡ false → list_any (λ (m : Load). same_name l.0 m.0) pre ≡ true → Fits files l
 later-fits files [] l h none some = cc
 later-fits files (m ∷ pre) l h none some =
-    let apart = or-false (contradicts l m) (list_any (contradicts l) pre) none in
+    let apart = or_parts (contradicts l m) (list_any (contradicts l) pre) none in
     by (same_name l.0 m.0) refl apart.0 some (later-fits files pre l h.1 apart.1)
   where
     agreed : (b : Bool) → (true && not b) ≡ false → b ≡ true
@@ -129,7 +116,7 @@ later-fits files (m ∷ pre) l h none some =
     by : (t : Bool) → same_name l.0 m.0 ≡ t → (t && not (same_form l.1 m.1)) ≡ false → (t || list_any (λ (m : Load). same_name l.0 m.0) pre) ≡ true
         → (list_any (λ (m : Load). same_name l.0 m.0) pre ≡ true → Fits files l) → Fits files l
     by true e f g rest =
-        let columns : l.1.schema ≡ m.1.schema = same_columns-equal l.1.schema m.1.schema (and-true (same_columns l.1.schema m.1.schema) (l.1.skip == m.1.skip) (agreed (same_form l.1 m.1) f)).0 in
+        let columns : l.1.schema ≡ m.1.schema = same_columns-equal l.1.schema m.1.schema (and_parts (same_columns l.1.schema m.1.schema) (l.1.skip == m.1.skip) (agreed (same_form l.1 m.1) f)).0 in
         subst (λ n. list_all (λ (file : File). not (is_load_key n file.0) || same_columns file.1.schema l.1.schema) files ≡ true) (sym (same_name-equal l.0 m.0 e))
         (subst (λ cs. list_all (λ (file : File). not (is_load_key m.0 file.0) || same_columns file.1.schema cs) files ≡ true) (sym columns) h.0)
     by false e f g rest = rest g
@@ -143,7 +130,7 @@ pub loads-fit : (files : List File) (all : List Load) → Forms files all
     → (loads pre rest : List Load) → all ≡ pre ++ (loads ++ rest) → AllFit files pre → has_conflict pre loads ≡ false → AllFit files loads
 loads-fit files all forms [] pre rest e h none = tt
 loads-fit files all forms (l ∷ loads) pre rest e h none =
-    let apart = or-false (list_any (contradicts l) pre) (has_conflict (pre ++ l ∷ []) loads) none in
+    let apart = or_parts (list_any (contradicts l) pre) (has_conflict (pre ++ l ∷ []) loads) none in
     let own : Fits files l = by (list_any (λ (m : Load). same_name l.0 m.0) pre) refl apart.0 in
     (own, loads-fit files all forms loads (pre ++ l ∷ []) rest (e ∙ sym (append_assoc pre (l ∷ []) (loads ++ rest))) (fit-append files pre (l ∷ []) h (own, tt)) apart.1)
   where
@@ -158,7 +145,7 @@ pub written-columns : (name : Name) (schema : List Column) (skip i : ℕ) (fs : 
     option_map (λ (m : Meant). let w : Meant = record { source = m.source; schema = schema } in w) found ≡ found
 written-columns name schema skip i [] h = refl
 written-columns name schema skip i (f ∷ fs) h =
-    let parts = and-true (fits (name, record { schema = schema; skip = skip }) f) (list_all (fits (name, record { schema = schema; skip = skip })) fs) h in
+    let parts = and_parts (fits (name, record { schema = schema; skip = skip }) f) (list_all (fits (name, record { schema = schema; skip = skip })) fs) h in
     by (find (λ (p : Key × Meant). is_load_key name p.0) (map file_meant (enumerate_from (i + 1) fs)))
     (is_load_key name f.0) parts.0 (written-columns name schema skip (i + 1) fs parts.1)
   where

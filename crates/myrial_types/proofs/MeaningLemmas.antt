@@ -44,7 +44,7 @@ use Rattle.myrial_types.specs.Resolving.{Meant, MeantItem, Names, Typed, as_writ
 use Rattle.myrial_types.specs.Kinds.{first_kind, typing_kind}
 use Rattle.myrial_types.specs.Checking.{before, checked_from, checked_of, names_after, step_of, store_of, with_result, with_statement}
 use Rattle.myrial_types.specs.Laws.{StepsMeanTheScript}
-use Rattle.myrial_types.proofs.LoadLemmas.{AllFit, and-true, fit-append, fit-apart, loads-fit, written-columns}
+use Rattle.myrial_types.proofs.LoadLemmas.{AllFit, fit-append, fit-apart, loads-fit, written-columns}
 use Rattle.myrial_types.proofs.ValueLemmas.{Results, value_of, table_of, typed_table, IsBefore, IsEarlier, Agrees, meant-All, IfAny, assigned-means, term-means, with_nothing, unchanged, weaker, assigned-agrees, stored-agrees, none-agree}
 use Rattle.myrial_types.proofs.FollowLemmas.{Follows, at_end, a_nothing, an_assignment, a_store, later-steps, typed-follows}
 

@@ -6,6 +6,7 @@ use Rattle.std.specs.Option.{option_map_or, option_or}
 use Rattle.std.proofs.lemmas.Bool.Decides.{nat_tests}
 use Rattle.std.proofs.lemmas.List.Concat.{flat_map-append}
 use Rattle.std.proofs.lemmas.List.Folds.{list_any-append}
+use Rattle.std.proofs.lemmas.Bool.{or_parts}
 use Rattle.rel_base.specs.Each.{each_or_none, put_before}
 use Rattle.rel_base.specs.Keys.{File}
 use Rattle.myrial_ast.specs.declared.expressions.ColRef.{ColRef}
@@ -24,10 +25,6 @@ use Rattle.myrial_types.specs.Resolving.{Meant, MeantItem, Names, comprehension_
 use Rattle.myrial_types.specs.Kinds.{comprehension_kind, condition_trees, differ, emitted_tree, first_of, has_ambiguous_column, has_any_aggregate, has_inner_aggregate, has_mismatch, has_misplaced, has_unknown_alias, has_unknown_column, is_unknown, limit_kind, references, references_in, relation_kind, typing_kind}
 use Rattle.myrial_types.specs.Laws.{TypedStatementsResolve}
 use Rattle.myrial_types.proofs.TypingLemmas.{any-unknown}
-
-or-false : (a b : Bool) → (a || b) ≡ false → (a ≡ false) × (b ≡ false)
-or-false true b e = cc
-or-false false b e = (refl, e)
 
 known : {X : Type 0} (o : Option X) → is_none o ≡ false → is_some o ≡ true
 known None e = cc
@@ -62,13 +59,13 @@ module _ (scope : List ScopeColumn) where
       → is_some (scalar_of scope e) ≡ true
   scalar-some (tree.Lit v) a n m = refl
   scalar-some (tree.Col c) a n m =
-      some-map At (place_of scope c) (only-some (places_of scope c) (or-false (is_none_of scope c) false n).0 (or-false (is_more_of scope c) false m).0)
+      some-map At (place_of scope c) (only-some (places_of scope c) (or_parts (is_none_of scope c) false n).0 (or_parts (is_more_of scope c) false m).0)
   scalar-some (tree.Not e) a n m = some-map Not (scalar_of scope e) (scalar-some e a n m)
   scalar-some (tree.Neg e) a n m = some-map Neg (scalar_of scope e) (scalar-some e a n m)
   scalar-some (tree.Bin o l r) a n m =
-      let gs = or-false (has_any_aggregate l) (has_any_aggregate r) a in
-      let ns = or-false (list_any (is_none_of scope) (references l)) (list_any (is_none_of scope) (references r)) (sym (list_any-append (is_none_of scope) (references l) (references r)) ∙ n) in
-      let ms = or-false (list_any (is_more_of scope) (references l)) (list_any (is_more_of scope) (references r)) (sym (list_any-append (is_more_of scope) (references l) (references r)) ∙ m) in
+      let gs = or_parts (has_any_aggregate l) (has_any_aggregate r) a in
+      let ns = or_parts (list_any (is_none_of scope) (references l)) (list_any (is_none_of scope) (references r)) (sym (list_any-append (is_none_of scope) (references l) (references r)) ∙ n) in
+      let ms = or_parts (list_any (is_more_of scope) (references l)) (list_any (is_more_of scope) (references r)) (sym (list_any-append (is_more_of scope) (references l) (references r)) ∙ m) in
       two-some (Bin o) (scalar_of scope l) (scalar_of scope r) (scalar-some l gs.0 ns.0 ms.0) (scalar-some r gs.1 ns.1 ms.1)
   scalar-some (tree.Agg o e) a n m = cc
   scalar-some (tree.AggAll o) a n m = cc
@@ -97,9 +94,9 @@ module _ (scope : List ScopeColumn) where
   emits-some (tree.AllOf alias ∷ emits) a n m = put-some (emits_of_item scope (tree.AllOf alias)) (each_or_none (emits_of_item scope) emits) refl (emits-some emits a n m)
   emits-some (tree.One e name ∷ emits) a n m =
       let rest = flat_map references (flat_map emitted_tree emits) in
-      let gs = or-false (has_inner_aggregate e) (list_any has_inner_aggregate (flat_map emitted_tree emits)) a in
-      let ns = or-false (list_any (is_none_of scope) (references e)) (list_any (is_none_of scope) rest) (sym (list_any-append (is_none_of scope) (references e) rest) ∙ n) in
-      let ms = or-false (list_any (is_more_of scope) (references e)) (list_any (is_more_of scope) rest) (sym (list_any-append (is_more_of scope) (references e) rest) ∙ m) in
+      let gs = or_parts (has_inner_aggregate e) (list_any has_inner_aggregate (flat_map emitted_tree emits)) a in
+      let ns = or_parts (list_any (is_none_of scope) (references e)) (list_any (is_none_of scope) rest) (sym (list_any-append (is_none_of scope) (references e) rest) ∙ n) in
+      let ms = or_parts (list_any (is_more_of scope) (references e)) (list_any (is_more_of scope) rest) (sym (list_any-append (is_more_of scope) (references e) rest) ∙ m) in
       put-some (emits_of_item scope (tree.One e name)) (each_or_none (emits_of_item scope) emits)
       (some-map (λ emit. named name emit ∷ []) (emit_of_tree scope e) (emit-some e gs.0 ns.0 ms.0)) (emits-some emits gs.1 ns.1 ms.1)
 
@@ -109,9 +106,9 @@ module _ (scope : List ScopeColumn) where
       → is_some (conjuncts_of scope condition) ≡ true
   condition-some None a n m = refl
   condition-some (Some e) a n m =
-      let gs = or-false (has_any_aggregate e) false a in
-      let ns = or-false (list_any (is_none_of scope) (references e)) false (sym (list_any-append (is_none_of scope) (references e) []) ∙ n) in
-      let ms = or-false (list_any (is_more_of scope) (references e)) false (sym (list_any-append (is_more_of scope) (references e) []) ∙ m) in
+      let gs = or_parts (has_any_aggregate e) false a in
+      let ns = or_parts (list_any (is_none_of scope) (references e)) false (sym (list_any-append (is_none_of scope) (references e) []) ∙ n) in
+      let ms = or_parts (list_any (is_more_of scope) (references e)) false (sym (list_any-append (is_more_of scope) (references e) []) ∙ m) in
       some-map conjuncts (scalar_of scope e) (scalar-some e gs.0 ns.0 ms.0)
 
   resolved-some : (condition : Option Tree) (emits : List EmitTree) → is_some (conjuncts_of scope condition) ≡ true → is_some (each_or_none (emits_of_item scope) emits) ≡ true
@@ -143,12 +140,12 @@ module _ (items : List ItemSchema) (condition : Option Tree) (emits : List EmitT
       let conditions = flat_map references (condition_trees condition) in
       let emitted = flat_map references (flat_map emitted_tree emits) in
       let split = flat_map-append references (condition_trees condition) (flat_map emitted_tree emits) in
-      let more = or-false (list_any (is_more_of scope) (references_in condition emits)) (has_doubled_alias items) facts.1 in
-      let ns = or-false (list_any (is_none_of scope) conditions) (list_any (is_none_of scope) emitted)
+      let more = or_parts (list_any (is_more_of scope) (references_in condition emits)) (has_doubled_alias items) facts.1 in
+      let ns = or_parts (list_any (is_none_of scope) conditions) (list_any (is_none_of scope) emitted)
       (sym (list_any-append (is_none_of scope) conditions emitted) ∙ (ap (list_any (is_none_of scope)) (sym split) ∙ facts.0)) in
-      let ms = or-false (list_any (is_more_of scope) conditions) (list_any (is_more_of scope) emitted)
+      let ms = or_parts (list_any (is_more_of scope) conditions) (list_any (is_more_of scope) emitted)
       (sym (list_any-append (is_more_of scope) conditions emitted) ∙ (ap (list_any (is_more_of scope)) (sym split) ∙ more.0)) in
-      let gs = or-false (list_any has_any_aggregate (condition_trees condition)) (list_any has_inner_aggregate (flat_map emitted_tree emits)) facts.2 in
+      let gs = or_parts (list_any has_any_aggregate (condition_trees condition)) (list_any has_inner_aggregate (flat_map emitted_tree emits)) facts.2 in
       resolved-some scope condition emits (condition-some scope condition gs.0 ns.0 ms.0) (emits-some scope emits gs.1 ns.1 ms.1)
 
 -- ---- statements
@@ -180,15 +177,15 @@ module _ (files : List File) (names : Names) where
     where
       by : (r : RelTree) → (list_any (is_unknown files names) (operands_of r) ≡ false) × (option_or (relation_kind files names r) (limit_kind (term_of files names r)) ≡ None)
           → is_some (term_of files names r) ≡ true
-      by (tree.Copy o) h = some-map _ (meant files names o) (known (meant files names o) (or-false (is_none (meant files names o)) false h.0).0)
+      by (tree.Copy o) h = some-map _ (meant files names o) (known (meant files names o) (or_parts (is_none (meant files names o)) false h.0).0)
       by (tree.Empty schema) h = refl
-      by (tree.Distinct o) h = some-map _ (meant files names o) (known (meant files names o) (or-false (is_none (meant files names o)) false h.0).0)
+      by (tree.Distinct o) h = some-map _ (meant files names o) (known (meant files names o) (or_parts (is_none (meant files names o)) false h.0).0)
       by (tree.UnionAll o p) h =
-          let parts = or-false (is_none (meant files names o)) (is_none (meant files names p) || false) h.0 in
-          pair-some _ (meant files names o) (meant files names p) (known (meant files names o) parts.0) (known (meant files names p) (or-false (is_none (meant files names p)) false parts.1).0)
+          let parts = or_parts (is_none (meant files names o)) (is_none (meant files names p) || false) h.0 in
+          pair-some _ (meant files names o) (meant files names p) (known (meant files names o) parts.0) (known (meant files names p) (or_parts (is_none (meant files names p)) false parts.1).0)
       by (tree.Diff o p) h =
-          let parts = or-false (is_none (meant files names o)) (is_none (meant files names p) || false) h.0 in
-          pair-some _ (meant files names o) (meant files names p) (known (meant files names o) parts.0) (known (meant files names p) (or-false (is_none (meant files names p)) false parts.1).0)
+          let parts = or_parts (is_none (meant files names o)) (is_none (meant files names p) || false) h.0 in
+          pair-some _ (meant files names o) (meant files names p) (known (meant files names o) parts.0) (known (meant files names p) (or_parts (is_none (meant files names p)) false parts.1).0)
       by (tree.From items condition emits) h =
           over-some condition emits (each_or_none (item_meant files names) items) (known (each_or_none (item_meant files names) items) (sym (any-unknown files names items) ∙ h.0))
           (or-none (relation_kind files names (tree.From items condition emits)) (limit_kind (term_of files names (tree.From items condition emits))) h.1)

@@ -44,7 +44,7 @@ use Rattle.myrial_types.specs.Resolving.{Meant, MeantItem, Names, Typed, as_writ
 use Rattle.myrial_types.specs.Kinds.{first_kind, typing_kind}
 use Rattle.myrial_types.specs.Checking.{before, checked_from, checked_of, names_after, step_of, store_of, with_result, with_statement}
 use Rattle.myrial_types.specs.Laws.{StepsMeanTheScript}
-use Rattle.myrial_types.proofs.LoadLemmas.{AllFit, and-true, fit-append, fit-apart, loads-fit, written-columns}
+use Rattle.myrial_types.proofs.LoadLemmas.{AllFit, fit-append, fit-apart, loads-fit, written-columns}
 
 abbrev pub Results : Type 0
 Results = List (ℕ × RelationState)
@@ -144,6 +144,12 @@ same-option : (o : Option Meant) → option_map (λ m. m) o ≡ o
 same-option None = refl
 same-option (Some m) = refl
 
+-- a load has the columns of its file, where these are the ones that it writes
+pub written-same : (files : List File) (names : Names) (o : Operand) → AllFit files (loads_of o) → meant files names o ≡ operand_of (files_meant files) names o
+written-same files names (operand.Named name) h = same-option (operand_of (files_meant files) names (operand.Named name))
+written-same files names (operand.Scan key) h = same-option (operand_of (files_meant files) names (operand.Scan key))
+written-same files names (operand.Load name schema skip) h = written-columns name schema skip 0 files h.0
+
 module _ (files : List File) (results : Results) (env : RelationEnvironment) (names : Names)
     (assigned : env.assigned ≡ map (named files results) names.assigned) (stored : env.stored ≡ map (named files results) names.stored) where
   pub assigned-means : (name : Name) → assigned_to env name ≡ option_map (table_of files results) (assigned_to names name)
@@ -166,13 +172,8 @@ module _ (files : List File) (results : Results) (env : RelationEnvironment) (na
       ap (λ xs. option_map (λ (p : File). p.1) (find (λ p. is_load_key name p.0) xs)) (sym all_files)
       ∙ find-map (is_load_key name) (table_of files results) (files_meant files)
 
-  pub written-same : (o : Operand) → AllFit files (loads_of o) → meant files names o ≡ operand_of (files_meant files) names o
-  written-same (operand.Named name) h = same-option (operand_of (files_meant files) names (operand.Named name))
-  written-same (operand.Scan key) h = same-option (operand_of (files_meant files) names (operand.Scan key))
-  written-same (operand.Load name schema skip) h = written-columns name schema skip 0 files h.0
-
   pub operand-means : (o : Operand) → AllFit files (loads_of o) → operand_of files env o ≡ option_map (table_of files results) (meant files names o)
-  operand-means o h = known-means o ∙ ap (option_map (table_of files results)) (sym (written-same o h))
+  operand-means o h = known-means o ∙ ap (option_map (table_of files results)) (sym (written-same files names o h))
 
   -- ---- items
 

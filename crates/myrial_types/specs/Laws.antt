@@ -5,6 +5,7 @@
 --   TypedScriptsHaveMeaning  a typed script has a meaning over its files
 --   StepsMeanTheScript       the steps of a typed script store what the script stores
 --   StepsHaveTheFault        and the fault of their run is the script's
+--   StepsAreOfTheFiles       and they meet the conditions of what takes steps
 use Rattle.std.specs.Prelude.{◌≡◌, IsSome, IsTrue, List, None, Ok}
 use Rattle.rel_base.specs.Keys.{File}
 use Rattle.rel_base.specs.declared.names.Key.{Key}
@@ -17,6 +18,7 @@ use Rattle.myrial_meaning.specs.Fetches.{Load}
 use Rattle.myrial_meaning.specs.Meaning.{stored_relations}
 use Rattle.myrial_meaning.specs.Runnable.{has_meaning}
 use Rattle.algebra.specs.Trees.{CheckedTree}
+use Rattle.algebra.specs.Conditions.{is_of}
 use Rattle.algebra.specs.Meanings.{checked_fault, stored_by}
 use Rattle.myrial_types.specs.Fetching.{have_forms}
 use Rattle.myrial_types.specs.Resolving.{Names, term_of}
@@ -48,3 +50,10 @@ abbrev pub StepsHaveTheFault : Type 0
 StepsHaveTheFault =
     (rule : PrefixRule) (files : List File) (script : List StatementTree) (c : CheckedTree) → IsTrue (have_forms files script)
     → checked_of files script ≡ Ok c → checked_fault (λ number. rule) files c ≡ run_fault rule files script
+
+-- the steps of a typed script are well formed over its files: their sources are there, their numbers rise, and their terms have
+-- the types of their columns
+abbrev pub StepsAreOfTheFiles : Type 0
+StepsAreOfTheFiles =
+    (files : List File) (script : List StatementTree) (c : CheckedTree) → IsTrue (have_forms files script)
+    → checked_of files script ≡ Ok c → IsTrue (is_of files c)

@@ -1,5 +1,6 @@
 //! The laws that tie steps to scripts.
-ghost use Rattle.myrial_types.specs.Laws.{StepsHaveTheFault, StepsMeanTheScript, TypedScriptsHaveMeaning, TypedStatementsResolve};
+ghost use Rattle.myrial_types.specs.Laws.{StepsAreOfTheFiles, StepsHaveTheFault, StepsMeanTheScript};
+ghost use Rattle.myrial_types.specs.Laws.{TypedScriptsHaveMeaning, TypedStatementsResolve};
 
 /// Law: a statement without a kind of fault resolves, so the steps of a typed script are those of all its statements.
 pub fn typed_statements_resolve()
@@ -19,4 +20,9 @@ pub fn steps_mean_the_script()
 /// Law: the fault of a run of the steps is that of the script.
 pub fn steps_have_the_fault()
     ensures { StepsHaveTheFault }
+{}
+
+/// Law: the steps of a typed script are well formed over its files.
+pub fn steps_are_of_the_files()
+    ensures { StepsAreOfTheFiles }
 {}
