@@ -2,11 +2,12 @@
 use Rattle.std.proofs.Common.{◌≡◌, ◌∙◌, ℕ, ◌+◌, ◌≤◌, Bool, true, false, cond, List, [], ◌∷◌, ◌++◌, refl, sym, ap, subst, arith, Option, Some, None}
 use Rattle.std.specs.Prelude.{All, is_none, is_some, option_map, Result, Ok, Err}
 use Rattle.std.specs.Option.{option_map_or, option_or, option_to_list}
-use Rattle.std.specs.List.{flat_map}
+use Rattle.std.specs.List.{flat_map, list_any}
 use Rattle.std.proofs.lemmas.List.{append_assoc, append-nil}
 use Rattle.std.proofs.lemmas.List.Elements.{All-nil, All-cons, All-weaker}
 use Rattle.rel_base.specs.Keys.{File}
 use Rattle.rel_base.specs.declared.names.Key.{Key}
+use Rattle.myrial_ast.specs.Operands.{operands_of}
 use Rattle.myrial_ast.specs.Trees.{Name, RelTree, StatementTree}
 use Rattle.myrial_ast.specs.Trees as tree
 use Rattle.myrial_meaning.specs.Environments.{nothing_yet, assigned_to, with_key}
@@ -17,7 +18,7 @@ use Rattle.myrial_types.specs.declared.faults.TypeKind.{TypeKind}
 use Rattle.myrial_types.specs.declared.faults.TypeKind.TheVariants as fault
 use Rattle.myrial_types.specs.Fetching.{has_conflict, have_forms}
 use Rattle.myrial_types.specs.Resolving.{Meant, Names, Typed, term_of}
-use Rattle.myrial_types.specs.Kinds.{first_kind, typing_kind}
+use Rattle.myrial_types.specs.Kinds.{first_kind, is_unknown, limit_kind, relation_kind, typing_kind}
 use Rattle.myrial_types.specs.Checking.{before, checked_from, checked_of, step_of, store_of, with_result}
 use Rattle.myrial_types.proofs.LoadLemmas.{AllFit, Forms, fit-append, loads-fit}
 use Rattle.myrial_types.proofs.ResolvedLemmas.{typed_statements_resolve}
@@ -56,6 +57,20 @@ later-steps files _ _ _ _ (a_store number names name key rest m c e f) =
 or-none : {X : Type 0} (o p : Option X) → option_or o p ≡ None → (o ≡ None) × (p ≡ None)
 or-none None p e = (refl, e)
 or-none (Some x) p e = cc
+
+-- a relation expression without a kind has none of its own, and is past no limit
+pub typed-kinds : (files : List File) (names : Names) (r : RelTree) → typing_kind files names r ≡ None
+    → (relation_kind files names r ≡ None) × (limit_kind (term_of files names r) ≡ None)
+typed-kinds files names r e = by (list_any (is_unknown files names) (operands_of r)) e
+  where
+    by : (t : Bool) → cond t (Some fault.UnknownRelation) (option_or (relation_kind files names r) (limit_kind (term_of files names r))) ≡ None
+        → (relation_kind files names r ≡ None) × (limit_kind (term_of files names r) ≡ None)
+    by true e = cc
+    by false e = or-none (relation_kind files names r) (limit_kind (term_of files names r)) e
+
+pub no-mismatch : (b : Bool) → cond b (Some fault.TypeMismatch) None ≡ None → b ≡ false
+no-mismatch true e = cc
+no-mismatch false e = refl
 
 -- a statement without a kind has no conflict
 no-conflict : (b : Bool) → cond b (Some fault.LoadConflict) None ≡ None → b ≡ false

@@ -44,7 +44,7 @@ use Rattle.myrial_types.specs.Checking.{step_of, store_of, with_result}
 use Rattle.myrial_types.specs.Kinds.{comprehension_kind, condition_trees, differ, emitted_tree, first_of, has_ambiguous_column, has_mismatch, has_misplaced, has_unknown_alias, has_unknown_column, is_past_limit, is_term_past_limit, is_unknown, limit_kind, relation_kind, tree_kind, typing_kind}
 use Rattle.myrial_types.specs.Laws.{StepsAreOfTheFiles}
 use Rattle.myrial_types.specs.Resolving.{Meant, MeantItem, Names, Typed, comprehension_term, file_meant, files_meant, item_meant, join_term, kinds_of_items, meant, of_one, of_two, schemas_of, sources_of, term_of}
-use Rattle.myrial_types.proofs.FollowLemmas.{Follows, at_end, a_nothing, an_assignment, a_store, typed-follows}
+use Rattle.myrial_types.proofs.FollowLemmas.{Follows, at_end, a_nothing, an_assignment, a_store, no-mismatch, typed-follows, typed-kinds}
 use Rattle.myrial_types.proofs.LoadLemmas.{AllFit, fit-apart}
 use Rattle.myrial_types.proofs.ScalarKindLemmas.{EachTyped, emits-typed, group-columns, join-columns, kinds_in_scope, same_type-itself, schema-kinds}
 use Rattle.myrial_types.proofs.ValueLemmas.{IfAny, meant-All, written-same}
@@ -83,19 +83,19 @@ resolved-typed scope condition emits none =
     by (Some joined) (Some ess) t = emitting-typed scope joined (flat_map (λ columns. columns) ess) t
 
 -- a comprehension without a kind has no mismatch
-no-mismatch : (a b c d e : Bool) → first_of a b c d e ≡ None → d ≡ false
-no-mismatch true b c d e f = cc
-no-mismatch false true c d e f = cc
-no-mismatch false false true d e f = cc
-no-mismatch false false false true e f = cc
-no-mismatch false false false false e f = refl
+mismatch-none : (a b c d e : Bool) → first_of a b c d e ≡ None → d ≡ false
+mismatch-none true b c d e f = cc
+mismatch-none false true c d e f = cc
+mismatch-none false false true d e f = cc
+mismatch-none false false false true e f = cc
+mismatch-none false false false false e f = refl
 
 typed-emits : (items : List ItemSchema) (condition : Option Tree) (emits : List EmitTree) → comprehension_kind items condition emits ≡ None
     → list_any (λ e. is_none (tree_kind (scope_of items) e)) (flat_map emitted_tree emits) ≡ false
 typed-emits items condition emits none =
     let trees = or_parts (list_any (λ e. is_none (tree_kind (scope_of items) e)) (condition_trees condition ++ flat_map emitted_tree emits))
     (list_any (λ e. not (is_kind kind.Bool (tree_kind (scope_of items) e))) (condition_trees condition))
-    (no-mismatch (has_unknown_alias items condition emits) (has_unknown_column items condition emits) (has_ambiguous_column items condition emits)
+    (mismatch-none (has_unknown_alias items condition emits) (has_unknown_column items condition emits) (has_ambiguous_column items condition emits)
     (has_mismatch items condition emits) (has_misplaced condition emits) none) in
     (or_parts (list_any (λ e. is_none (tree_kind (scope_of items) e)) (condition_trees condition)) (list_any (λ e. is_none (tree_kind (scope_of items) e)) (flat_map emitted_tree emits))
     (sym (list_any-append (λ e. is_none (tree_kind (scope_of items) e)) (condition_trees condition) (flat_map emitted_tree emits)) ∙ trees.0)).1
@@ -302,10 +302,6 @@ module _ (files : List File) (number : ℕ) (earlier : List StepTree) (names : N
           rw (unnot (is_shape (shape_of (kinds_of_items given) b.comprehension)) limit, sources-there given h)
           (ap (λ ks. pointwise (λ e k. is_kind k (kind_in ks e)) b.comprehension.emits (kinds_of_columns b.schema)) (scope-kinds 0 given) ∙ typed.joins e)
 
-  none-false : (t : Bool) → cond t (Some fault.TypeMismatch) None ≡ None → t ≡ false
-  none-false true e = cc
-  none-false false e = refl
-
   term-formed : (r : RelTree) → AllFit files (flat_map loads_of (operands_of r)) → relation_kind files names r ≡ None → limit_kind (term_of files names r) ≡ None
       → IfAny (λ (t : Typed). is_term (source_kinds files earlier) t.term (kinds_of_columns t.schema) ≡ true) (term_of files names r)
   term-formed (tree.Copy o) fit e f = one-formed Same (λ s columns. refl) (meant files names o) (operand-stands o (fit-apart files (loads_of o) [] fit).0)
@@ -314,11 +310,11 @@ module _ (files : List File) (number : ℕ) (earlier : List StepTree) (names : N
   term-formed (tree.UnionAll o p) fit e f =
       let parts = fit-apart files (loads_of o) (loads_of p ++ []) fit in
       two-formed UnionAll (λ s t columns. refl) (meant files names o) (meant files names p) (operand-stands o parts.0)
-      (operand-stands p (fit-apart files (loads_of p) [] parts.1).0) (none-false (differ files names o p) e)
+      (operand-stands p (fit-apart files (loads_of p) [] parts.1).0) (no-mismatch (differ files names o p) e)
   term-formed (tree.Diff o p) fit e f =
       let parts = fit-apart files (loads_of o) (loads_of p ++ []) fit in
       two-formed Diff (λ s t columns. refl) (meant files names o) (meant files names p) (operand-stands o parts.0)
-      (operand-stands p (fit-apart files (loads_of p) [] parts.1).0) (none-false (differ files names o p) e)
+      (operand-stands p (fit-apart files (loads_of p) [] parts.1).0) (no-mismatch (differ files names o p) e)
   term-formed (tree.From items condition emits) fit e f = by (each_or_none (item_meant files names) items) (items-stand items fit) e f
     where
       limits : (t : Typed) → limit_kind (Some t) ≡ None → is_term_past_limit t.term ≡ false
@@ -343,18 +339,6 @@ module _ (files : List File) (number : ℕ) (earlier : List StepTree) (names : N
       by (Some given) h e f =
           found given h (resolved (scope_of (schemas_of given)) condition emits)
           (resolved-typed (scope_of (schemas_of given)) condition emits (typed-emits (schemas_of given) condition emits e)) f
-
-  kinds-none : (r : RelTree) → typing_kind files names r ≡ None → (relation_kind files names r ≡ None) × (limit_kind (term_of files names r) ≡ None)
-  kinds-none r e = by (list_any (is_unknown files names) (operands_of r)) e
-    where
-      both-none : (o p : Option TypeKind) → option_or o p ≡ None → (o ≡ None) × (p ≡ None)
-      both-none None p e = (refl, e)
-      both-none (Some x) p e = cc
-
-      by : (t : Bool) → cond t (Some fault.UnknownRelation) (option_or (relation_kind files names r) (limit_kind (term_of files names r))) ≡ None
-          → (relation_kind files names r ≡ None) × (limit_kind (term_of files names r) ≡ None)
-      by true e = cc
-      by false e = both-none (relation_kind files names r) (limit_kind (term_of files names r)) e
 
   still-stand : AllStand files (number + 1) earlier names
   still-stand = record {
@@ -422,7 +406,7 @@ formed files _ _ _ _ (an_assignment number names name r rest t c typed fit e f) 
   where
     here : is_term (source_kinds files earlier) t.term (kinds_of_columns t.schema) ≡ true
     here =
-        let none = kinds-none files number earlier names stand r typed in
+        let none = typed-kinds files names r typed in
         subst (IfAny (λ (t : Typed). is_term (source_kinds files earlier) t.term (kinds_of_columns t.schema) ≡ true)) e (term-formed files number earlier names stand r fit none.0 none.1)
 
     old : (all : List StepTree) → ((k : ℕ) → Has earlier k → Has all k) → ((k : ℕ) → Has (step_of number t ∷ c.steps) k → Has all k)
