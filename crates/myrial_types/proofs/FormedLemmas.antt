@@ -45,8 +45,8 @@ use Rattle.myrial_types.specs.Kinds.{comprehension_kind, condition_trees, differ
 use Rattle.myrial_types.specs.Laws.{StepsAreOfTheFiles}
 use Rattle.myrial_types.specs.Resolving.{Meant, MeantItem, Names, Typed, comprehension_term, file_meant, files_meant, item_meant, join_term, kinds_of_items, meant, of_one, of_two, schemas_of, sources_of, term_of}
 use Rattle.myrial_types.proofs.FollowLemmas.{Follows, at_end, a_nothing, an_assignment, a_store, no-mismatch, typed-follows, typed-kinds}
-use Rattle.myrial_types.proofs.LoadLemmas.{AllFit, fit-apart}
-use Rattle.myrial_types.proofs.ScalarKindLemmas.{EachTyped, emits-typed, group-columns, join-columns, kinds_in_scope, same_type-itself, schema-kinds}
+use Rattle.myrial_types.proofs.LoadLemmas.{AllFit, fit-apart, same_type-itself}
+use Rattle.myrial_types.proofs.ScalarKindLemmas.{EachTyped, emits-typed, group-columns, join-columns, kinds_in_scope, schema-kinds}
 use Rattle.myrial_types.proofs.ValueLemmas.{IfAny, meant-All, written-same}
 
 -- ---- what a typed comprehension emits

@@ -9,11 +9,11 @@ mod AssignLemmas
 mod ComprehensionLemmas
 mod CheckingLemmas
 mod ResolvedLemmas
-mod LoadLemmas
+pub mod LoadLemmas
 mod FollowLemmas
 mod ValueLemmas
 mod MeaningLemmas
-mod DefinedLemmas
+pub mod DefinedLemmas
 mod UsedLemmas
 mod FaultLemmas
 mod ScalarKindLemmas

@@ -22,6 +22,11 @@ use Rattle.myrial_types.specs.Resolving.{Meant, file_meant}
 
 -- ---- columns
 
+pub same_type-itself : (k : ColType) → same_type k k ≡ true
+same_type-itself kind.Int = refl
+same_type-itself kind.Str = refl
+same_type-itself kind.Bool = refl
+
 pub same_type-equal : (a b : ColType) → same_type a b ≡ true → a ≡ b
 same_type-equal kind.Int kind.Int e = refl
 same_type-equal kind.Str kind.Str e = refl
@@ -43,6 +48,12 @@ same_columns-equal (x ∷ xs) (y ∷ ys) e =
     ap (λ n. let c : Column = record { name = n; kind = x.kind } in c ∷ xs) (same_name-equal x.name y.name one.0)
     ∙ ap (λ k. let c : Column = record { name = y.name; kind = k } in c ∷ xs) (same_type-equal x.kind y.kind one.1)
     ∙ ap (λ rest. y ∷ rest) (same_columns-equal xs ys parts.1)
+
+pub same_columns-itself : (xs : List Column) → same_columns xs xs ≡ true
+same_columns-itself [] = refl
+same_columns-itself (x ∷ xs) =
+    and_from (same_name x.name x.name && same_type x.kind x.kind) (same_columns xs xs)
+    (and_from (same_name x.name x.name) (same_type x.kind x.kind) (same_name-itself x.name) (same_type-itself x.kind)) (same_columns-itself xs)
 
 -- ---- keys
 
