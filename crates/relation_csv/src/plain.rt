@@ -137,6 +137,7 @@ fn line_of(text: &str) -> Option<&str>
 }
 
 /// The row that record number `nth` writes, with which a text begins, and what stands behind the record.
+#[inline(always)]
 fn row_of_line<'a>(
     alloc: Global,
     schema: &Schema,
@@ -173,6 +174,7 @@ fn row_of_line<'a>(
 }
 
 /// The first field of a text, whether another one follows it in its record, and what stands behind it.
+#[inline(always)]
 fn first_field(text: &str) -> Option<(&str, bool, &str)>
     ensures begins { IfSome result (λ (field, more, rest).
         BeginsWithField text.now field.now more rest.now) }
