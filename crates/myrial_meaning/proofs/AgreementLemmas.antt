@@ -23,6 +23,7 @@ use Rattle.myrial_meaning.specs.Environments.{assigned_to, kept_under, operand_o
 use Rattle.myrial_meaning.specs.Meaning.{RelationEnvironment, after, comprehension_over, items_of, of_one, relation_of, item_relation, tables_of}
 use Rattle.myrial_meaning.specs.Needed.{is_live, is_name, mentions}
 use Rattle.myrial_meaning.specs.Faults.{relation_fault, widths_of}
+use Rattle.myrial_meaning.specs.Runnable.{operands_fit}
 use Rattle.myrial_meaning.proofs.BoolLemmas.{and-both, or-first, or-second}
 
 -- ---- names
@@ -90,6 +91,15 @@ module _ (files : List File) (there here : RelationEnvironment) where
   relation-agrees (tree.From items condition emits) agrees =
       ap (option_and_then (λ sources. comprehension_over sources condition emits)) (sources-agree items agrees)
 
+  -- and its operands fit as well
+  pub operands_fit-agrees : (r : RelTree) → AgreesOn (λ name. mentions name r) there here → operands_fit files there r ≡ operands_fit files here r
+  operands_fit-agrees (tree.Copy o) agrees = refl
+  operands_fit-agrees (tree.Empty schema) agrees = refl
+  operands_fit-agrees (tree.Distinct o) agrees = refl
+  operands_fit-agrees (tree.UnionAll o p) agrees = rw (left-agrees o p agrees, right-agrees o p agrees) refl
+  operands_fit-agrees (tree.Diff o p) agrees = rw (left-agrees o p agrees, right-agrees o p agrees) refl
+  operands_fit-agrees (tree.From items condition emits) agrees = refl
+
   -- and has the same fault
   pub relation_fault-agrees : (number : ℕ) (r : RelTree) → AgreesOn (λ name. mentions name r) there here
       → relation_fault Uncounted number files there r ≡ relation_fault Uncounted number files here r
@@ -128,7 +138,7 @@ module _ (files : List File) (there here : RelationEnvironment) (rest : List Sta
   pub after-nothing : Agrees (tree.Nothing ∷ rest) there here → Agrees rest (after files there tree.Nothing) (after files here tree.Nothing)
   after-nothing agrees = agrees
 
-  stored-same : (n : Name) (key : Key) → Agrees (tree.Store n key ∷ rest) there here → assigned_to there n ≡ assigned_to here n
+  pub stored-same : (n : Name) (key : Key) → Agrees (tree.Store n key ∷ rest) there here → assigned_to there n ≡ assigned_to here n
   stored-same n key agrees = agrees.names n (or-first (same_name n n) (is_live n rest) (same_name-itself n))
 
   pub after-store : (n : Name) (key : Key) → Agrees (tree.Store n key ∷ rest) there here

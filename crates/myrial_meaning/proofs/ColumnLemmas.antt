@@ -1,5 +1,5 @@
 -- Whether a script has a meaning depends on columns alone.
-use Rattle.std.proofs.Common.{◌≡◌, ◌∙◌, Bool, true, false, cond, Option, Some, None, option_map, option_and_then, List, [], ◌∷◌, ◌++◌, map, find, is_some, refl, sym, ap}
+use Rattle.std.proofs.Common.{◌≡◌, ◌∙◌, Bool, true, false, ◌&&◌, cond, Option, Some, None, option_map, option_and_then, List, [], ◌∷◌, ◌++◌, map, find, is_some, refl, sym, ap}
 use Rattle.std.proofs.lemmas.List.{map-append}
 use Rattle.std.specs.Option.{option_map_or}
 use Rattle.rel_base.specs.Each.{each_or_none, put_before}
@@ -13,11 +13,13 @@ use Rattle.myrial_ast.specs.Trees.{Name, Tree, EmitTree, RelTree, StatementTree}
 use Rattle.myrial_ast.specs.Trees as tree
 use Rattle.myrial_ast.specs.Bags.{union_all, distinct, difference}
 use Rattle.myrial_ast.specs.Combinations.{Rows}
+use Rattle.algebra.specs.Conditions.{same_kinds}
 use Rattle.myrial_scopes.specs.Scopes.{ItemSchema, same_name, scope_of}
 use Rattle.myrial_scopes.specs.Emits.{Resolved, resolved}
 use Rattle.myrial_meaning.specs.Environments.{assigned_to, kept_under, nothing_yet, operand_of, with_key, with_name}
 use Rattle.myrial_meaning.specs.Meaning.{RelationEnvironment, ItemRelation, after, comprehension_over, comprehension_rows, items_of, of_one, of_two, relation_of, item_relation, tables_of}
-use Rattle.myrial_meaning.specs.Runnable.{all_defined, has_meaning, is_defined}
+use Rattle.myrial_meaning.specs.Permuted.{Alike, SameEntry, SameEnvironment, no_more, one_more}
+use Rattle.myrial_meaning.specs.Runnable.{all_defined, has_meaning, is_defined, kinds_of_relation, operands_fit}
 use Rattle.myrial_meaning.specs.inner.Columns.{all_declared, bare, columns_of_two, declared}
 
 -- ---- without rows
@@ -72,7 +74,28 @@ found-key key (p ∷ ps) = by (same_key p.0 key) (found-key key ps)
     by true e = refl
     by false e = e
 
+kinds-bare : (found : Option RelationState) → kinds_of_relation (option_map bare found) ≡ kinds_of_relation found
+kinds-bare None = refl
+kinds-bare (Some t) = refl
+
 -- ---- environments with the same columns
+
+names-bare : {ps qs : List (Name × RelationState)} → Alike (SameEntry {K = Name}) ps qs → map bare_name ps ≡ map bare_name qs
+unfolding bare_name
+names-bare no_more = refl
+names-bare (one_more p q ps qs same rest) =
+    λ i. (same.name i, record { schema = same.table.schema i; rows = [] }) ∷ names-bare rest i
+
+files-bare : {ps qs : List File} → Alike (SameEntry {K = Key}) ps qs → map bare_file ps ≡ map bare_file qs
+unfolding bare_file
+files-bare no_more = refl
+files-bare (one_more p q ps qs same rest) =
+    λ i. (same.name i, record { schema = same.table.schema i; rows = [] }) ∷ files-bare rest i
+
+-- relations with their rows in another order have the same columns
+same-columns : (there here : RelationEnvironment) → SameEnvironment there here → columns_of there ≡ columns_of here
+unfolding columns_of
+same-columns there here same = λ i. record { assigned = names-bare same.assigned i; stored = files-bare same.stored i }
 
 module _ (files : List File) (there here : RelationEnvironment) (same : columns_of there ≡ columns_of here) where
   name-columns : (name : Name) → option_map bare (assigned_to there name) ≡ option_map bare (assigned_to here name)
@@ -185,9 +208,22 @@ module _ (files : List File) (there here : RelationEnvironment) (same : columns_
   relation-columns (tree.From items condition emits) =
       comprehension-columns condition emits (each_or_none (item_relation files there) items) (each_or_none (item_relation files here) items) (sources-columns items)
 
+  kinds-columns : (o : Operand) → kinds_of_relation (operand_of files there o) ≡ kinds_of_relation (operand_of files here o)
+  kinds-columns o =
+      sym (kinds-bare (operand_of files there o)) ∙ (ap kinds_of_relation (operand-columns o) ∙ kinds-bare (operand_of files here o))
+
+  operands_fit-columns : (r : RelTree) → operands_fit files there r ≡ operands_fit files here r
+  operands_fit-columns (tree.Copy o) = refl
+  operands_fit-columns (tree.Empty schema) = refl
+  operands_fit-columns (tree.Distinct o) = refl
+  operands_fit-columns (tree.UnionAll o p) = λ i. same_kinds (kinds-columns o i) (kinds-columns p i)
+  operands_fit-columns (tree.Diff o p) = λ i. same_kinds (kinds-columns o i) (kinds-columns p i)
+  operands_fit-columns (tree.From items condition emits) = refl
+
   is_defined-columns : (s : StatementTree) → is_defined files there s ≡ is_defined files here s
   is_defined-columns tree.Nothing = refl
-  is_defined-columns (tree.Assign name r) = is_some-same bare (relation_of files there r) (relation_of files here r) (relation-columns r)
+  is_defined-columns (tree.Assign name r) =
+      λ i. is_some-same bare (relation_of files there r) (relation_of files here r) (relation-columns r) i && operands_fit-columns r i
   is_defined-columns (tree.Store name key) = is_some-same bare (assigned_to there name) (assigned_to here name) (name-columns name)
 
   named-columns : (name : Name) (o p : Option RelationState) → option_map bare o ≡ option_map bare p
@@ -218,6 +254,11 @@ module _ (files : List File) (there here : RelationEnvironment) (same : columns_
   after-columns tree.Nothing = same
   after-columns (tree.Assign name r) = named-columns name (relation_of files there r) (relation_of files here r) (relation-columns r)
   after-columns (tree.Store name key) = keyed-columns key (assigned_to there name) (assigned_to here name) (name-columns name)
+
+-- whether a statement stands for something doesn't depend on the order of rows
+pub is_defined-same : (files : List File) (there here : RelationEnvironment) → SameEnvironment there here → (s : StatementTree)
+    → is_defined files there s ≡ is_defined files here s
+is_defined-same files there here same = is_defined-columns files there here (same-columns there here same)
 
 -- the rest stands for something, told from the columns alone
 all-columns : (files : List File) (rest : List StatementTree) (there here : RelationEnvironment) → columns_of there ≡ columns_of here

@@ -1,5 +1,5 @@
 -- How far the evaluation of a script has come.
-use Rattle.std.proofs.Common.{◌≡◌, ◌∙◌, ℕ, suc, ◌+◌, ◌<◌, true, false, cond, Option, Some, None, List, [], ◌∷◌, length, reverse, fold, is_some, map, refl, sym, ap, subst, arith, add-one}
+use Rattle.std.proofs.Common.{◌≡◌, ◌∙◌, ℕ, suc, ◌+◌, ◌<◌, true, false, ◌&&◌, cond, Option, Some, None, List, [], ◌∷◌, length, reverse, fold, is_some, map, refl, sym, ap, subst, arith, add-one}
 use Rattle.std.specs.Option.{option_map_or}
 use Rattle.rel_base.specs.Keys.{File}
 use Rattle.rel_base.specs.Relations.{RelationState}
@@ -12,13 +12,14 @@ use Rattle.myrial_meaning.specs.Environments.{assigned_to, nothing_yet, with_key
 use Rattle.myrial_meaning.specs.Meaning.{RelationEnvironment, after, relation_of, stored_relations}
 use Rattle.myrial_meaning.specs.Needed.{is_needed}
 use Rattle.myrial_meaning.specs.Faults.{fault_from, run_fault, statement_fault}
-use Rattle.myrial_meaning.specs.Runnable.{all_defined, has_meaning, is_defined}
+use Rattle.myrial_meaning.specs.Runnable.{all_defined, has_meaning, is_defined, operands_fit}
 use Rattle.myrial_meaning.specs.Evaluating.{IsFault}
 use Rattle.myrial_meaning.specs.SortedFiles.{sorted_file}
 use Rattle.myrial_meaning.specs.Permuted.{SameEntry, SameEnvironment}
 use Rattle.myrial_meaning.proofs.MeaningPermutations.{Alike-reverse, after-same}
 use Rattle.myrial_meaning.proofs.FaultPermutations.{SameEnvironment-itself, SameEnvironment-trans, entries-itself, entries-long, files-sorted, statement_fault-permuted}
-use Rattle.myrial_meaning.proofs.AgreementLemmas.{Agrees, after-assign, after-nothing, after-store, after-unneeded, mentioned, relation_fault-agrees}
+use Rattle.myrial_meaning.proofs.AgreementLemmas.{Agrees, after-assign, after-nothing, after-store, after-unneeded, mentioned, operands_fit-agrees, relation-agrees, relation_fault-agrees, stored-same}
+use Rattle.myrial_meaning.proofs.ColumnLemmas.{is_defined-same}
 use Rattle.myrial_meaning.proofs.BoolLemmas.{and-first, and-second}
 
 -- the rest of the script, whose first statement has this number, leads from the evaluator's environment to what the script stores
@@ -83,7 +84,17 @@ module _ (files : List File) (script : List StatementTree) where
       → Agrees (s ∷ rest) there here → Agrees rest (after files there s) (after files here s)
   after-needed tree.Nothing rest there here needed means agrees = after-nothing files there here rest agrees
   after-needed (tree.Store n key) rest there here needed means agrees = after-store files there here rest n key agrees
-  after-needed (tree.Assign n r) rest there here needed means agrees = after-assign files there here rest n r needed means agrees
+  after-needed (tree.Assign n r) rest there here needed means agrees =
+      after-assign files there here rest n r needed (and-first (is_some (relation_of files there r)) (operands_fit files there r) means) agrees
+
+  -- a needed statement stands for something in both
+  defined-same : (s : StatementTree) (rest : List StatementTree) (there here : RelationEnvironment) → is_needed s rest ≡ true → Agrees (s ∷ rest) there here
+      → is_defined files there s ≡ is_defined files here s
+  defined-same tree.Nothing rest there here needed agrees = refl
+  defined-same (tree.Store n key) rest there here needed agrees = ap is_some (stored-same files there here rest n key agrees)
+  defined-same (tree.Assign n r) rest there here needed agrees =
+      let uses = mentioned files there here rest n r needed agrees in
+      λ i. is_some (relation-agrees files there here r uses i) && operands_fit-agrees files there here r uses i
 
   after-skipped : (s : StatementTree) (rest : List StatementTree) (there here : RelationEnvironment) → is_needed s rest ≡ false
       → Agrees (s ∷ rest) there here → Agrees rest (after files there s) here
@@ -179,6 +190,13 @@ module _ (files : List File) (script : List StatementTree) where
       → BagStage files script (s ∷ rest) number here → BagStage files script rest (number + 1) here
   bag-skipped s rest number here unneeded b =
       record { same_as = b.same_as; same = b.same; stage = stage-skipped files script s rest number b.same_as unneeded b.stage }
+
+  -- a needed statement stands for something
+  pub bag-defined : (s : StatementTree) (rest : List StatementTree) (number : ℕ) (here : RelationEnvironment) → is_needed s rest ≡ true
+      → BagStage files script (s ∷ rest) number here → is_defined files here s ≡ true
+  bag-defined s rest number here needed b =
+      sym (defined-same files script s rest b.stage.there b.same_as needed b.stage.agrees ∙ is_defined-same files b.same_as here b.same s)
+      ∙ meaningful-first files script s rest number b.same_as b.stage
 
   -- what a statement without a fault leaves
   pub bag-run : (s : StatementTree) (rest : List StatementTree) (number : ℕ) (here new : RelationEnvironment) → is_needed s rest ≡ true

@@ -22,6 +22,7 @@ use Rattle.myrial_ast.specs.Scalars.{Scalar, Lit, At, Not, Neg, Bin, exact_value
 use Rattle.myrial_ast.specs.Bags.{same_row, distinct}
 use Rattle.myrial_ast.specs.Combinations.{Row, Rows, all_hold, candidates, combinations, combined_row, combined_rows, emitted, listed_from}
 use Rattle.myrial_ast.specs.Groups.{Kinds, has_aggregate, key_of, keys, members, lesser, greater, cell, group_row, groups, result_rows}
+use Rattle.algebra.specs.Conditions.{same_kinds}
 use Rattle.bag_laws.proofs.ColumnLemmas.{behind, firsts, by_columns, group_row-columns}
 use Rattle.bag_laws.proofs.PartialLemmas.{itself, other}
 use Rattle.myrial_scopes.specs.Scopes.{ItemSchema, ScopeColumn, column_at, columns_of, kind_of, places_under, scalar_of, scope_of, scoped}
@@ -46,6 +47,16 @@ same_type-equal kind.Str kind.Int e = cc
 same_type-equal kind.Str kind.Bool e = cc
 same_type-equal kind.Bool kind.Int e = cc
 same_type-equal kind.Bool kind.Str e = cc
+
+-- lists of types that are the same are equal
+pub same_kinds-equal : (ks js : List ColType) → same_kinds ks js ≡ true → ks ≡ js
+same_kinds-equal [] [] e = refl
+same_kinds-equal [] (j ∷ js) e = cc
+same_kinds-equal (k ∷ ks) [] e = cc
+same_kinds-equal (k ∷ ks) (j ∷ js) e =
+    let first = sym (same_type-equal k j (and-first (same_type k j) (same_kinds ks js) e)) in
+    let others = same_kinds-equal ks js (and-second (same_type k j) (same_kinds ks js) e) in
+    λ i. first i ∷ others i
 
 same_type-itself : (t : ColType) → same_type t t ≡ true
 same_type-itself kind.Int = refl

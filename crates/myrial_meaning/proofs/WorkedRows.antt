@@ -17,7 +17,7 @@ use Rattle.myrial_ast.specs.declared.relations.Operand.TheVariants as operand
 use Rattle.myrial_ast.specs.declared.expressions.ColRef.TheVariants as ref
 use Rattle.myrial_ast.specs.declared.operators.BinOp.TheVariants as op
 use Rattle.myrial_ast.specs.declared.operators.AggOp.TheVariants as agg
-use Rattle.myrial_ast.specs.Trees.{Name, Tree, EmitTree, StatementTree, Lit, Col, Bin, Agg, AggAll, One, Copy, Distinct, UnionAll, Diff, From, Assign, Store, Nothing}
+use Rattle.myrial_ast.specs.Trees.{Name, Tree, EmitTree, RelTree, StatementTree, Lit, Col, Bin, Agg, AggAll, One, Copy, Empty, Distinct, UnionAll, Diff, From, Assign, Store, Nothing}
 use Rattle.myrial_ast.specs.Loads.{load_key}
 use Rattle.myrial_ast.specs.CandidateFaults.{Counted, Uncounted}
 use Rattle.myrial_meaning.specs.Meaning.{stored_relations}
@@ -82,6 +82,16 @@ meaning-two_edges = refl
 -- a column that isn't there means nothing
 pub meaning-without_a_file : has_meaning [] two_edges ≡ false
 meaning-without_a_file = refl
+
+-- bags of other column types are not put together, nor taken from one another
+abbrev with_flags : RelTree → List StatementTree
+with_flags r = Assign (codes "A") (Empty (record { name = codes "x"; kind = kind.Int } ∷ record { name = codes "b"; kind = kind.Bool } ∷ [])) ∷ Assign (codes "B") r ∷ []
+
+pub meaning-other_types : has_meaning edges (with_flags (UnionAll (scanned (codes "R")) (operand.Named (codes "A")))) ≡ false
+meaning-other_types = refl
+
+pub meaning-same_types : has_meaning edges (with_flags (Diff (scanned (codes "R")) (scanned (codes "R")))) ≡ true
+meaning-same_types = refl
 
 -- ---- what a name and a key stand for
 

@@ -1,17 +1,20 @@
 //! Whether each statement of a script stands for something, which `evaluate` requires.
-ghost use Rattle.std.specs.Prelude.{◌≡◌, map, option_map, IfOk};
+ghost use Rattle.std.specs.Prelude.{◌≡◌, map, option_map, IfOk, IsTrue};
+ghost use Rattle.std.specs.Option.{option_copied};
 ghost use Rattle.myrial_ast.specs.Trees.{tree_of, emit_tree_of, rel_tree_of, statement_tree_of, trees_of};
 ghost use Rattle.myrial_meaning.specs.Environments.{assigned_to, operand_of};
 ghost use Rattle.myrial_meaning.specs.Meaning.{comprehension_over, relation_of};
-ghost use Rattle.myrial_meaning.specs.Runnable.{is_defined, has_meaning};
+ghost use Rattle.algebra.specs.Conditions.{kinds_of_columns, same_kinds};
+ghost use Rattle.myrial_meaning.specs.Runnable.{is_defined, has_meaning, kinds_of_relation, operands_fit};
 ghost use Rattle.myrial_meaning.specs.inner.Columns.{columns_of_two, declared};
 
 use crate::environment::Environment;
 use crate::holding::Held;
 use crate::items::{ItemRelation, schemas_of};
+use algebra::is_kind;
 use myrial_ast::{EmitItems, Expr, Operand, RelExpr, Script, Stmt};
 use myrial_scopes::Scope;
-use rel_base::{Duplicate, Files, Memory, Relation, Rows, Schema, Text};
+use rel_base::{Column, Duplicate, Files, Memory, Relation, Rows, Schema, Text};
 use std::alloc::Global;
 
 /// The columns of a comprehension over these items; `None` where a reference doesn't mean one column.
@@ -33,7 +36,43 @@ fn columns_over<'a>(
     Ok(Some(schema))
 }
 
+/// Whether two lists of columns have the same types, one after another.
+pub fn have_same_kinds(columns: &[Column], others: &[Column]) -> bool
+    ensures { result ≡ same_kinds (kinds_of_columns columns.now) (kinds_of_columns others.now) }
+{
+    match (columns, others) {
+        ([], []) => true,
+        ([column, columns @ ..], [other, others @ ..]) => {
+            is_kind(column.kind, Some(other.kind)) && have_same_kinds(columns, others)
+        }
+        _ => false,
+    }
+}
+
+/// The columns of a relation; none where there is no relation.
+fn columns_in(relation: Option<&Relation>) -> &[Column]
+    ensures { kinds_of_columns result.now ≡ kinds_of_relation (option_copied relation.entry) }
+{
+    match relation {
+        Some(relation) => relation.schema().as_slice(),
+        None => &[],
+    }
+}
+
 impl<'a> Environment<'a> {
+    /// Whether the operands of a relation expression have columns of the same types, where they have to.
+    fn operands_fit(&self, files: &'a Files, relation: &RelExpr) -> bool
+        ensures { result ≡ operands_fit files.entry.now self.now (rel_tree_of relation.now) }
+    {
+        match relation {
+            RelExpr::UnionAll(left, right) | RelExpr::Diff(left, right) => {
+                let left = columns_in(self.operand(files, left));
+                have_same_kinds(left, columns_in(self.operand(files, right)))
+            }
+            _ => true,
+        }
+    }
+
     /// The columns of an operand; `None` where it stands for no relation.
     fn columns_of_operand(
         &self,
@@ -107,7 +146,7 @@ impl<'a> Environment<'a> {
         statement: &'a Stmt,
     ) -> Result<bool, Memory>
         ensures defined { IfOk result (λ is_so. is_so ≡ is_defined files.entry.now self.old (statement_tree_of statement.entry.now)) }
-        ensures declared { IfOk result (λ _. self.new ≡ declared files.entry.now self.old (statement_tree_of statement.entry.now)) }
+        ensures declared { IfOk result (λ is_so. IsTrue is_so → self.new ≡ declared files.entry.now self.old (statement_tree_of statement.entry.now)) }
     {
         match statement {
             Stmt::Nothing => Ok(true),
@@ -115,6 +154,9 @@ impl<'a> Environment<'a> {
                 let Some(schema) = self.columns_of(alloc, files, relation)? else {
                     return Ok(false);
                 };
+                if !self.operands_fit(files, relation) {
+                    return Ok(false);
+                }
                 let bare = Relation::new(schema, Rows::new(alloc));
                 self.assign(name, Held::Made(bare))?;
                 Ok(true)
@@ -131,8 +173,8 @@ impl<'a> Environment<'a> {
     }
 }
 
-/// Whether each statement stands for something: each name and key for a relation, and each reference for one column.
-/// Rows are not looked at.
+/// Whether each statement stands for something: each name and key for a relation, each reference for one column, and the
+/// operands of a `unionall` or a `diff` for columns of the same types. Rows are not looked at.
 pub fn has_meaning<'a>(alloc: Global, script: &'a Script, files: &'a Files) -> Result<bool, Memory>
     ensures { IfOk result (λ means. means ≡ has_meaning files.entry.now (trees_of script.entry.now)) }
 {

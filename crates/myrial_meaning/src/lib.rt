@@ -6,11 +6,11 @@
 //!
 //! Promises: `evaluate` gives what a script stores, each relation's rows in ascending order, or the fault of its run, as
 //! the definitions say; statements that no store needs are not run. `has_meaning` tells whether each name, key and
-//! reference of a script stands for something, which is all that `evaluate` requires; `fetched_keys` gives the keys whose
+//! reference of a script stands for something and what is put together has columns of the same types, which is all that
+//! `evaluate` requires; `fetched_keys` gives the keys whose
 //! files a script scans or loads. That the test of needed statements tells what their rule says is a law. Contracts see a script by
 //! `trees_of`.
 //! Not promised: that memory is there; speed, since a comprehension goes over every combination of its items' rows.
-//! A script whose `unionall` has operands of other column types, which no typed script has, is answered by want of memory.
 //!
 //! Read `specs/Environments.antt`, `specs/Meaning.antt`, `specs/Needed.antt`, `specs/Faults.antt` and
 //! `specs/Runnable.antt`, then `evaluating.rt`, `statements.rt` and `loops.rt`.
@@ -31,7 +31,7 @@ mod needed_files;
 mod rules;
 mod statements;
 
-pub use checking::has_meaning;
+pub use checking::{has_meaning, have_same_kinds};
 pub use evaluating::evaluate;
 pub use laws::needed_statements_are_the_least_set;
 pub use needed_files::{Fetch, Fetches, fetched_keys};

@@ -8,4 +8,14 @@ mod ClassesLemmas
 mod AssignLemmas
 mod ComprehensionLemmas
 mod CheckingLemmas
+mod ResolvedLemmas
+pub mod LoadLemmas
+mod FollowLemmas
+mod ValueLemmas
+mod MeaningLemmas
+pub mod DefinedLemmas
+mod UsedLemmas
+mod FaultLemmas
+mod ScalarKindLemmas
+mod FormedLemmas
 mod WorkedRows

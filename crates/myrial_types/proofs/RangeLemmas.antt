@@ -20,11 +20,11 @@ use Rattle.myrial_types.specs.Resolving.{MeantItem, kinds_of_items, schemas_of}
 
 -- ---- places
 
-abbrev AllBelow : ℕ → List ℕ → Type 0
+abbrev pub AllBelow : ℕ → List ℕ → Type 0
 AllBelow n [] = ⊤
 AllBelow n (x ∷ xs) = (x < n) × AllBelow n xs
 
-places-below : {X : Type 0} (test : ℕ → X → Bool) (end from : ℕ) (xs : List X) → from + length xs ≤ end
+pub places-below : {X : Type 0} (test : ℕ → X → Bool) (end from : ℕ) (xs : List X) → from + length xs ≤ end
     → AllBelow end (map (λ (p : ℕ × X). p.0) (filter (λ (p : ℕ × X). test p.0 p.1) (enumerate_from from xs)))
 places-below test end from [] l = tt
 places-below {X} test end from (x ∷ xs) l = by (test from x) (places-below test end (from + 1) xs (omega (arith, l)))
@@ -39,7 +39,7 @@ only-below n [] place h e = cc
 only-below n (x ∷ []) place h e = let same : x ≡ place = cc in subst (λ p. p < n) same h.0
 only-below n (x ∷ y ∷ xs) place h e = cc
 
-place-below : (scope : List ScopeColumn) (r : ColRef) (place : ℕ) → place_of scope r ≡ Some place → place < length scope
+pub place-below : (scope : List ScopeColumn) (r : ColRef) (place : ℕ) → place_of scope r ≡ Some place → place < length scope
 place-below scope r place e = only-below (length scope) (places_of scope r) place (places-below (may_mean r) (length scope) 0 scope (omega arith)) e
 
 -- ---- expressions

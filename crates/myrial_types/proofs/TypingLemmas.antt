@@ -14,7 +14,7 @@ use Rattle.myrial_types.specs.Kinds.{comprehension_kind, is_unknown, limit_kind,
 use Rattle.myrial_types.specs.inner.Terms.{items_kind}
 
 module _ (files : List File) (names : Names) where
-  any-unknown : (items : List FromItem) → list_any (is_unknown files names) (map (λ (item : FromItem). item.source) items) ≡ is_none (each_or_none (item_meant files names) items)
+  pub any-unknown : (items : List FromItem) → list_any (is_unknown files names) (map (λ (item : FromItem). item.source) items) ≡ is_none (each_or_none (item_meant files names) items)
   any-unknown [] = refl
   any-unknown (item ∷ items) = by (meant files names item.source) (each_or_none (item_meant files names) items) (any-unknown items)
     where

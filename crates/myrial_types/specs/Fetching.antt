@@ -2,6 +2,7 @@
 --
 --   contradicts l m                 two loads give one file two forms
 --   has_conflict earlier loads      a load gives a file another form than an earlier one
+--   have_forms files script         each loaded file has the columns of its first load
 --   are_fetched files script        the files are those that the script needs, with 1 to 16 columns, and a loaded one has those
 --                                   of its first load
 use Rattle.std.specs.Prelude.{Bool, true, false, ◌&&◌, ◌||◌, not, ◌==◌, nat_lt, nat_le, List, [], ◌∷◌, ◌++◌, length, Option, Some, None}
@@ -52,6 +53,10 @@ has_columns relation = nat_lt 0 (length relation.schema) && nat_le (length relat
 abbrev pub is_fetched : List Fetch → Key → Bool
 is_fetched wanted key = list_any (λ (f : Fetch). same_key f.key key) wanted
 
+-- whether each loaded file has the columns of its first load
+abbrev pub have_forms : List File → List StatementTree → Bool
+have_forms files script = list_all (λ (file : File). has_form (form_in script file.0) file.1) files
+
 -- whether the files are those that the script needs and no others, each with 1 to 16 columns, and a loaded one with those of
 -- its first load
 abbrev pub are_fetched : List File → List StatementTree → Bool
@@ -59,4 +64,4 @@ are_fetched files script =
     list_all (λ (f : Fetch). holds_key files f.key) (fetches script)
     && list_all (λ (file : File). is_fetched (fetches script) file.0) files
     && list_all (λ (file : File). has_columns file.1) files
-    && list_all (λ (file : File). has_form (form_in script file.0) file.1) files
+    && have_forms files script

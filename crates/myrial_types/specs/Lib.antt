@@ -4,4 +4,5 @@ pub mod Fetching
 pub mod Resolving
 pub mod Kinds
 pub mod Checking
+pub mod Laws
 pub mod inner

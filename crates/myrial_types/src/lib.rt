@@ -8,8 +8,10 @@
 //! Promises: `fetches` gives the files that a script needs, each once, with the form of its first load, as `fetches` of
 //! `myrial_meaning` (`specs/Fetches.antt`) defines them; `check` gives what a script comes to, as `checked_of`
 //! (`specs/Checking.antt`) defines it: its steps and stores, or the first statement that isn't typed and its first kind of
-//! fault. It takes any tree and any files. Contracts see a script by `trees_of` and steps by `checked_tree_of`.
-//! Not promised: that memory is there; that the steps mean what the script means, which no law says yet.
+//! fault. It takes any tree and any files. The steps of a typed script over its files store what the script stores
+//! (`StepsMeanTheScript`, `specs/Laws.antt`), and every statement of one resolves (`TypedStatementsResolve`). Contracts see
+//! a script by `trees_of` and steps by `checked_tree_of`.
+//! Not promised: that memory is there; that the steps have the faults of the script, which no law says yet.
 //!
 //! Read `specs/Resolving.antt`, `specs/Kinds.antt` and `specs/Checking.antt`, then `checking.rt`.
 #![tactic(auto)]
@@ -19,6 +21,7 @@ mod classes;
 mod faults;
 mod fetching;
 mod kinds;
+mod laws;
 mod loads;
 mod names;
 mod terms;
@@ -26,6 +29,10 @@ mod terms;
 pub use checking::check;
 pub use faults::{TypeFault, TypeKind};
 pub use fetching::fetches;
+pub use laws::{
+    steps_are_of_the_files, steps_have_the_fault, steps_mean_the_script,
+    typed_scripts_have_meaning, typed_statements_resolve,
+};
 pub use myrial_ast::LoadForm;
 pub use myrial_meaning::{Fetch, Fetches};
 

@@ -51,6 +51,12 @@ stepped_more start step (suc n) =
 pub rest_nonempty : {X : Type 0} (x : List X) (xs : List (List X)) → All (λ s. 0 < length s) (x ∷ xs) → All (λ s. 0 < length s) xs
 rest_nonempty x xs all k d low = all (suc k) d (omega arith)
 
+-- two functions that agree on the items make the same list of them
+pub map-agree : {X Y : Type 0} (f g : X → Y) (xs : List X) → All (λ x. f x ≡ g x) xs → map f xs ≡ map g xs
+map-agree f g [] same = refl
+map-agree f g (x ∷ xs) same =
+    rw (same 0 x (omega arith)) (ap (λ ys. g x ∷ ys) (map-agree f g xs (λ k d low. same (suc k) d (omega (arith, low)))))
+
 module _ {X : Type 0} where
   pub one_item : (xs : List X) (p : ℕ) (d : X) → p < length xs → take 1 (drop p xs) ≡ get_or xs p d ∷ []
   one_item xs p d low = rw (drop_more xs p d low) refl

@@ -158,6 +158,10 @@ impl Rows {
         requires room { length places.now < 2 ^ 32 }
         ensures { IfOk result (λ made. made ≡ items_at self.now places.now) }
     {
+        if let Some(only) = self.only_stretch() {
+            let made = Rows::of_stretch(alloc, only.at_numbers(alloc, 0, places)?)?;
+            return Ok(made);
+        }
         let mut picked = SharedRows::new(alloc);
         let mut done = 0;
         while done < places.len() {
@@ -188,17 +192,24 @@ impl Rows {
         Ok(made)
     }
 
-    /// The block, where these are all of its rows in its order.
-    fn as_block(&self) -> Option<&Block>
-        ensures { IfSome result (λ block. block.now ≡ self.now) }
+    /// The stretch, where all rows stand in one.
+    fn only_stretch(&self) -> Option<&Stretch>
+        ensures { IfSome result (λ stretch. stretch.now ≡ self.now) }
     {
         if !self.own.is_empty() {
             return None;
         }
         match self.shared.as_slice() {
-            [only] => only.as_block(),
+            [only] => Some(only),
             _ => None,
         }
+    }
+
+    /// The block, where these are all of its rows in its order.
+    fn as_block(&self) -> Option<&Block>
+        ensures { IfSome result (λ block. block.now ≡ self.now) }
+    {
+        self.only_stretch()?.as_block()
     }
 
     /// The rows at the first places, as many as stand in one stretch.

@@ -107,11 +107,7 @@ impl Stretch {
         ensures { IfOk result (λ made. made ≡ items_at self.now (map (λ n. n - first) numbers.now)) }
     {
         let block = self.block.copy(alloc)?;
-        let len = block.len();
-        let mut places = Vec::with_capacity(alloc, numbers.len())?;
-        for number in numbers {
-            places.push(self.selection.place(len, *number - first))?;
-        }
+        let places = self.selection.places(alloc, block.len(), first, numbers)?;
         Ok(Stretch {
             block,
             selection: Selection::At { places },
@@ -150,18 +146,66 @@ pub fn steps_below(len: u32, step: u32, start: u32) -> u32
 impl Selection {
     ghost use Rattle.rel_base.specs.inner.Selections.{places_of};
 
-    /// The place of row number `i` in a block of this length.
-    fn place(&self, len: u32, i: u32) -> u32
+    /// The places, in a block of this length, of the rows with these numbers, where the first row has the number `first`.
+    fn places(
+        &self,
+        alloc: Global,
+        len: u32,
+        first: u32,
+        numbers: &[u32],
+    ) -> Result<Vec<u32>, Memory>
         requires within { All (λ p. p < len) (places_of self.now) }
-        requires low { i < length (places_of self.now) }
-        ensures value { result ≡ slice_index_or (places_of self.now) i 0 }
-        ensures inside { result < len }
+        requires low { All (λ n. first ≤ n) numbers.now }
+        requires high { All (λ n. n < first + length (places_of self.now)) numbers.now }
+        ensures { IfOk result (λ made. made.items
+            ≡ map (λ n. slice_index_or (places_of self.now) (n - first) 0) numbers.now) }
     {
         match self {
-            Selection::Every { start, step, .. } => *start + *step * i,
-            Selection::At { places } => places[i as usize],
+            Selection::Every { start, step, .. } => {
+                places_by_step(alloc, *start, *step, first, numbers)
+            }
+            Selection::At { places } => places_among(alloc, places.as_slice(), first, numbers),
         }
     }
+}
+
+/// The places of the rows with these numbers, where the first row has the number `first` and the place `start`, and each
+/// further row stands a step behind.
+fn places_by_step(
+    alloc: Global,
+    start: u32,
+    step: u32,
+    first: u32,
+    numbers: &[u32],
+) -> Result<Vec<u32>, Memory>
+    requires low { All (λ n. first ≤ n) numbers.now }
+    requires high { All (λ n. start + step * (n - first) < 2 ^ 32) numbers.now }
+    ensures { IfOk result (λ made. made.items ≡ map (λ n. start + step * (n - first)) numbers.now) }
+{
+    let mut places = Vec::from_slice(alloc, numbers)?;
+    for place in places.iter_mut() {
+        *place = start + step * (*place - first);
+    }
+    Ok(places)
+}
+
+/// Of these places those with these numbers, where the first has the number `first`.
+fn places_among(
+    alloc: Global,
+    among: &[u32],
+    first: u32,
+    numbers: &[u32],
+) -> Result<Vec<u32>, Memory>
+    requires low { All (λ n. first ≤ n) numbers.now }
+    requires high { All (λ n. n < first + length among.now) numbers.now }
+    ensures { IfOk result (λ made. made.items
+        ≡ map (λ n. slice_index_or among.now (n - first) 0) numbers.now) }
+{
+    let mut places = Vec::from_slice(alloc, numbers)?;
+    for place in places.iter_mut() {
+        *place = among[(*place - first) as usize];
+    }
+    Ok(places)
 }
 
 /// The same rows, shared: none is copied.

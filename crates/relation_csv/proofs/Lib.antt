@@ -8,6 +8,7 @@ pub mod NoMemoryLemmas
 pub mod ReadAsLemmas
 pub mod SchemaLemmas
 pub mod RowLemmas
+pub mod PlainLemmas
 pub mod RowsLemmas
 pub mod RelationLemmas
 pub mod TypeLemmas

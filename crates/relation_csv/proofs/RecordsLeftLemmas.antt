@@ -17,7 +17,7 @@ use Rattle.relation_csv.specs.Files.{Record, is_text}
 use Rattle.relation_csv.specs.inner.RecordsLeft.{IsSteady, StartsWithNoText, bytes_in, records_after, records_left}
 
 -- what follows a record is shorter than what it was read from, if that had a byte
-next_record-shorter : (cfg : Config) (s : State) (fields : List (List ℕ)) (field : List ℕ) (c : ℕ) (rest : List ℕ)
+pub next_record-shorter : (cfg : Config) (s : State) (fields : List (List ℕ)) (field : List ℕ) (c : ℕ) (rest : List ℕ)
     (p : Read)
     → next_record cfg s fields field (c ∷ rest) ≡ Some p → length p.2 ≤ length rest
 unfolding next_record

@@ -82,7 +82,8 @@ fn type_of(name: &str) -> Option<ColType>
 }
 
 /// The value of this type that a field writes, which stands in this record and column.
-fn value_of(
+#[inline(always)]
+pub(crate) fn value_of(
     alloc: Global,
     kind: ColType,
     field: &str,

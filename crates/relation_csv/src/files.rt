@@ -1,9 +1,11 @@
 //! Files: reads the relation of a file.
-ghost use Rattle.relation_csv.specs.Files.{IsReadAs, relation_of_bytes, relation_with, rows_of_records};
+ghost use Rattle.std.specs.Prelude.{◌≡◌, drop};
+ghost use Rattle.relation_csv.specs.Files.{IsReadAs, records_of_bytes, relation_of_bytes, relation_with, rows_of_records};
 ghost use Rattle.relation_csv.specs.inner.RecordsLeft.{IsSteady, records_left};
 
 use crate::RelFault;
 use crate::fields::{row_of, schema_of};
+use crate::plain::plain_rows;
 use crate::records::{Next, read_next, reader_of, skip_records};
 use csv::{Reader, StringRecord};
 use rel_base::{Duplicate, MOST_ROWS, Relation, Rows, Schema};
@@ -26,7 +28,7 @@ pub fn read_relation(alloc: Global, bytes: &[u8]) -> Result<Relation, RelFault>
         Next::Record => {}
     }
     let schema = schema_of(alloc, &fields)?;
-    let rows = rows_of(alloc, &schema, &mut reader)?;
+    let rows = rows_behind(alloc, &schema, bytes, 1, &mut reader)?;
     Ok(Relation::new(schema, rows))
 }
 
@@ -47,8 +49,27 @@ pub fn read_with(
     if !skip_records(alloc, &mut reader, skip)? {
         return Ok(Relation::new(schema, Rows::new(alloc)));
     }
-    let rows = rows_of(alloc, &schema, &mut reader)?;
+    let rows = rows_behind(alloc, &schema, bytes, skip, &mut reader)?;
     Ok(Relation::new(schema, rows))
+}
+
+/// Reads the rows of all records that are left, which are those behind the first `skip` of the file: where they stand, or
+/// else record by record.
+fn rows_behind(
+    alloc: Global,
+    schema: &Schema,
+    bytes: &[u8],
+    skip: u64,
+    reader: &mut Reader<&[u8]>,
+) -> Result<Rows, RelFault>
+    requires steady { IsSteady reader.old }
+    requires left { records_left reader.old ≡ drop skip (records_of_bytes bytes.now) }
+    ensures { IsReadAs result (rows_of_records schema.now (records_left reader.old)) }
+{
+    match plain_rows(alloc, schema, bytes, skip)? {
+        Some(rows) => Ok(rows),
+        None => rows_of(alloc, schema, reader),
+    }
 }
 
 /// Reads the rows of all records that are left. They are shared from the start.

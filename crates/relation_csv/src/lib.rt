@@ -15,6 +15,7 @@ mod faults;
 mod fields;
 mod files;
 mod laws;
+mod plain;
 mod records;
 mod texts;
 

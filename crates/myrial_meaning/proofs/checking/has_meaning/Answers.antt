@@ -33,7 +33,7 @@ loop-statement-preserved c =
     c.loop-statement.invariant
     ∙ (ap (all_declared c.args.files.now c.loop-statement.names) split
     ∙ (all_declared-here c.args.files.now c.loop-statement.names (statement_tree_of c.statement-item.result) (drop (i + 1) (trees_of script)) holds
-    ∙ rw (← c.in_ok-declare.ensures.declared) refl))
+    ∙ rw (← c.in_ok-declare.ensures.declared c.if-not-branch.false) refl))
 
 pub returns : goal.returns
 returns c =

@@ -5,7 +5,7 @@ use Rattle.myrial_meaning.specs.Meaning.{RelationEnvironment}
 use Rattle.myrial_meaning.specs.Needed.{is_needed}
 use Rattle.myrial_meaning.specs.inner.NeededFlags.{needed_flags}
 use Rattle.myrial_meaning.proofs.NeededLemmas.{flag-at, length-needed_flags, trees-at}
-use Rattle.myrial_meaning.proofs.StageLemmas.{BagStage, bag-start, bag-fault, bag-few, bag-run, bag-skipped, bag-stored}
+use Rattle.myrial_meaning.proofs.StageLemmas.{BagStage, bag-start, bag-defined, bag-fault, bag-few, bag-run, bag-skipped, bag-stored}
 use Rattle.myrial_meaning.proofs.evaluating.evaluate.Goals as goal
 use Rattle.myrial_meaning.proofs.evaluating.evaluate.Goals.{After-index, then-index+in-Ok, else-index}
 
@@ -36,6 +36,12 @@ index-requires c =
     let long : length c.in_ok-needed.needed.items ≡ length script =
     ap length flags ∙ (length-needed_flags (trees_of script) ∙ length-map script statement_tree_of) in
     omega (arith, long)
+
+pub run-requires : goal.run-requires
+run-requires c =
+    let here = (goal.at.run-requires c).After-index in
+    bag-defined c.args.files.now (trees_of c.args.script.now) (statement_tree_of c.get-statement.result.now) (drop (c.loop-i.i + 1) (trees_of c.args.script.now))
+    (c.loop-i.i + 1) c.loop-i.names (sym (flag here) ∙ c.if-index.true) (stage here)
 
 pub returns-in-Err-clause-fault : goal.returns-in-Err-clause-fault
 returns-in-Err-clause-fault c =

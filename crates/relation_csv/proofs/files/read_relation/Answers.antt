@@ -1,4 +1,4 @@
-use Rattle.std.proofs.Common.{◌∙◌}
+use Rattle.std.proofs.Common.{◌∙◌, refl}
 use Rattle.relation_csv.proofs.ReadAsLemmas.{IsReadAs-Ok, IsReadAs-part}
 use Rattle.relation_csv.proofs.RelationLemmas.{relation_of_bytes-no_record, relation_of_bytes-no_schema, relation_of_bytes-rows, relation_of_rows-Err, relation_of_rows-Ok}
 use Rattle.relation_csv.proofs.SchemaLemmas.{schema_of_record-not_text}
@@ -29,6 +29,11 @@ returns-in_err-rows c =
     (λ e. relation_of_bytes-rows c.args.bytes.now _ _ c.in_ok-schema.schema all
     (IsReadAs-Ok _ _ c.in_ok-schema.ensures)
     ∙ relation_of_rows-Err c.in_ok-schema.schema _ _ e)
+
+pub rows_behind-requires-clause-left : goal.rows_behind-requires-clause-left
+rows_behind-requires-clause-left c =
+    let (all, text) = rw (c.in-Record.is, c.reader_of-reader.ensures.left) at c.in_ok-read_next.ensures.next in
+    rw all refl
 
 pub new-requires : goal.new-requires
 new-requires c =

@@ -18,6 +18,10 @@ returns-in_err-rows c =
     (λ e. relation_with-rows c.args.bytes.now c.args.schema.now c.args.skip _ left
     ∙ relation_of_rows-Err c.args.schema.now _ _ (rw c.in_ok-schema.ensures at e))
 
+pub rows_behind-requires-clause-left : goal.rows_behind-requires-clause-left
+rows_behind-requires-clause-left c =
+    sym (rw (c.if-not-branch.false, c.reader_of-reader.ensures.left) at c.in_ok-skip_records.ensures.left)
+
 pub new-requires-2 : goal.new-requires-2
 new-requires-2 c =
     HasTypes-rows_of_records c.in_ok-schema.schema _ c.in_ok-rows.rows (IsReadAs-Ok _ _ c.in_ok-rows.ensures)

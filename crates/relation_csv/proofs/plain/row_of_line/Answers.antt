@@ -1,0 +1,51 @@
+use Rattle.std.proofs.Common.{◌≡◌, ◌+◌, ◌<◌, ap, length, get_or, arith, rules}
+use Rattle.relation_csv.proofs.PlainLemmas.{BeginsWithRow-all, HasFields-none, HasFields-push, length-row}
+use Rattle.relation_csv.proofs.ReadAsLemmas.{IsReadAs-Ok}
+use Rattle.relation_csv.proofs.plain.row_of_line.Goals as goal
+
+pub loop-column-init : goal.loop-column-init
+loop-column-init c = record {
+  text = c.utf8.line;
+  read = rw c.new-row.ensures (HasFields-none c.args.schema.now c.args.nth c.args.line.now);
+}
+
+pub overflow_add-len : goal.overflow_add-len
+overflow_add-len c =
+    let schema = c.args.schema.now in
+    let items = ap length c.as_slice-column-items.ensures.value in
+    let size = length-row schema c.args.nth c.args.line.now _ _ _ _ c.loop-column.invariant.read (omega arith) in
+    let bound = c.as_slice-column-items.ensures.bound in
+    omega arith
+
+pub push-requires : goal.push-requires
+push-requires c =
+    let schema = c.args.schema.now in
+    let items = ap length c.as_slice-column-items.ensures.value in
+    let size = length-row schema c.args.nth c.args.line.now _ _ _ _ c.loop-column.invariant.read (omega arith) in
+    let bound = c.as_slice-column-items.ensures.bound in
+    omega arith
+
+pub loop-column-preserved : goal.loop-column-preserved
+loop-column-preserved c =
+    let schema = c.args.schema.now in
+    let items = ap length c.as_slice-column-items.ensures.value in
+    let low : c.loop-column.column-index < length schema = omega arith in
+    let at : c.column-item.result ≡ get_or schema c.loop-column.column-index c.column-item.result =
+    rw c.as_slice-column-items.ensures.value at c.column-item.is in
+    let read = rw c.if-not-more.false at c.loop-column.invariant.read in
+    record {
+      text = search rules;
+      read = rw c.in_ok-push.ensures.ok
+          (HasFields-push schema c.args.nth c.args.line.now c.loop-column.left.now c.loop-column.row
+          c.loop-column.column-index read c.column-item.result c.in-Some.field.now c.in-Some.follows c.in-Some.rest.now
+          c.in-Ok.value (c.len.result + 1) low at (omega arith) (search rules) c.in-Some.ensures.begins
+          (IsReadAs-Ok _ _ c.in-Ok.ensures));
+    }
+
+pub returns : goal.returns
+returns c =
+    let schema = c.args.schema.now in
+    let items = ap length c.as_slice-column-items.ensures.value in
+    let read = rw c.if-more.false at c.loop-column.invariant.read in
+    BeginsWithRow-all schema c.args.nth c.args.line.now c.loop-column.left.now c.loop-column.row
+    c.loop-column.column-index read (omega arith) c.requires

@@ -1,0 +1,34 @@
+use Rattle.std.proofs.Common.{◌≡◌, ◌∙◌, ◌+◌, ◌<◌, length, arith, rules}
+use Rattle.std.proofs.lemmas.Bool.Decides.{nat_tests}
+use Rattle.csv.specs.declared.parser.State.TheVariants as state
+use Rattle.relation_csv.specs.inner.RecordsLeft.{records_after}
+use Rattle.relation_csv.proofs.PlainLemmas.{length-behind_line, records_after-line, records_after-nothing}
+use Rattle.relation_csv.proofs.RowsLemmas.{HasRows-push, rows_of_records-all}
+use Rattle.relation_csv.proofs.plain.rows_of_lines.Goals as goal
+
+pub returns-then-is_empty : goal.returns-then-is_empty
+returns-then-is_empty c =
+    let empty : length c.in-Some.line.now ≡ 0 = grind (arith, nat_tests) in
+    rw c.freeze.ensures (rows_of_records-all c.args.schema.now _ _ c.rows.rows c.rows.invariant.read
+    (c.in-Some.ensures.same ∙ records_after-nothing c.in-Some.line.now empty))
+
+pub rows-smaller : goal.rows-smaller
+rows-smaller c =
+    let some : 0 < length c.in-Some.line.now = grind (arith, nat_tests) in
+    let (fields, reads, made) = rw c.in-Some-2.is at c.in_ok-row.ensures in
+    let shorter = length-behind_line c.in-Some.line.now fields c.in-Some-2.rest.now some reads in
+    let bound = c.in-Some.ensures.bound in
+    omega arith
+
+pub rows-preserved : goal.rows-preserved
+rows-preserved c =
+    let some : 0 < length c.in-Some.line.now = grind (arith, nat_tests) in
+    let nth = c.len-nth.result + 1 in
+    let (fields, reads, made) = rw c.in-Some-2.is at c.in_ok-row.ensures in
+    let next = records_after-line c.in-Some.line.now fields c.in-Some-2.rest.now c.in-Some.ensures.line some reads in
+    record {
+      text = search rules;
+      read = rw c.in_ok-push.ensures.ok (HasRows-push c.args.schema.now _ (records_after state.StartRecord c.rows.left.now)
+          c.rows.rows c.rows.invariant.read fields _ c.in-Some-2.row nth (c.in-Some.ensures.same ∙ next) (omega arith)
+          (omega arith) made);
+    }

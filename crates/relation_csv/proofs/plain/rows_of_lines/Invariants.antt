@@ -1,0 +1,17 @@
+-- the rows so far are those of the records that are no longer left
+use Rattle.std.proofs.Common.{length}
+use denote.Shadow.{shadow}
+use denote.Text.{Utf8}
+use Rattle.csv.specs.declared.parser.State.TheVariants as state
+use Rattle.relation_csv.specs.inner.RecordsLeft.{records_after}
+use Rattle.relation_csv.proofs.RowsLemmas.{HasRows}
+use Rattle.relation_csv.proofs.plain.rows_of_lines.Given as goal
+
+abbrev pub invariant-rows : goal.invariant-rows
+invariant-rows l = record {
+  text : shadow (Utf8 l.left);
+  read : HasRows l.schema (records_after state.StartRecord l.text) (records_after state.StartRecord l.left) l.rows;
+}
+
+abbrev pub decreases-rows : goal.decreases-rows
+decreases-rows l = length l.left

@@ -1,0 +1,208 @@
+//! Plain files: reads the rows of a file where they stand.
+//!
+//! Where a file has no quote and no carriage return its records are its lines, and their fields lie between commas. There a
+//! value is made of the file's own bytes, and no record is copied first. A call here answers `None` where it can't tell: at
+//! a quote or a carriage return, at bytes that are not UTF-8, and at every fault, which the reader of records then finds.
+ghost use Rattle.std.specs.Prelude.{◌≡◌, ◌<◌, ◌≤◌, false, true, IfOk, IfSome, Ok, drop, length, take};
+ghost use Rattle.std.specs.List.{list_any};
+ghost use Rattle.rel_base.specs.Limits.{most_rows};
+ghost use Rattle.csv.specs.Reading.{is_bom, strip_bom};
+ghost use Rattle.csv.specs.Writing.{default_writer, needs_byte};
+ghost use Rattle.csv.specs.declared.parser.State.TheVariants as state;
+ghost use Rattle.relation_csv.specs.Files.{records_of_bytes, rows_of_records};
+ghost use Rattle.relation_csv.specs.inner.PlainLines.{BeginsWithField, BeginsWithRow, IsLine};
+ghost use Rattle.relation_csv.specs.inner.RecordsLeft.{records_after};
+
+use crate::RelFault;
+use crate::fields::value_of;
+use rel_base::{MOST_ROWS, Memory, Row, Rows, Schema};
+use std::alloc::Global;
+use std::str;
+
+/// The rows behind the first `skip` records of a file, if they can be read where they stand. They are shared from the start.
+pub(crate) fn plain_rows(
+    alloc: Global,
+    schema: &Schema,
+    bytes: &[u8],
+    skip: u64,
+) -> Result<Option<Rows>, Memory>
+    ensures { IfOk result (λ found. IfSome found (λ rows.
+        rows_of_records schema.now (drop skip (records_of_bytes bytes.now)) ≡ Ok rows)) }
+{
+    let Ok(text) = str::from_utf8(without_mark(bytes)) else {
+        return Ok(None);
+    };
+    let Some(text) = behind_records(text, skip) else {
+        return Ok(None);
+    };
+    rows_of_lines(alloc, schema, text)
+}
+
+/// The bytes behind a byte order mark at their start, if there is one.
+fn without_mark(bytes: &[u8]) -> &[u8]
+    ensures { result.now ≡ strip_bom bytes.now }
+{
+    match bytes {
+        [a, b, c, rest @ ..] if is_mark(*a, *b, *c) => rest,
+        _ => bytes,
+    }
+}
+
+/// Whether three bytes are a byte order mark.
+fn is_mark(a: u8, b: u8, c: u8) -> bool
+    ensures { result ≡ is_bom a b c }
+{
+    a == 0xef && b == 0xbb && c == 0xbf
+}
+
+/// What stands behind so many records; nothing where there are fewer.
+fn behind_records(text: &str, count: u64) -> Option<&str>
+    ensures { IfSome result (λ rest. drop count (records_after state.StartRecord text.now)
+        ≡ records_after state.StartRecord rest.now) }
+{
+    let mut left = text;
+    'records: for _ in 0..count {
+        let line = line_of(left)?;
+        if line.is_empty() {
+            return Some(line);
+        }
+        left = behind_record(line)?;
+    }
+    Some(left)
+}
+
+/// What stands behind the record of this line.
+fn behind_record(line: &str) -> Option<&str>
+    requires line { IsLine line.now }
+    requires some { 0 < length line.now }
+    ensures { IfSome result (λ rest. drop 1 (records_after state.StartRecord line.now)
+        ≡ records_after state.StartRecord rest.now) }
+{
+    let mut left = line;
+    'fields: loop {
+        let (_, more, rest) = first_field(left)?;
+        if !more {
+            return Some(rest);
+        }
+        left = rest;
+    }
+}
+
+/// The rows of all records of a text.
+fn rows_of_lines(alloc: Global, schema: &Schema, text: &str) -> Result<Option<Rows>, Memory>
+    ensures { IfOk result (λ found. IfSome found (λ rows.
+        rows_of_records schema.now (records_after state.StartRecord text.now) ≡ Ok rows)) }
+{
+    let mut rows = Rows::new(alloc);
+    let mut left = text;
+    'rows: loop {
+        let Some(line) = line_of(left) else {
+            return Ok(None);
+        };
+        if line.is_empty() {
+            rows.freeze(alloc)?;
+            return Ok(Some(rows));
+        }
+        let nth = rows.len() + 1;
+        if nth > MOST_ROWS {
+            return Ok(None);
+        }
+        let Some((row, rest)) = row_of_line(alloc, schema, nth, line)? else {
+            return Ok(None);
+        };
+        rows.push(row)?;
+        left = rest;
+    }
+}
+
+/// The text from its first line on that is not empty.
+fn line_of(text: &str) -> Option<&str>
+    ensures line { IfSome result (λ line. IsLine line.now) }
+    ensures same { IfSome result (λ line. records_after state.StartRecord text.now
+        ≡ records_after state.StartRecord line.now) }
+    ensures bound { IfSome result (λ line. length line.now ≤ length text.now) }
+{
+    let mut left = text;
+    'lines: while !left.is_empty() {
+        let first = left.as_bytes()[0];
+        if first == b'\r' {
+            return None;
+        }
+        if first != b'\n' {
+            return Some(left);
+        }
+        left = &left[1..];
+    }
+    Some(left)
+}
+
+/// The row that record number `nth` writes, with which a text begins, and what stands behind the record.
+#[inline(always)]
+fn row_of_line<'a>(
+    alloc: Global,
+    schema: &Schema,
+    nth: u32,
+    line: &'a str,
+) -> Result<Option<(Row, &'a str)>, Memory>
+    requires { nth ≤ most_rows }
+    ensures { IfOk result (λ found. IfSome found (λ (row, rest).
+        BeginsWithRow schema.now nth line.now row rest.now)) }
+{
+    let mut row = Row::new(alloc);
+    let mut left = line;
+    let mut more = true;
+    for column in schema.as_slice() {
+        if !more {
+            return Ok(None);
+        }
+        let Some((field, follows, rest)) = first_field(left) else {
+            return Ok(None);
+        };
+        let value = match value_of(alloc, column.kind, field, nth, row.len() + 1) {
+            Ok(value) => value,
+            Err(RelFault::Memory) => return Err(Memory),
+            Err(_) => return Ok(None),
+        };
+        row.push(value)?;
+        left = rest;
+        more = follows;
+    }
+    if more {
+        return Ok(None);
+    }
+    Ok(Some((row, left)))
+}
+
+/// The first field of a text, whether another one follows it in its record, and what stands behind it.
+#[inline(always)]
+fn first_field(text: &str) -> Option<(&str, bool, &str)>
+    ensures begins { IfSome result (λ (field, more, rest).
+        BeginsWithField text.now field.now more rest.now) }
+    ensures shorter { IfSome result (λ (_, more, rest).
+        more ≡ true → length rest.now < length text.now) }
+{
+    let bytes = text.as_bytes();
+    let end = field_end(bytes);
+    if end == bytes.len() {
+        return Some((text, false, ""));
+    }
+    match bytes[end] {
+        b',' => Some((&text[..end], true, &text[end + 1..])),
+        b'\n' => Some((&text[..end], false, &text[end + 1..])),
+        _ => None,
+    }
+}
+
+/// How many bytes stand before the first that means something in a file.
+#[inline(never)]
+fn field_end(bytes: &[u8]) -> usize
+    ensures bound { result ≤ length bytes.now }
+    ensures plain { list_any (needs_byte default_writer) (take result bytes.now) ≡ false }
+{
+    for (i, byte) in bytes.iter().enumerate() {
+        if matches!(*byte, b',' | b'"' | b'\r' | b'\n') {
+            return i;
+        }
+    }
+    bytes.len()
+}
