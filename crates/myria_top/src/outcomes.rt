@@ -8,6 +8,15 @@ use myrial_types::{TypeFault, TypeKind};
 use rel_base::{Key, Memory, RunFault, Text};
 use relation_csv::RelFault;
 
+/// The part of a request that this stage of the engine does not build yet.
+#[derive(Clone, Copy, Debug, PartialEq, Eq)]
+pub enum Part {
+    /// The words of the command line.
+    Words,
+    /// The script: it is typed and has no meaning.
+    Script,
+}
+
 /// How a run ended.
 #[derive(Debug, PartialEq, Eq, Drop)]
 pub enum Outcome {
@@ -86,8 +95,11 @@ pub enum Outcome {
     WriteFault,
     /// Memory was refused.
     Memory,
-    /// The words ask for what is not built yet.
-    NotBuilt,
+    /// The request asks for what is not built yet.
+    NotBuilt {
+        /// The first part that asks so.
+        part: Part,
+    },
 }
 
 impl Outcome {
@@ -119,7 +131,7 @@ impl Outcome {
             Outcome::ReadFault { name: _ } => 11,
             Outcome::WriteFault => 12,
             Outcome::Memory => 13,
-            Outcome::NotBuilt => 14,
+            Outcome::NotBuilt { part: _ } => 14,
         }
     }
 }
