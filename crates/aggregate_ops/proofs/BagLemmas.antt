@@ -173,7 +173,7 @@ pub one-gone-at : (rows others : List (Bor Row)) (made : Rows) (done passed n m 
     → SideBySide (rows_in rows) (rows_in others) (made ++ cond found [] (first.now ∷ [])) (rows_in (drop (done + n) rows)) (rows_in (drop (passed + m) others))
 one-gone-at rows others made done passed n m first found s low is below begin r =
     let some : 0 < length (drop done rows) = omega (arith, length-drop done rows) in
-    let at : get_or (rows_in (drop done rows)) 0 [] ≡ first.now = row-item (drop done rows) 0 first some is in
+    let at : get_or (rows_in (drop done rows)) 0 [] ≡ first.now = row-item (λ (r : Bor Row). r.now) (drop done rows) 0 first some is in
     let there : 0 < length (rows_in (drop done rows)) = omega (arith, some, length-map (drop done rows) (λ (row : Bor Row). row.now)) in
     let gone =
     one-gone (rows_in rows) (rows_in others) made (rows_in (drop done rows)) (rows_in (drop passed others)) n m s there

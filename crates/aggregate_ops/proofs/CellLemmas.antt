@@ -1,43 +1,40 @@
 -- The row of a group, column by column, and the groups that a run is taken from.
-use Rattle.std.proofs.Common.{◌≡◌, ℕ, ◌+◌, Bool, true, false, List, [], ◌∷◌, ◌++◌, length, map, take, drop, refl, sym, ◌∙◌, ap, subst, append_assoc}
-use Rattle.std.specs.Prelude.{◌&&◌, IsSorted}
+use Rattle.std.proofs.Common.{◌≡◌, ℕ, ◌+◌, true, false, List, [], ◌∷◌, ◌++◌, length, map, take, drop, refl, sym, ◌∙◌, ap, subst, append_assoc}
+use Rattle.std.specs.Prelude.{◌&&◌, IsPermutation, IsSorted}
 use Rattle.std.specs.List.{enumerate_from, list_all}
-use Rattle.std.specs.Borrow.{Bor}
 use Rattle.std.proofs.lemmas.List.{drop-drop, drop-map, take-map, map-id}
 use Rattle.std.proofs.lemmas.List.Folds.{list_all-map}
-use Rattle.std.proofs.lemmas.List.Sorted.{IsPermutation-map}
+use Rattle.std.proofs.lemmas.List.Sorted.{IsPermutation-map, IsPermutation-trans}
 use Rattle.rel_base.specs.Bags.{SameBag}
 use Rattle.myrial_ast.specs.Partials.{whole_sums, partial_kinds}
 use Rattle.bag_laws.proofs.GroupPermutations.{groups-same}
 use Rattle.rel_base.specs.Values.{row_order}
 use Rattle.myrial_ast.specs.Scalars.{value_at}
 use Rattle.myrial_ast.specs.Combinations.{Row, Rows}
-use Rattle.myrial_ast.specs.Groups.{Kinds, key_of, cell, group_row, groups}
+use Rattle.myrial_ast.specs.Groups.{Kinds, cell, group_row, groups}
 use Rattle.bag_laws.specs.PartialLaws.{AreGrouped}
-use Rattle.bag_laws.proofs.ColumnLemmas.{map-through}
 use Rattle.bag_laws.proofs.PartialLemmas.{places-key}
 use Rattle.aggregate_ops.specs.declared.faults.AggFault.{AggFault}
 use Rattle.aggregate_ops.specs.declared.faults.AggFault.TheVariants as fault
 use Rattle.aggregate_ops.specs.declared.forms.Form.{Form}
 use Rattle.aggregate_ops.specs.declared.forms.Form.TheVariants.{Whole, Split, Merged}
-use Rattle.aggregate_ops.specs.Columns.{rows_in, column, cells, key_places, key_at, Overflows}
+use Rattle.aggregate_ops.specs.Columns.{column, cells, key_places, key_at, Overflows}
 use Rattle.aggregate_ops.specs.Forms.{grouped_kinds, formed, form_fits, added_in, merged_fits, results, results_fit}
+use Rattle.aggregate_ops.specs.declared.reading.GroupedRow.{GroupedRow}
+use Rattle.aggregate_ops.specs.inner.Reading.{row_of, rows_of}
 use Rattle.aggregate_ops.specs.inner.Runs.{IsRun}
 use Rattle.aggregate_ops.proofs.RunLemmas.{groups-step, sorted-drop}
 use Rattle.aggregate_ops.proofs.BagLemmas.{All-drop}
 use Rattle.aggregate_ops.proofs.StepLemmas.{list_all-same, list_all-true}
 
-cells-from : (kinds : Kinds) (place : ℕ) (run : List (Bor Row))
-    → cells place kinds run ≡ map (λ p. cell p.1 (map (λ row. value_at row p.0) (rows_in run))) (enumerate_from place kinds)
-cells-from [] place run = refl
-cells-from (kind ∷ kinds) place run =
-    let first = ap (cell kind) (sym (map-through (λ row. value_at row place) (λ (row : Bor Row). row.now) run)) in
-    let rest = cells-from kinds (place + 1) run in
-    λ i. first i ∷ rest i
+cells-from : (kinds : Kinds) (place : ℕ) (rows : Rows)
+    → cells place kinds rows ≡ map (λ p. cell p.1 (map (λ row. value_at row p.0) rows)) (enumerate_from place kinds)
+cells-from [] place rows = refl
+cells-from (kind ∷ kinds) place rows = ap (λ (row : Row). cell kind (column rows place) ∷ row) (cells-from kinds (place + 1) rows)
 
 -- the cells are the row of the group
-pub cells_row : (kinds : Kinds) (run : List (Bor Row)) → cells 0 kinds run ≡ group_row kinds (rows_in run)
-cells_row kinds run = cells-from kinds 0 run
+pub cells_row : (kinds : Kinds) (rows : Rows) → cells 0 kinds rows ≡ group_row kinds rows
+cells_row kinds rows = cells-from kinds 0 rows
 
 -- what is made of the first run, and of the rows behind it
 pub record StepsOver (form : Form) (kinds : Kinds) (rows : Rows) (n : ℕ) : Type 0 where
@@ -90,31 +87,39 @@ pub one-overflows : (form : Form) (kinds : Kinds) (places : List ℕ) (rows made
 one-overflows form kinds places rows made left n is l r fails =
     sym l.fit_is ∙ (steps-over form kinds places left n is l.width l.ascending r).fit_is ∙ ap (λ b. b && results_fit form kinds (drop n left)) fails
 
--- the same, where the rows stand as references
-pub one-more-at : (form : Form) (kinds : Kinds) (places : List ℕ) (ordered : List (Bor Row)) (made : Rows) (done n : ℕ) (row : Row)
-    → places ≡ key_places (grouped_kinds form kinds) → LeftOver form kinds places (rows_in ordered) made (rows_in (drop done ordered))
-    → IsRun (map (key_at places) (rows_in (drop done ordered))) n
-    → row ≡ formed form kinds (group_row (grouped_kinds form kinds) (rows_in (take n (drop done ordered))))
-    → form_fits form kinds (group_row (grouped_kinds form kinds) (rows_in (take n (drop done ordered)))) ≡ true
-    → LeftOver form kinds places (rows_in ordered) (made ++ row ∷ []) (rows_in (drop (done + n) ordered))
+-- the same, where the rows are read
+pub one-more-at : (form : Form) (kinds : Kinds) (places : List ℕ) (ordered : List GroupedRow) (made : Rows) (done n : ℕ) (row : Row)
+    → places ≡ key_places (grouped_kinds form kinds) → LeftOver form kinds places (rows_of ordered) made (rows_of (drop done ordered))
+    → IsRun (map (key_at places) (rows_of (drop done ordered))) n
+    → row ≡ formed form kinds (group_row (grouped_kinds form kinds) (rows_of (take n (drop done ordered))))
+    → form_fits form kinds (group_row (grouped_kinds form kinds) (rows_of (take n (drop done ordered)))) ≡ true
+    → LeftOver form kinds places (rows_of ordered) (made ++ row ∷ []) (rows_of (drop (done + n) ordered))
 one-more-at form kinds places ordered made done n row is l r row_is fits =
-    let run : rows_in (take n (drop done ordered)) ≡ take n (rows_in (drop done ordered)) = sym (take-map (λ (row : Bor Row). row.now) n (drop done ordered)) in
-    let left : drop n (rows_in (drop done ordered)) ≡ rows_in (drop (done + n) ordered) = drop-map (λ (row : Bor Row). row.now) n (drop done ordered) ∙ ap rows_in (drop-drop n done ordered) in
-    subst (λ (left : Rows). LeftOver form kinds places (rows_in ordered) (made ++ row ∷ []) left) left
-    (one-more form kinds places (rows_in ordered) made (rows_in (drop done ordered)) n row is l r
+    let run : rows_of (take n (drop done ordered)) ≡ take n (rows_of (drop done ordered)) = sym (take-map row_of n (drop done ordered)) in
+    let left : drop n (rows_of (drop done ordered)) ≡ rows_of (drop (done + n) ordered) = drop-map row_of n (drop done ordered) ∙ ap rows_of (drop-drop n done ordered) in
+    subst (λ (left : Rows). LeftOver form kinds places (rows_of ordered) (made ++ row ∷ []) left) left
+    (one-more form kinds places (rows_of ordered) made (rows_of (drop done ordered)) n row is l r
     (row_is ∙ ap (λ rows. formed form kinds (group_row (grouped_kinds form kinds) rows)) run)
     (sym (ap (λ rows. form_fits form kinds (group_row (grouped_kinds form kinds) rows)) run) ∙ fits))
 
-pub one-overflows-at : (form : Form) (kinds : Kinds) (places : List ℕ) (ordered : List (Bor Row)) (made : Rows) (done n : ℕ) (given : AggFault)
-    → places ≡ key_places (grouped_kinds form kinds) → LeftOver form kinds places (rows_in ordered) made (rows_in (drop done ordered))
-    → IsRun (map (key_at places) (rows_in (drop done ordered))) n
-    → Overflows given (form_fits form kinds (group_row (grouped_kinds form kinds) (rows_in (take n (drop done ordered)))))
-    → Overflows given (results_fit form kinds (rows_in ordered))
+pub one-overflows-at : (form : Form) (kinds : Kinds) (places : List ℕ) (ordered : List GroupedRow) (made : Rows) (done n : ℕ) (given : AggFault)
+    → places ≡ key_places (grouped_kinds form kinds) → LeftOver form kinds places (rows_of ordered) made (rows_of (drop done ordered))
+    → IsRun (map (key_at places) (rows_of (drop done ordered))) n
+    → Overflows given (form_fits form kinds (group_row (grouped_kinds form kinds) (rows_of (take n (drop done ordered)))))
+    → Overflows given (results_fit form kinds (rows_of ordered))
 one-overflows-at form kinds places ordered made done n fault.Memory is l r fails = tt
 one-overflows-at form kinds places ordered made done n fault.AggregateOverflow is l r fails =
-    let run : rows_in (take n (drop done ordered)) ≡ take n (rows_in (drop done ordered)) = sym (take-map (λ (row : Bor Row). row.now) n (drop done ordered)) in
-    one-overflows form kinds places (rows_in ordered) made (rows_in (drop done ordered)) n is l r
+    let run : rows_of (take n (drop done ordered)) ≡ take n (rows_of (drop done ordered)) = sym (take-map row_of n (drop done ordered)) in
+    one-overflows form kinds places (rows_of ordered) made (rows_of (drop done ordered)) n is l r
     (sym (ap (λ rows. form_fits form kinds (group_row (grouped_kinds form kinds) rows)) run) ∙ fails)
+
+-- rows that are read, and then brought into order
+pub read-same : (rows : Rows) (read given ordered last : List GroupedRow) → SameBag rows (rows_of read) → given ≡ read → IsPermutation given ordered → last ≡ ordered
+    → SameBag rows (rows_of last)
+read-same rows read given ordered last same is moved is_last =
+    let from : IsPermutation read ordered = subst (λ (xs : List GroupedRow). IsPermutation xs ordered) is moved in
+    IsPermutation-trans rows (rows_of read) (rows_of last) same
+    (IsPermutation-map row_of read last (subst (λ (xs : List GroupedRow). IsPermutation read xs) (sym is_last) from))
 
 -- the order of the rows changes no result but in its order
 pub results-same : (form : Form) (kinds : Kinds) (rows others : Rows) → SameBag rows others → SameBag (results form kinds rows) (results form kinds others)

@@ -3,3 +3,4 @@ pub mod RunLemmas
 pub mod CellLemmas
 pub mod BagLemmas
 pub mod StepLemmas
+pub mod FitLemmas

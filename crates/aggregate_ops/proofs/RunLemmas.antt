@@ -56,7 +56,7 @@ distinct-run key more rest all none =
     both : filter (other key) more ++ filter (other key) rest ≡ rest
     both = (λ i. first i ++ second i)
 
-All-distinct : (P : Row → Type 0) (rows : Rows) → All P rows → All P (distinct rows)
+pub All-distinct : (P : Row → Type 0) (rows : Rows) → All P rows → All P (distinct rows)
 All-distinct P [] all = All-nil P
 All-distinct P (row ∷ rows) all =
     All-cons P row (filter (other row) (distinct rows)) (All-head P row rows all)

@@ -1,8 +1,8 @@
 -- The columns of a group's rows.
 --
 --   rows_in run               the rows
---   column run place          the values at a place of the rows
---   cells place kinds run     the group's value in each column from a place on
+--   column rows place         the values at a place of the rows
+--   cells place kinds rows    the group's value in each column from a place on
 --   key_places kinds          the places of what rows are grouped by
 --   key_at places row         the values of a row at these places
 --   Overflows fault fits      the fault is an overflow only where something doesn't fit
@@ -21,13 +21,13 @@ abbrev pub rows_in : List (Bor Row) → Rows
 rows_in run = map (λ (row : Bor Row). row.now) run
 
 -- the values at a place of the rows
-abbrev pub column : List (Bor Row) → ℕ → List Value
-column run place = map (λ (row : Bor Row). value_at row.now place) run
+abbrev pub column : Rows → ℕ → List Value
+column rows place = map (λ row. value_at row place) rows
 
 -- the group's value in each column from a place on
-abbrev pub cells : ℕ → Kinds → List (Bor Row) → Row
-cells place [] run = []
-cells place (kind ∷ kinds) run = cell kind (column run place) ∷ cells (place + 1) kinds run
+abbrev pub cells : ℕ → Kinds → Rows → Row
+cells place [] rows = []
+cells place (kind ∷ kinds) rows = cell kind (column rows place) ∷ cells (place + 1) kinds rows
 
 -- the places of what rows are grouped by
 abbrev pub key_places : Kinds → List ℕ

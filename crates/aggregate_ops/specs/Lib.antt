@@ -2,4 +2,5 @@
 pub mod Columns
 pub mod Keyed
 pub mod Forms
+pub mod Laws
 pub mod inner

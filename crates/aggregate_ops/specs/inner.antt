@@ -1,3 +1,5 @@
 -- Words of private functions.
+pub mod Words
+pub mod Reading
 pub mod Runs
 pub mod MergedCells

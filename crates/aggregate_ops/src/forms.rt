@@ -5,12 +5,14 @@ ghost use Rattle.rel_base.specs.Values.{number_of, in_64_bits};
 ghost use Rattle.myrial_ast.specs.Groups.{cell, group_row};
 ghost use Rattle.myrial_ast.specs.Partials.{high, low, split_sums, whole_sums, partial_kinds};
 ghost use Rattle.algebra.specs.Trees.{kind_of_emit};
-ghost use Rattle.aggregate_ops.specs.Columns.{rows_in, cells, column, Overflows};
+ghost use Rattle.aggregate_ops.specs.Columns.{cells, column, Overflows};
 ghost use Rattle.aggregate_ops.specs.Forms.{formed, form_fits, grouped_kinds, sums_in, added_in};
+ghost use Rattle.aggregate_ops.specs.inner.Reading.{rows_of};
 ghost use Rattle.aggregate_ops.specs.inner.MergedCells.{added_kind, merged_cells};
 
 use crate::AggFault;
 use crate::columns::{cell, total, whole};
+use crate::reading::GroupedRow;
 use algebra::{EmitKind, EmitKinds};
 use myrial_ast::AggOp;
 use rel_base::{Memory, Row, Value};
@@ -42,14 +44,19 @@ fn put_cells(
     alloc: Global,
     kinds: &[EmitKind],
     place: usize,
-    run: &[&Row],
+    run: &[GroupedRow<'_>],
     into: &mut Row,
 ) -> Result<(), AggFault>
     requires few { length run.now < 2 ^ 32 }
     requires columns { place + length kinds.now < 2 ^ 64 }
-    ensures ok { OnOk result (into.new ≡ into.old ++ cells place (map kind_of_emit kinds.now) run.now) }
-    ensures fits { OnOk result (sums_in (map kind_of_emit kinds.now) (cells place (map kind_of_emit kinds.now) run.now) ≡ true) }
-    ensures fault { IfErr result (λ fault. Overflows fault (sums_in (map kind_of_emit kinds.now) (cells place (map kind_of_emit kinds.now) run.now))) }
+    ensures ok { OnOk result (into.new
+        ≡ into.old ++ cells place (map kind_of_emit kinds.now) (rows_of run.now)) }
+    ensures fits { OnOk result
+        (sums_in (map kind_of_emit kinds.now)
+        (cells place (map kind_of_emit kinds.now) (rows_of run.now)) ≡ true) }
+    ensures fault { IfErr result (λ fault. Overflows fault
+        (sums_in (map kind_of_emit kinds.now)
+        (cells place (map kind_of_emit kinds.now) (rows_of run.now)))) }
 {
     match kinds {
         [] => Ok(()),
@@ -67,7 +74,8 @@ fn put_cells(
 fn put_sum(sum: i128, into: &mut Row) -> Result<(), Memory>
     requires least { neg_ℤ (pos (2 ^ 95)) ≤ℤ sum }
     requires greatest { sum ≤ℤ pos (2 ^ 95) }
-    ensures { OnOk result (into.new ≡ into.old ++ variant.Int (high sum) ∷ variant.Int (low sum) ∷ []) }
+    ensures { OnOk result (into.new
+        ≡ into.old ++ variant.Int (high sum) ∷ variant.Int (low sum) ∷ []) }
 {
     let high = sum.div_euclid(1 << 62) as i64;
     let low = sum.rem_euclid(1 << 62) as i64;
@@ -80,12 +88,14 @@ fn put_partials(
     alloc: Global,
     kinds: &[EmitKind],
     place: usize,
-    run: &[&Row],
+    run: &[GroupedRow<'_>],
     into: &mut Row,
 ) -> Result<(), Memory>
     requires few { length run.now < 2 ^ 32 }
     requires columns { place + length kinds.now < 2 ^ 64 }
-    ensures { OnOk result (into.new ≡ into.old ++ split_sums (map kind_of_emit kinds.now) (cells place (map kind_of_emit kinds.now) run.now)) }
+    ensures { OnOk result (into.new
+        ≡ into.old ++ split_sums (map kind_of_emit kinds.now)
+        (cells place (map kind_of_emit kinds.now) (rows_of run.now))) }
 {
     match kinds {
         [] => Ok(()),
@@ -110,7 +120,8 @@ fn merged_sum(high: i128, low: i128) -> Result<i64, AggFault>
     requires greatest { low ≤ℤ pos (2 ^ 95) }
     ensures value { IfOk result (λ sum. sum ≡ (high *ℤ pos (2 ^ 62)) +ℤ low) }
     ensures fits { OnOk result (in_64_bits ((high *ℤ pos (2 ^ 62)) +ℤ low) ≡ true) }
-    ensures fault { IfErr result (λ fault. Overflows fault (in_64_bits ((high *ℤ pos (2 ^ 62)) +ℤ low))) }
+    ensures fault { IfErr result (λ fault. Overflows fault
+        (in_64_bits ((high *ℤ pos (2 ^ 62)) +ℤ low))) }
 {
     if high < -(1 << 64) || high > 1 << 64 {
         return Err(AggFault::AggregateOverflow);
@@ -123,14 +134,19 @@ fn put_merged(
     alloc: Global,
     kinds: &[EmitKind],
     place: usize,
-    run: &[&Row],
+    run: &[GroupedRow<'_>],
     into: &mut Row,
 ) -> Result<(), AggFault>
     requires few { length run.now < 2 ^ 32 }
     requires columns { place + 2 * length kinds.now < 2 ^ 64 }
-    ensures ok { OnOk result (into.new ≡ into.old ++ merged_cells place (map kind_of_emit kinds.now) run.now) }
-    ensures fits { OnOk result (added_in (map kind_of_emit kinds.now) (merged_cells place (map kind_of_emit kinds.now) run.now) ≡ true) }
-    ensures fault { IfErr result (λ fault. Overflows fault (added_in (map kind_of_emit kinds.now) (merged_cells place (map kind_of_emit kinds.now) run.now))) }
+    ensures ok { OnOk result (into.new
+        ≡ into.old ++ merged_cells place (map kind_of_emit kinds.now) (rows_of run.now)) }
+    ensures fits { OnOk result
+        (added_in (map kind_of_emit kinds.now)
+        (merged_cells place (map kind_of_emit kinds.now) (rows_of run.now)) ≡ true) }
+    ensures fault { IfErr result (λ fault. Overflows fault
+        (added_in (map kind_of_emit kinds.now)
+        (merged_cells place (map kind_of_emit kinds.now) (rows_of run.now)))) }
 {
     match kinds {
         [] => Ok(()),
@@ -165,11 +181,23 @@ pub fn added(kind: EmitKind) -> EmitKind
 impl Form {
     /// What is made of the rows of a group.
     #[tactic(auto, using(crate::proofs::CellLemmas::cells_row))]
-    pub fn row(self, alloc: Global, kinds: &EmitKinds, run: &[&Row]) -> Result<Row, AggFault>
+    pub fn row(
+        self,
+        alloc: Global,
+        kinds: &EmitKinds,
+        run: &[GroupedRow<'_>],
+    ) -> Result<Row, AggFault>
         requires { length run.now < 2 ^ 32 }
-        ensures row { IfOk result (λ row. row ≡ formed self (map kind_of_emit kinds.now) (group_row (grouped_kinds self (map kind_of_emit kinds.now)) (rows_in run.now))) }
-        ensures fits { OnOk result (form_fits self (map kind_of_emit kinds.now) (group_row (grouped_kinds self (map kind_of_emit kinds.now)) (rows_in run.now)) ≡ true) }
-        ensures fault { IfErr result (λ fault. Overflows fault (form_fits self (map kind_of_emit kinds.now) (group_row (grouped_kinds self (map kind_of_emit kinds.now)) (rows_in run.now)))) }
+        ensures row { IfOk result (λ row. row
+            ≡ formed self (map kind_of_emit kinds.now)
+            (group_row (grouped_kinds self (map kind_of_emit kinds.now)) (rows_of run.now))) }
+        ensures fits { OnOk result
+            (form_fits self (map kind_of_emit kinds.now)
+            (group_row (grouped_kinds self (map kind_of_emit kinds.now)) (rows_of run.now))
+            ≡ true) }
+        ensures fault { IfErr result (λ fault. Overflows fault
+            (form_fits self (map kind_of_emit kinds.now)
+            (group_row (grouped_kinds self (map kind_of_emit kinds.now)) (rows_of run.now)))) }
     {
         let mut row = Row::new(alloc);
         match self {

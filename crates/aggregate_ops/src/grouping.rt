@@ -6,21 +6,25 @@ ghost use Rattle.myrial_ast.specs.Groups.{groups, sums_fit};
 ghost use Rattle.myrial_ast.specs.Partials.{partial_kinds};
 ghost use Rattle.bag_laws.specs.PartialLaws.{AreGrouped};
 ghost use Rattle.algebra.specs.Trees.{kind_of_emit};
-ghost use Rattle.aggregate_ops.specs.Columns.{rows_in, key_places, key_at, Overflows};
+ghost use Rattle.aggregate_ops.specs.Columns.{key_places, key_at, Overflows};
+ghost use Rattle.aggregate_ops.specs.inner.Reading.{rows_of};
 ghost use Rattle.aggregate_ops.specs.Forms.{grouped_kinds, results, results_fit};
 
 use crate::AggFault;
 use crate::forms::{Form, added};
-use crate::keys::rows_by_key;
+use crate::keys::in_order_of_keys;
+use crate::packing::{grouped_rows, packed_columns};
+use crate::reading::GroupedRow;
 use crate::runs::run_length;
 use algebra::{EmitKind, EmitKinds};
 use myrial_ast::AggOp;
-use rel_base::{Memory, Places, Row, Rows};
+use rel_base::{Memory, Places, Rows};
 use std::alloc::Global;
 
 /// Adds how the columns of partial rows are grouped again: counts are added, and a sum is two columns.
 fn put_kinds(kinds: &[EmitKind], into: &mut Vec<EmitKind>) -> Result<(), Memory>
-    ensures { OnOk result (map kind_of_emit into.new.items ≡ map kind_of_emit into.old.items ++ partial_kinds (map kind_of_emit kinds.now)) }
+    ensures { OnOk result (map kind_of_emit into.new.items
+        ≡ map kind_of_emit into.old.items ++ partial_kinds (map kind_of_emit kinds.now)) }
 {
     match kinds {
         [] => Ok(()),
@@ -38,7 +42,8 @@ fn put_kinds(kinds: &[EmitKind], into: &mut Vec<EmitKind>) -> Result<(), Memory>
 
 /// How the columns of partial rows are grouped again.
 fn partial_kinds(alloc: Global, kinds: &[EmitKind]) -> Result<Vec<EmitKind>, Memory>
-    ensures { IfOk result (λ made. map kind_of_emit made.items ≡ partial_kinds (map kind_of_emit kinds.now)) }
+    ensures { IfOk result (λ made. map kind_of_emit made.items
+        ≡ partial_kinds (map kind_of_emit kinds.now)) }
 {
     let mut made = Vec::with_capacity(alloc, kinds.len())?;
     put_kinds(kinds, &mut made)?;
@@ -72,7 +77,8 @@ pub fn partial_places(alloc: Global, kinds: &[EmitKind]) -> Result<Places, Memor
 
 /// The places of what rows are grouped by.
 fn places_for(alloc: Global, form: Form, kinds: &EmitKinds) -> Result<Places, Memory>
-    ensures { IfOk result (λ made. made ≡ key_places (grouped_kinds form (map kind_of_emit kinds.now))) }
+    ensures { IfOk result (λ made. made
+        ≡ key_places (grouped_kinds form (map kind_of_emit kinds.now))) }
 {
     match form {
         Form::Whole => key_places(alloc, kinds.as_slice()),
@@ -87,15 +93,19 @@ fn rows_of_runs(
     form: Form,
     kinds: &EmitKinds,
     places: &[u32],
-    ordered: &[&Row],
+    ordered: &[GroupedRow<'_>],
 ) -> Result<Rows, AggFault>
     requires places { places.now ≡ key_places (grouped_kinds form (map kind_of_emit kinds.now)) }
-    requires width { AreGrouped (grouped_kinds form (map kind_of_emit kinds.now)) (rows_in ordered.now) }
-    requires ascending { IsSorted row_order (map (key_at places.now) (rows_in ordered.now)) }
+    requires width { AreGrouped (grouped_kinds form (map kind_of_emit kinds.now))
+        (rows_of ordered.now) }
+    requires ascending { IsSorted row_order (map (key_at places.now) (rows_of ordered.now)) }
     requires few { length ordered.now < 2 ^ 32 }
-    ensures rows { IfOk result (λ made. made ≡ results form (map kind_of_emit kinds.now) (rows_in ordered.now)) }
-    ensures fits { OnOk result (results_fit form (map kind_of_emit kinds.now) (rows_in ordered.now) ≡ true) }
-    ensures fault { IfErr result (λ fault. Overflows fault (results_fit form (map kind_of_emit kinds.now) (rows_in ordered.now))) }
+    ensures rows { IfOk result (λ made. made
+        ≡ results form (map kind_of_emit kinds.now) (rows_of ordered.now)) }
+    ensures fits { OnOk result (results_fit form (map kind_of_emit kinds.now) (rows_of ordered.now)
+        ≡ true) }
+    ensures fault { IfErr result (λ fault. Overflows fault
+        (results_fit form (map kind_of_emit kinds.now) (rows_of ordered.now))) }
 {
     let mut made = Rows::new(alloc);
     let mut done = 0;
@@ -115,12 +125,16 @@ fn rows_of_runs(
 /// What is made of each group of rows, in the order of the keys.
 pub fn grouped(alloc: Global, form: Form, rows: &Rows, kinds: &EmitKinds) -> Result<Rows, AggFault>
     requires { AreGrouped (grouped_kinds form (map kind_of_emit kinds.now)) rows.now }
-    ensures bag { IfOk result (λ made. SameBag (results form (map kind_of_emit kinds.now) rows.now) made) }
+    ensures bag { IfOk result (λ made. SameBag
+        (results form (map kind_of_emit kinds.now) rows.now) made) }
     ensures fits { OnOk result (results_fit form (map kind_of_emit kinds.now) rows.now ≡ true) }
-    ensures fault { IfErr result (λ fault. Overflows fault (results_fit form (map kind_of_emit kinds.now) rows.now)) }
+    ensures fault { IfErr result (λ fault. Overflows fault
+        (results_fit form (map kind_of_emit kinds.now) rows.now)) }
 {
     let places = places_for(alloc, form, kinds)?;
-    let ordered = rows_by_key(alloc, rows, places.as_slice())?;
+    let columns = packed_columns(alloc, rows, places.as_slice())?;
+    let read = grouped_rows(alloc, rows, &columns)?;
+    let ordered = in_order_of_keys(alloc, &read, places.as_slice())?;
     rows_of_runs(alloc, form, kinds, places.as_slice(), &ordered)
 }
 
@@ -130,9 +144,11 @@ pub fn grouped(alloc: Global, form: Form, rows: &Rows, kinds: &EmitKinds) -> Res
 /// the way.
 pub fn group(alloc: Global, rows: &Rows, kinds: &EmitKinds) -> Result<Rows, AggFault>
     requires { AreGrouped (map kind_of_emit kinds.now) rows.now }
-    ensures bag { IfOk result (λ made. SameBag (groups (map kind_of_emit kinds.now) rows.now) made) }
+    ensures bag { IfOk result (λ made. SameBag
+        (groups (map kind_of_emit kinds.now) rows.now) made) }
     ensures fits { OnOk result (sums_fit (map kind_of_emit kinds.now) rows.now ≡ true) }
-    ensures fault { IfErr result (λ fault. Overflows fault (sums_fit (map kind_of_emit kinds.now) rows.now)) }
+    ensures fault { IfErr result (λ fault. Overflows fault
+        (sums_fit (map kind_of_emit kinds.now) rows.now)) }
 {
     grouped(alloc, Form::Whole, rows, kinds)
 }

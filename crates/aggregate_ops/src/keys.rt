@@ -2,16 +2,23 @@
 ghost use Rattle.std.specs.Prelude.{◌≡◌, ◌<◌, ◌^◌, List, map, length, All, OnOk, IfOk, IsPermutation, IsSorted};
 ghost use Rattle.rel_base.specs.Values.{value_order, row_order};
 ghost use Rattle.myrial_ast.specs.Scalars.{value_at};
-ghost use Rattle.aggregate_ops.specs.Columns.{rows_in, key_at};
+ghost use Rattle.aggregate_ops.specs.Columns.{key_at};
+ghost use Rattle.aggregate_ops.specs.inner.Reading.{row_of, rows_of};
 
-use crate::columns::value_in;
-use rel_base::{Memory, Row, Rows, Value};
+use crate::reading::GroupedRow;
+use rel_base::Memory;
 use std::alloc::Global;
 use std::cmp::Ordering;
 
 /// How two rows compare, each by its values at some places.
-pub fn order_at(row: &Row, places: &[u32], other: &Row, others: &[u32]) -> Ordering
-    ensures { result ≡ row_order (key_at places.now row.now) (key_at others.now other.now) }
+pub fn order_at(
+    row: &GroupedRow<'_>,
+    places: &[u32],
+    other: &GroupedRow<'_>,
+    others: &[u32],
+) -> Ordering
+    ensures { result ≡ row_order (key_at places.now (row_of row.now))
+        (key_at others.now (row_of other.now)) }
 {
     let [place, places @ ..] = places else {
         return if others.is_empty() {
@@ -31,17 +38,18 @@ pub fn order_at(row: &Row, places: &[u32], other: &Row, others: &[u32]) -> Order
 }
 
 /// How the values of two rows, each at a place, compare.
-fn order_in(row: &Row, place: u32, other: &Row, other_place: u32) -> Ordering
-    ensures { result ≡ value_order (value_at row.now place) (value_at other.now other_place) }
+fn order_in(row: &GroupedRow<'_>, place: u32, other: &GroupedRow<'_>, other_place: u32) -> Ordering
+    ensures { result ≡ value_order (value_at (row_of row.now) place)
+        (value_at (row_of other.now) other_place) }
 {
-    let zero = Value::Int(0);
-    value_in(row, place as usize, &zero).cmp(value_in(other, other_place as usize, &zero))
+    let value = row.read(place as usize);
+    value.value().cmp(other.read(other_place as usize).value())
 }
 
 /// A row with the places by which it is compared.
 #[derive(Drop)]
 pub struct KeyedRow<'a> {
-    row: &'a Row,
+    row: GroupedRow<'a>,
     places: &'a [u32],
 }
 
@@ -93,30 +101,29 @@ impl Ord for KeyedRow<'_> {
     ghost matches_eq = { λ r s. refl };
 
     fn cmp(&self, other: &Self) -> Ordering {
-        order_at(self.row, self.places, other.row, other.places)
+        order_at(&self.row, self.places, &other.row, other.places)
     }
 }
 
 /// Each row with the places.
 fn keyed_rows<'a>(
     alloc: Global,
-    rows: &'a Rows,
+    rows: &[GroupedRow<'a>],
     places: &'a [u32],
 ) -> Result<Vec<KeyedRow<'a>>, Memory>
-    ensures rows { IfOk result (λ made. map (λ e. e.row.now) made.items ≡ rows.now) }
+    ensures rows { IfOk result (λ made. map (λ e. e.row) made.items ≡ rows.entry.now) }
     ensures places { IfOk result (λ made. All (λ e. e.places.now ≡ places.now) made.items) }
-    ensures few { OnOk result (length rows.now < 2 ^ 32) }
 {
-    let mut keyed = Vec::with_capacity(alloc, rows.len() as usize)?;
+    let mut keyed = Vec::with_capacity(alloc, rows.len())?;
     for row in rows {
-        keyed.push(KeyedRow { row, places })?;
+        keyed.push(KeyedRow { row: *row, places })?;
     }
     Ok(keyed)
 }
 
 /// The rows without the places.
-fn bare_rows<'a>(alloc: Global, keyed: &[KeyedRow<'a>]) -> Result<Vec<&'a Row>, Memory>
-    ensures { IfOk result (λ made. rows_in made.items ≡ map (λ e. e.row.now) keyed.entry.now) }
+fn bare_rows<'a>(alloc: Global, keyed: &[KeyedRow<'a>]) -> Result<Vec<GroupedRow<'a>>, Memory>
+    ensures { IfOk result (λ made. made.items ≡ map (λ e. e.row) keyed.entry.now) }
 {
     let mut rows = Vec::with_capacity(alloc, keyed.len())?;
     for item in keyed {
@@ -126,14 +133,14 @@ fn bare_rows<'a>(alloc: Global, keyed: &[KeyedRow<'a>]) -> Result<Vec<&'a Row>, 
 }
 
 /// The rows in the order of their values at these places.
-pub fn rows_by_key<'a>(
+pub fn in_order_of_keys<'a>(
     alloc: Global,
-    rows: &'a Rows,
+    rows: &[GroupedRow<'a>],
     places: &'a [u32],
-) -> Result<Vec<&'a Row>, Memory>
-    ensures same { IfOk result (λ made. IsPermutation rows.now (rows_in made.items)) }
-    ensures ascending { IfOk result (λ made. IsSorted row_order (map (key_at places.now) (rows_in made.items))) }
-    ensures few { OnOk result (length rows.now < 2 ^ 32) }
+) -> Result<Vec<GroupedRow<'a>>, Memory>
+    ensures same { IfOk result (λ made. IsPermutation rows.entry.now made.items) }
+    ensures ascending { IfOk result (λ made. IsSorted row_order
+        (map (key_at places.now) (rows_of made.items))) }
 {
     let mut keyed = keyed_rows(alloc, rows, places)?;
     keyed.sort_unstable();

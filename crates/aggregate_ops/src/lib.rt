@@ -5,11 +5,12 @@
 //!
 //! Promises: each call gives the bag that its definition says. A sum is added up in 128 bits, so that it may leave 64 bits on the
 //! way; `group` and `merge` refuse exactly where a whole sum lies outside 64 bits. Partial rows never refuse for that: a sum
-//! stands in two columns. Rows are brought into order by their key and read run by run, so a call takes n log n; shared rows are
-//! not copied, and the rows that come out are new ones, in the order of their keys.
+//! stands in two columns; merging them refuses exactly where grouping all rows would, which is a law. Rows are brought into order
+//! by their key and read run by run, so a call takes n log n; rows of ints and booleans are packed in words where their ranges
+//! allow it, shared rows are not copied, and the rows that come out are new ones, in the order of their keys.
 //! Not promised: that memory is there.
 //!
-//! Read `specs/Columns.antt` and `specs/Forms.antt`, then `grouping.rt` and `bags.rt`.
+//! Read `specs/Columns.antt` and `specs/Forms.antt`, then `grouping.rt`, `packing.rt` and `bags.rt`.
 #![tactic(auto)]
 
 mod bags;
@@ -18,12 +19,18 @@ mod faults;
 mod forms;
 mod grouping;
 mod keys;
+mod laws;
+mod packed_columns;
+mod packing;
 mod partials;
+mod reading;
 mod runs;
+mod spans;
 #[cfg(test)]
 mod tests;
 
 pub use bags::{append, difference, distinct};
 pub use faults::AggFault;
 pub use grouping::group;
+pub use laws::merged_fit_as_groups;
 pub use partials::{merge, partial, partial_keys};

@@ -18,7 +18,8 @@ use std::alloc::Global;
 /// counts times 2 ^ 62, so that it always lies in 64 bits.
 pub fn partial(alloc: Global, rows: &Rows, kinds: &EmitKinds) -> Result<Rows, Memory>
     requires { AreGrouped (map kind_of_emit kinds.now) rows.now }
-    ensures { IfOk result (λ made. SameBag (partial_rows (map kind_of_emit kinds.now) rows.now) made) }
+    ensures { IfOk result (λ made. SameBag
+        (partial_rows (map kind_of_emit kinds.now) rows.now) made) }
 {
     match grouped(alloc, Form::Split, rows, kinds) {
         Ok(made) => Ok(made),
@@ -31,9 +32,11 @@ pub fn partial(alloc: Global, rows: &Rows, kinds: &EmitKinds) -> Result<Rows, Me
 /// lists put together.
 pub fn merge(alloc: Global, partials: &Rows, kinds: &EmitKinds) -> Result<Rows, AggFault>
     requires { AreGrouped (partial_kinds (map kind_of_emit kinds.now)) partials.now }
-    ensures bag { IfOk result (λ made. SameBag (merged (map kind_of_emit kinds.now) partials.now) made) }
+    ensures bag { IfOk result (λ made. SameBag
+        (merged (map kind_of_emit kinds.now) partials.now) made) }
     ensures fits { OnOk result (merged_fits (map kind_of_emit kinds.now) partials.now ≡ true) }
-    ensures fault { IfErr result (λ fault. Overflows fault (merged_fits (map kind_of_emit kinds.now) partials.now)) }
+    ensures fault { IfErr result (λ fault. Overflows fault
+        (merged_fits (map kind_of_emit kinds.now) partials.now)) }
 {
     grouped(alloc, Form::Merged, partials, kinds)
 }

@@ -12,8 +12,8 @@ ghost use Rattle.myria_top.specs.Reading as spec;
 ghost use Rattle.myria_top.specs.Runs.{files_verdict, relation_read, relation_verdict};
 ghost use Rattle.myria_top.specs.Runs.{IsFetchedBy, IsFileOf};
 
-use crate::file_names::file_name;
 use crate::Outcome;
+use crate::file_names::file_name;
 use myrial_ast::{LoadForm, Script};
 use myrial_lexer::{LexFault, lex};
 use myrial_parser::{ParseFault, parse};

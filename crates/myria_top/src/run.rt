@@ -14,10 +14,10 @@ ghost use Rattle.myria_top.specs.Scripts.{IsOfTexts};
 ghost use Rattle.myria_top.specs.Verdicts.{and_then, passes};
 ghost use Rattle.myria_top.specs.Runs.{ComesTo, IsFileOf, printed_verdict, run_verdict, typed_verdict};
 
+use crate::Outcome;
 use crate::messages::tell;
 use crate::pieces::Pieces;
 use crate::reading::{read_files, read_script, script_name};
-use crate::Outcome;
 use myrial_ast::Script;
 use myrial_meaning::evaluate;
 use myrial_types::{check, fetches};

@@ -1,6 +1,6 @@
 -- Faults, where the rows of relations stand in another order.
-use Rattle.std.proofs.Common.{◌≡◌, ◌∙◌, ℕ, suc, nat_lt, Bool, true, false, not, ◌&&◌, ◌||◌, Option, Some, None, option_map, option_and_then, List, [], ◌∷◌, length, map, reverse, refl, sym, ap, subst, arith}
-use Rattle.std.specs.Prelude.{IsPermutation, if◌then◌else◌}
+use Rattle.std.proofs.Common.{◌≡◌, ◌∙◌, ℕ, suc, nat_lt, Option, Some, None, option_and_then, List, [], ◌∷◌, length, map, refl, sym, ap}
+use Rattle.std.specs.Prelude.{if◌then◌else◌}
 use Rattle.std.specs.List.{list_all, list_any, zip}
 use Rattle.std.proofs.lemmas.List.Sorted.{IsPermutation-refl, IsPermutation-trans, IsPermutation-sym, length_permutation, list_any-IsPermutation}
 use Rattle.rel_base.specs.Bags.{SameBag, sorted}
@@ -8,42 +8,28 @@ use Rattle.rel_base.specs.Values.{row_order}
 use Rattle.rel_base.specs.ValueLaws.{row_order_total, row_order-IsAntisymmetric}
 use Rattle.rel_base.proofs.SortedLemmas.{Ascending-sorted_by, IsSorted-Ascending, IsPermutation-sorted_by, sorted_by-unique}
 use Rattle.rel_base.specs.Limits.{most_rows}
-use Rattle.rel_base.specs.Each.{each_or_none}
 use Rattle.rel_base.specs.Keys.{File}
 use Rattle.rel_base.specs.Relations.{RelationState}
-use Rattle.rel_base.specs.declared.faults.RunFault.{RunFault}
 use Rattle.rel_base.specs.declared.faults.RunFault.TheVariants as fault
 use Rattle.rel_base.specs.declared.names.Key.{Key}
-use Rattle.myrial_ast.specs.Trees.{Name, Tree, EmitTree, RelTree, StatementTree}
+use Rattle.myrial_ast.specs.Trees.{Tree, EmitTree, RelTree, StatementTree}
 use Rattle.myrial_ast.specs.Trees as tree
 use Rattle.myrial_ast.specs.Scalars.{plain_of, arithmetic_of}
 use Rattle.myrial_ast.specs.Combinations.{Rows, Comprehension, candidates, listed_from}
-use Rattle.myrial_ast.specs.Groups.{Kinds, groups, sum_fits, sums_fit}
+use Rattle.myrial_ast.specs.Groups.{groups, sum_fits, sums_fit}
 use Rattle.myrial_ast.specs.CandidateFaults.{Uncounted, comprehension_fault, overflows_on, too_many}
 use Rattle.myrial_scopes.specs.Scopes.{ItemSchema, scope_of}
 use Rattle.myrial_scopes.specs.Emits.{Resolved, resolved}
 use Rattle.bag_laws.specs.Permuted.{SameTables}
 use Rattle.bag_laws.proofs.GroupPermutations.{groups-same}
+use Rattle.aggregate_ops.proofs.StepLemmas.{list_all-same}
 use Rattle.bag_laws.proofs.RowPermutations.{candidates-same, listed_from-same}
-use Rattle.myrial_meaning.specs.Meaning.{RelationEnvironment, ItemRelation, item_relation, items_of, tables_of, relation_of}
+use Rattle.myrial_meaning.specs.Meaning.{RelationEnvironment, ItemRelation, item_relation, items_of, tables_of}
 use Rattle.myrial_meaning.specs.Faults.{relation_fault, statement_fault, widths_of}
 use Rattle.myrial_meaning.specs.SortedFiles.{sorted_file}
 use Rattle.myrial_meaning.specs.Permuted.{SameTable, Alike, no_more, one_more, Matched, neither, both, SameEntry, SameEnvironment}
 use Rattle.myrial_meaning.proofs.MeaningPermutations.{Matched-each, relation-same, source-same, items-same, tables-same, SameSource}
 use Rattle.myrial_meaning.proofs.ComprehensionLemmas.{whole_fault}
-
--- ---- tests of all
-
-list_all-not : {X : Type 0} (p : X → Bool) (xs : List X) → list_all p xs ≡ not (list_any (λ x. not (p x)) xs)
-list_all-not p [] = refl
-list_all-not p (x ∷ xs) = by (p x) (list_all-not p xs)
-  where
-    by : (b : Bool) → list_all p xs ≡ not (list_any (λ x. not (p x)) xs) → (b && list_all p xs) ≡ not (not b || list_any (λ x. not (p x)) xs)
-    by true e = e
-    by false e = refl
-
-list_all-same : {X : Type 0} (p : X → Bool) (xs ys : List X) → IsPermutation xs ys → list_all p xs ≡ list_all p ys
-list_all-same p xs ys h = list_all-not p xs ∙ ap not (list_any-IsPermutation (λ x. not (p x)) xs ys h) ∙ sym (list_all-not p ys)
 
 -- ---- comprehensions
 

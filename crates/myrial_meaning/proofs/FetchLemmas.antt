@@ -1,10 +1,7 @@
--- Keys that stand once, and the keys of the files that a script needs.
-use Rattle.std.proofs.Common.{◌≡◌, ◌∙◌, ℕ, ◌+◌, ◌<◌, Bool, true, false, not, ◌&&◌, ◌||◌, cond, List, [], ◌∷◌, ◌++◌, get_or, length, filter, take, sym, ap, refl}
+-- Keys that stand once.
+use Rattle.std.proofs.Common.{◌≡◌, ◌∙◌, ◌+◌, Bool, true, false, not, ◌&&◌, ◌||◌, cond, List, [], ◌∷◌, ◌++◌, get_or, filter, sym, ap, refl}
 use Rattle.std.specs.Prelude.{AllPairs}
-use Rattle.std.specs.List.{flat_map}
 use Rattle.std.proofs.lemmas.Bool.{false_from_ne_true}
-use Rattle.std.proofs.lemmas.List.{append-nil, take_more}
-use Rattle.std.proofs.lemmas.List.Concat.{flat_map-append}
 use Rattle.std.proofs.lemmas.List.Elements.{filter-append}
 use Rattle.std.proofs.lemmas.List.Folds.{list_any_at}
 use Rattle.std.proofs.lemmas.List.Quantifiers.{all_pairs_push}
@@ -12,8 +9,7 @@ use Rattle.std.specs.Cmp.{first_so, second_so}
 use Rattle.std.specs.Cmp.Lexicographic.{nat_list_eq_equiv}
 use Rattle.rel_base.specs.Keys.{same_key}
 use Rattle.rel_base.specs.declared.names.Key.{Key}
-use Rattle.myrial_ast.specs.declared.relations.Operand.{Operand}
-use Rattle.myrial_meaning.specs.Fetches.{each_once, has_key, keys_needed}
+use Rattle.myrial_meaning.specs.Fetches.{each_once, has_key}
 
 -- ---- each key where it stands first
 
@@ -57,16 +53,6 @@ each_once-push (x ∷ keys) k =
     ∙ ap (λ ks. x ∷ ks) (filter-append apart so_far (filter (λ key. not (has_key so_far key)) (k ∷ [])))
     ∙ ap (λ ks. x ∷ filter apart so_far ++ ks) one
 
--- one key further, which is there already or not
-pub each_once-there : (keys : List Key) (i : ℕ) (k : Key) → i < length keys → k ≡ get_or keys i k → has_key (each_once (take i keys)) k ≡ true
-    → each_once (take (i + 1) keys) ≡ each_once (take i keys)
-each_once-there keys i k low at there =
-    rw (take_more keys i k low, ← at) (each_once-push (take i keys) k ∙ (rw there (append-nil (each_once (take i keys)))))
-
-pub each_once-new : (keys : List Key) (i : ℕ) (k : Key) → i < length keys → k ≡ get_or keys i k → has_key (each_once (take i keys)) k ≡ false
-    → each_once (take (i + 1) keys) ≡ each_once (take i keys) ++ k ∷ []
-each_once-new keys i k low at new = rw (take_more keys i k low, ← at) (each_once-push (take i keys) k ∙ (rw new refl))
-
 -- a key that isn't there yet leaves the keys distinct
 pub distinct-push : (keys : List Key) (key : Key) → AllPairs (λ j k. same_key j k ≡ false) keys → has_key keys key ≡ false
     → AllPairs (λ j k. same_key j k ≡ false) (keys ++ key ∷ [])
@@ -75,10 +61,3 @@ distinct-push keys key distinct none =
     false_from_ne_true (same_key (get_or keys k d) key) (λ e.
     let there = list_any_at (λ j. same_key j key) keys k d inside e in
     let both : true ≡ false = sym there ∙ none in cc))
-
--- the keys that one operand further needs
-pub needed-more : (stored : List Key) (operands : List Operand) (o : Operand)
-    → flat_map (keys_needed stored) (operands ++ o ∷ []) ≡ flat_map (keys_needed stored) operands ++ keys_needed stored o
-needed-more stored operands o =
-    flat_map-append (keys_needed stored) operands (o ∷ [])
-    ∙ ap (λ rest. flat_map (keys_needed stored) operands ++ rest) (append-nil (keys_needed stored o))

@@ -1,6 +1,6 @@
 -- The rows of a comprehension have the types of the emitted columns.
-use Rattle.std.proofs.Common.{◌≡◌, ◌∙◌, ℕ, zero, suc, ◌+◌, ◌<◌, Bool, true, false, not, cond, Option, Some, None, option_map, List, [], ◌∷◌, ◌++◌, length, map, filter, get_or, refl, sym, ap, subst, arith}
-use Rattle.std.proofs.lemmas.List.{append-nil, map-append, length-map}
+use Rattle.std.proofs.Common.{◌≡◌, ◌∙◌, ℕ, zero, suc, ◌+◌, ◌<◌, Bool, true, false, cond, Option, Some, None, option_map, List, [], ◌∷◌, ◌++◌, length, map, filter, get_or, refl, sym, ap, subst, arith}
+use Rattle.std.proofs.lemmas.List.{map-append, length-map}
 use Rattle.std.proofs.lemmas.List.Elements.{All-nil, All-cons, All-head, All-tail, All-append, All-map, All-filter, All-weaker}
 use Rattle.std.specs.Prelude.{All, fold, unwrap_or}
 use Rattle.std.specs.List.{flat_map, enumerate_from, range_with_len}
@@ -19,16 +19,17 @@ use Rattle.myrial_ast.specs.declared.operators.BinOp.TheVariants as op
 use Rattle.myrial_ast.specs.Trees.{Name, Tree, EmitTree}
 use Rattle.myrial_ast.specs.Trees as tree
 use Rattle.myrial_ast.specs.Scalars.{Scalar, Lit, At, Not, Neg, Bin, exact_value, value_at}
-use Rattle.myrial_ast.specs.Bags.{same_row, distinct}
+use Rattle.myrial_ast.specs.Bags.{same_row}
 use Rattle.myrial_ast.specs.Combinations.{Row, Rows, all_hold, candidates, combinations, combined_row, combined_rows, emitted, listed_from}
 use Rattle.myrial_ast.specs.Groups.{Kinds, has_aggregate, key_of, keys, members, lesser, greater, cell, group_row, groups, result_rows}
 use Rattle.algebra.specs.Conditions.{same_kinds}
 use Rattle.bag_laws.proofs.ColumnLemmas.{behind, firsts, by_columns, group_row-columns}
-use Rattle.bag_laws.proofs.PartialLemmas.{itself, other}
+use Rattle.bag_laws.proofs.PartialLemmas.{itself}
 use Rattle.myrial_scopes.specs.Scopes.{ItemSchema, ScopeColumn, column_at, columns_of, kind_of, places_under, scalar_of, scope_of, scoped}
 use Rattle.myrial_scopes.specs.Emits.{Emit, emit_at, aggregate_kind, aggregated, emit_of_scalar, emit_of_tree, named, emits_of_item, emits_of, numbered_name, schema_of}
 use Rattle.myrial_meaning.specs.Meaning.{ItemRelation, items_of, schema_of_item, tables_of}
 use Rattle.myrial_meaning.specs.inner.ItemRows.{HasTypedRows}
+use Rattle.aggregate_ops.proofs.RunLemmas.{All-distinct}
 use Rattle.myrial_meaning.proofs.BoolLemmas.{and-first, and-second}
 
 -- ---- rows of types
@@ -244,11 +245,6 @@ filter-none-at {X} p (x ∷ xs) i d low e = by (λ k small none. filter-none-at 
     by others true h e i low = absurd (cc)
     by others false h e zero low = h
     by others false h e (suc i) low = others i (omega arith) e
-
-pub All-distinct : (P : Row → Type 0) (rows : Rows) → All P rows → All P (distinct rows)
-All-distinct P [] all = All-nil P
-All-distinct P (row ∷ rows) all =
-    All-cons P row (filter (other row) (distinct rows)) (All-head P row rows all) (All-filter (other row) P (distinct rows) (All-distinct P rows (All-tail P row rows all)))
 
 -- a key of the groups has members
 has-members : (kinds : Kinds) (rows : Rows) (i : ℕ) (d : Row) → i < length rows → members kinds rows (key_of kinds (get_or rows i d)) ≡ [] → ⊥

@@ -7,8 +7,7 @@
 //! Promises: `evaluate` gives what a script stores, each relation's rows in ascending order, or the fault of its run, as
 //! the definitions say; statements that no store needs are not run. `has_meaning` tells whether each name, key and
 //! reference of a script stands for something and what is put together has columns of the same types, which is all that
-//! `evaluate` requires; `fetched_keys` gives the keys whose
-//! files a script scans or loads. That the test of needed statements tells what their rule says is a law. Contracts see a script by
+//! `evaluate` requires. That the test of needed statements tells what their rule says is a law. Contracts see a script by
 //! `trees_of`.
 //! Not promised: that memory is there; speed, since a comprehension goes over every combination of its items' rows.
 //!
@@ -34,7 +33,7 @@ mod statements;
 pub use checking::{has_meaning, have_same_kinds};
 pub use evaluating::evaluate;
 pub use laws::needed_statements_are_the_least_set;
-pub use needed_files::{Fetch, Fetches, fetched_keys};
+pub use needed_files::{Fetch, Fetches};
 
 #[cfg(test)]
 mod tests;

@@ -264,4 +264,3 @@ join-columns scope (e ∷ es) h none =
     by : (a : Option AggOp) → is_some a ≡ false → is_kind e.kind (emitted_kind a (kind_in (kinds_in_scope scope) e.scalar)) ≡ true → is_kind e.kind (kind_in (kinds_in_scope scope) e.scalar) ≡ true
     by None f g = g
     by (Some a) f g = cc
-

@@ -63,7 +63,8 @@ aggregate_type _ k = option_map (λ t. kind.Int) k
 abbrev pub tree_kind : List ScopeColumn → Tree → Option ColType
 tree_kind scope (tree.Lit v) = Some (type_of v)
 tree_kind scope (tree.Col c) = option_map (λ place. (column_at scope place).kind) (place_of scope c)
-tree_kind scope (tree.Not e) = where_both kind.Bool kind.Bool (tree_kind scope e) (tree_kind scope e)
+tree_kind scope (tree.Not e) =
+    where_both kind.Bool kind.Bool (tree_kind scope e) (tree_kind scope e)
 tree_kind scope (tree.Neg e) = where_both kind.Int kind.Int (tree_kind scope e) (tree_kind scope e)
 tree_kind scope (tree.Bin o l r) = kind_of_op o (tree_kind scope l) (tree_kind scope r)
 tree_kind scope (tree.Agg o e) = aggregate_type o (tree_kind scope e)
@@ -126,23 +127,27 @@ meanings_of items r = length (places_of (scope_of items) r)
 
 -- a reference means no column
 abbrev pub has_unknown_column : List ItemSchema → Option Tree → List EmitTree → Bool
-has_unknown_column items condition emits = list_any (λ r. meanings_of items r == 0) (references_in condition emits)
+has_unknown_column items condition emits =
+    list_any (λ r. meanings_of items r == 0) (references_in condition emits)
 
 -- a reference may mean two columns, or two items have one alias
 abbrev pub has_ambiguous_column : List ItemSchema → Option Tree → List EmitTree → Bool
 has_ambiguous_column items condition emits =
-    list_any (λ r. nat_lt 1 (meanings_of items r)) (references_in condition emits) || has_doubled_alias items
+    list_any (λ r. nat_lt 1 (meanings_of items r)) (references_in condition emits)
+    || has_doubled_alias items
 
 -- an expression has no type, or the condition is no boolean
 abbrev pub has_mismatch : List ItemSchema → Option Tree → List EmitTree → Bool
 has_mismatch items condition emits =
     list_any (λ e. is_none (tree_kind (scope_of items) e)) (trees_in condition emits)
-    || list_any (λ e. not (is_kind kind.Bool (tree_kind (scope_of items) e))) (condition_trees condition)
+    || list_any (λ e. not (is_kind kind.Bool (tree_kind (scope_of items) e)))
+    (condition_trees condition)
 
 -- an aggregate is no whole emit item
 abbrev pub has_misplaced : Option Tree → List EmitTree → Bool
 has_misplaced condition emits =
-    list_any has_any_aggregate (condition_trees condition) || list_any has_inner_aggregate (flat_map emitted_tree emits)
+    list_any has_any_aggregate (condition_trees condition)
+    || list_any has_inner_aggregate (flat_map emitted_tree emits)
 
 -- the first kind of those that a comprehension has
 abbrev pub first_of : Bool → Bool → Bool → Bool → Bool → Option TypeKind
@@ -158,17 +163,20 @@ first_of unknown_relation unknown_column ambiguous mismatch misplaced =
 abbrev pub comprehension_kind : List ItemSchema → Option Tree → List EmitTree → Option TypeKind
 comprehension_kind items condition emits =
     first_of (has_unknown_alias items condition emits) (has_unknown_column items condition emits)
-    (has_ambiguous_column items condition emits) (has_mismatch items condition emits) (has_misplaced condition emits)
+    (has_ambiguous_column items condition emits) (has_mismatch items condition emits)
+    (has_misplaced condition emits)
 
 -- ---- relation expressions
 
 -- the types of an operand's columns; one that isn't known has none
 abbrev pub operand_kinds : List File → Names → Operand → List ColType
-operand_kinds files names o = option_map_or (λ (m : Meant). kinds_of_columns m.schema) (meant files names o) []
+operand_kinds files names o =
+    option_map_or (λ (m : Meant). kinds_of_columns m.schema) (meant files names o) []
 
 -- whether two operands have unequal lists of column types
 abbrev pub differ : List File → Names → Operand → Operand → Bool
-differ files names o p = not (same_kinds (operand_kinds files names o) (operand_kinds files names p))
+differ files names o p =
+    not (same_kinds (operand_kinds files names o) (operand_kinds files names p))
 
 -- whether an operand stands for nothing
 abbrev pub is_unknown : List File → Names → Operand → Bool
@@ -182,14 +190,18 @@ is_term_past_limit _ = false
 
 -- more than 16 output columns, or more than 8 join variables; a tree that no text gives may have no column at all
 abbrev pub is_past_limit : Typed → Bool
-is_past_limit t = nat_lt most_columns (length t.schema) || length t.schema == 0 || is_term_past_limit t.term
+is_past_limit t =
+    nat_lt most_columns (length t.schema) || length t.schema == 0 || is_term_past_limit t.term
 
 -- the first kind of a relation expression over known operands, before its limits
 abbrev pub relation_kind : List File → Names → RelTree → Option TypeKind
-relation_kind files names (tree.UnionAll o p) = if differ files names o p then Some fault.TypeMismatch else None
-relation_kind files names (tree.Diff o p) = if differ files names o p then Some fault.TypeMismatch else None
+relation_kind files names (tree.UnionAll o p) =
+    if differ files names o p then Some fault.TypeMismatch else None
+relation_kind files names (tree.Diff o p) =
+    if differ files names o p then Some fault.TypeMismatch else None
 relation_kind files names (tree.From items condition emits) =
-    option_map_or (λ given. comprehension_kind (schemas_of given) condition emits) (each_or_none (item_meant files names) items) None
+    option_map_or (λ given. comprehension_kind (schemas_of given) condition emits)
+    (each_or_none (item_meant files names) items) None
 relation_kind files names _ = None
 
 -- the limits are the last that is looked at
@@ -206,7 +218,8 @@ typing_kind files names r =
 
 -- the kind of a store: its name isn't assigned
 abbrev pub store_kind : Names → Name → Option TypeKind
-store_kind names name = if is_none (assigned_to names name) then Some fault.UnknownRelation else None
+store_kind names name =
+    if is_none (assigned_to names name) then Some fault.UnknownRelation else None
 
 -- the first kind of fault of a statement behind these loads, where names and keys stand for these
 abbrev pub first_kind : List File → Names → List Load → StatementTree → Option TypeKind

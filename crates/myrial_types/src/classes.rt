@@ -1,5 +1,6 @@
 //! Join variables: the classes of columns that equalities hold together.
-ghost use Rattle.std.specs.Prelude.{◌≡◌, ◌==◌, ◌<◌, if◌then◌else◌, ◌++◌, ◌∷◌, [], IfOk, OnOk, length, map, sum};
+ghost use Rattle.std.specs.Prelude.{◌≡◌, ◌==◌, ◌<◌, if◌then◌else◌, ◌++◌, ◌∷◌, [], IfOk, OnOk};
+ghost use Rattle.std.specs.Prelude.{length, map, sum};
 ghost use Rattle.std.specs.List.{range_with_len};
 ghost use Rattle.myrial_ast.specs.Classes.{leader, variables};
 ghost use Rattle.algebra.specs.ShapeLaws.{InRange};
@@ -11,7 +12,8 @@ use std::alloc::Global;
 
 /// Adds the places of so many further columns.
 fn push_columns(width: u32, columns: &mut Vec<u32>) -> Result<(), Memory>
-    ensures { OnOk result (columns.new.items ≡ columns.old.items ++ range_with_len (length columns.old.items) width) }
+    ensures { OnOk result (columns.new.items
+        ≡ columns.old.items ++ range_with_len (length columns.old.items) width) }
 {
     for _nth in 0..width {
         let place = columns.as_slice().len();
@@ -59,7 +61,8 @@ fn merged(alloc: Global, leaders: &[u32], left: u32, right: u32) -> Result<Vec<u
 /// One column for each class: that of each of so many columns.
 fn leaders_of(alloc: Global, widths: &[u32], equalities: &[(u32, u32)]) -> Result<Vec<u32>, Memory>
     requires { InRange (sum widths.now) equalities.now }
-    ensures { IfOk result (λ made. made.items ≡ map (leader equalities.now) (range_with_len 0 (sum widths.now))) }
+    ensures { IfOk result (λ made. made.items
+        ≡ map (leader equalities.now) (range_with_len 0 (sum widths.now))) }
 {
     let mut leaders = all_columns(alloc, widths)?;
     for i in (0..equalities.len()).rev() {

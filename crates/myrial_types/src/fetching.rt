@@ -53,7 +53,8 @@ fn insert_key(
     operand: &Operand,
     keys: &mut IndexSet<Key>,
 ) -> Result<(), Memory>
-    ensures { OnOk result (keys.new.keys ≡ insert_all same_key keys.old.keys (keys_needed stored.now operand.now)) }
+    ensures { OnOk result (keys.new.keys
+        ≡ insert_all same_key keys.old.keys (keys_needed stored.now operand.now)) }
 {
     match operand {
         Operand::Named(_) => {}
@@ -77,7 +78,8 @@ fn insert_keys(
     keys: &mut IndexSet<Key>,
 ) -> Result<(), Memory>
     ensures { OnOk result (keys.new.keys
-        ≡ insert_all same_key keys.old.keys (flat_map (keys_needed stored.now) (operands_of (rel_tree_of relation.now)))) }
+        ≡ insert_all same_key keys.old.keys
+        (flat_map (keys_needed stored.now) (operands_of (rel_tree_of relation.now)))) }
 {
     let operands = relation.operands(alloc)?;
     for operand in &operands {

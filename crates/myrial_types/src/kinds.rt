@@ -1,12 +1,16 @@
 //! The kinds of fault of a comprehension.
-ghost use Rattle.std.specs.Prelude.{◌≡◌, ◌==◌, ◌++◌, ◌||◌, nat_lt, not, is_none, IfOk, OnOk, map, length, option_map};
+ghost use Rattle.std.specs.Prelude.{◌≡◌, ◌==◌, ◌++◌, ◌||◌, nat_lt, not, is_none, IfOk, OnOk};
+ghost use Rattle.std.specs.Prelude.{map, length, option_map};
 ghost use Rattle.std.specs.List.{flat_map, list_any};
 ghost use Rattle.rel_base.specs.declared.values.ColType.TheVariants as coltype;
 ghost use Rattle.myrial_ast.specs.Trees.{tree_of, emit_tree_of};
 ghost use Rattle.myrial_scopes.specs.Scopes.{is_alias, places_of, same_name, scope_of};
 ghost use Rattle.algebra.specs.ShapeConditions.{is_kind};
 ghost use Rattle.rel_base.specs.Relations.{type_of};
-ghost use Rattle.myrial_types.specs.Kinds.{aggregate_type, comprehension_kind, condition_trees, emitted_alias, emitted_tree, first_of, has_any_aggregate, has_inner_aggregate, is_unknown_behind, references, tree_kind};
+ghost use Rattle.myrial_types.specs.Kinds.{aggregate_type, comprehension_kind, condition_trees};
+ghost use Rattle.myrial_types.specs.Kinds.{emitted_alias, emitted_tree, first_of};
+ghost use Rattle.myrial_types.specs.Kinds.{has_any_aggregate, has_inner_aggregate};
+ghost use Rattle.myrial_types.specs.Kinds.{is_unknown_behind, references, tree_kind};
 ghost use Rattle.myrial_types.specs.Resolving.{schemas_of};
 
 use crate::faults::TypeKind;
@@ -135,7 +139,8 @@ fn expressions_of<'a>(
     emitted: &[&'a Expr],
 ) -> Result<Vec<&'a Expr>, Memory>
     ensures { IfOk result (λ found. map (λ e. tree_of e.now) found.items
-        ≡ condition_trees (option_map tree_of condition.entry.now) ++ map (λ e. tree_of e.now) emitted.entry.now) }
+        ≡ condition_trees (option_map tree_of condition.entry.now)
+        ++ map (λ e. tree_of e.now) emitted.entry.now) }
 {
     let mut found = Vec::new(alloc);
     if let Some(condition) = condition {
@@ -183,7 +188,8 @@ fn is_unknown_behind(items: &[MeantItem], reference: &ColRef) -> bool
 
 /// Whether the alias of a reference is that of no item.
 fn has_unknown_reference(items: &[MeantItem], references: &[&ColRef]) -> bool
-    ensures { result ≡ list_any (λ r. is_unknown_behind (schemas_of items.now) r.now) references.now }
+    ensures { result
+        ≡ list_any (λ r. is_unknown_behind (schemas_of items.now) r.now) references.now }
 {
     references
         .iter()
@@ -192,7 +198,8 @@ fn has_unknown_reference(items: &[MeantItem], references: &[&ColRef]) -> bool
 
 /// Whether the alias of an emit item `T.*` is that of no item.
 fn is_unknown_emit(items: &[MeantItem], emit: &EmitItem) -> bool
-    ensures { result ≡ list_any (λ alias. not (is_alias (schemas_of items.now) alias)) (emitted_alias (emit_tree_of emit.now)) }
+    ensures { result ≡ list_any (λ alias. not (is_alias (schemas_of items.now) alias))
+        (emitted_alias (emit_tree_of emit.now)) }
 {
     match emit {
         EmitItem::AllOf(alias) => !is_alias(items, alias),
@@ -203,14 +210,16 @@ fn is_unknown_emit(items: &[MeantItem], emit: &EmitItem) -> bool
 /// Whether the alias of an emit item `T.*` is that of no item.
 fn has_unknown_emit(items: &[MeantItem], emits: &[EmitItem]) -> bool
     ensures { result
-        ≡ list_any (λ e. list_any (λ alias. not (is_alias (schemas_of items.now) alias)) (emitted_alias (emit_tree_of e))) emits.now }
+        ≡ list_any (λ e. list_any (λ alias. not (is_alias (schemas_of items.now) alias))
+        (emitted_alias (emit_tree_of e))) emits.now }
 {
     emits.iter().any(|emit| is_unknown_emit(items, emit))
 }
 
 /// How many columns each reference may mean.
 fn counts_of(alloc: Global, scope: &Scope, references: &[&ColRef]) -> Result<Vec<u32>, Memory>
-    ensures { IfOk result (λ counts. counts.items ≡ map (λ r. length (places_of scope.now r.now)) references.now) }
+    ensures { IfOk result (λ counts. counts.items
+        ≡ map (λ r. length (places_of scope.now r.now)) references.now) }
 {
     let mut counts = Vec::with_capacity(alloc, references.len())?;
     for reference in references {
@@ -222,7 +231,8 @@ fn counts_of(alloc: Global, scope: &Scope, references: &[&ColRef]) -> Result<Vec
 
 /// Whether an expression has no type.
 fn has_untyped(alloc: Global, scope: &Scope, expressions: &[&Expr]) -> Result<bool, Memory>
-    ensures { IfOk result (λ found. found ≡ list_any (λ e. is_none (tree_kind scope.now (tree_of e.now))) expressions.now) }
+    ensures { IfOk result (λ found. found
+        ≡ list_any (λ e. is_none (tree_kind scope.now (tree_of e.now))) expressions.now) }
 {
     for expression in expressions {
         if tree_kind(alloc, scope, expression)?.is_none() {
@@ -235,7 +245,8 @@ fn has_untyped(alloc: Global, scope: &Scope, expressions: &[&Expr]) -> Result<bo
 /// Whether a condition is no boolean.
 fn is_no_truth(alloc: Global, scope: &Scope, condition: &Option<Expr>) -> Result<bool, Memory>
     ensures { IfOk result (λ found. found
-        ≡ list_any (λ e. not (is_kind coltype.Bool (tree_kind scope.now e))) (condition_trees (option_map tree_of condition.now))) }
+        ≡ list_any (λ e. not (is_kind coltype.Bool (tree_kind scope.now e)))
+        (condition_trees (option_map tree_of condition.now))) }
 {
     match condition {
         None => Ok(false),
@@ -248,7 +259,8 @@ fn is_no_truth(alloc: Global, scope: &Scope, condition: &Option<Expr>) -> Result
 
 /// Whether an aggregate stands in a condition.
 fn has_tested_aggregate(condition: &Option<Expr>) -> bool
-    ensures { result ≡ list_any has_any_aggregate (condition_trees (option_map tree_of condition.now)) }
+    ensures { result
+        ≡ list_any has_any_aggregate (condition_trees (option_map tree_of condition.now)) }
 {
     match condition {
         None => false,
@@ -323,7 +335,8 @@ pub(crate) fn comprehension_kind(
     requires schemas { schemas.now ≡ schemas_of items.now }
     requires scope { scope.now ≡ scope_of schemas.now }
     ensures { IfOk result (λ kind. kind
-        ≡ comprehension_kind schemas.now (option_map tree_of condition.now) (map emit_tree_of emits.now)) }
+        ≡ comprehension_kind schemas.now (option_map tree_of condition.now)
+        (map emit_tree_of emits.now)) }
 {
     let emitted = emitted_of(alloc, emits.as_slice())?;
     let expressions = expressions_of(alloc, condition, &emitted)?;

@@ -1,6 +1,7 @@
 //! The laws that tie steps to scripts.
-ghost use Rattle.myrial_types.specs.Laws.{StepsAreOfTheFiles, StepsHaveTheFault, StepsMeanTheScript};
-ghost use Rattle.myrial_types.specs.Laws.{TypedScriptsHaveMeaning, TypedStatementsResolve};
+ghost use Rattle.myrial_types.specs.Laws.{StepsAreOfTheFiles, StepsHaveTheFault};
+ghost use Rattle.myrial_types.specs.Laws.{StepsMeanTheScript, TypedScriptsHaveMeaning};
+ghost use Rattle.myrial_types.specs.Laws.{TypedStatementsResolve};
 
 /// Law: a statement without a kind of fault resolves, so the steps of a typed script are those of all its statements.
 pub fn typed_statements_resolve()

@@ -30,8 +30,8 @@ pub use checking::check;
 pub use faults::{TypeFault, TypeKind};
 pub use fetching::fetches;
 pub use laws::{
-    steps_are_of_the_files, steps_have_the_fault, steps_mean_the_script, typed_scripts_have_meaning,
-    typed_statements_resolve,
+    steps_are_of_the_files, steps_have_the_fault, steps_mean_the_script,
+    typed_scripts_have_meaning, typed_statements_resolve,
 };
 pub use myrial_ast::LoadForm;
 pub use myrial_meaning::{Fetch, Fetches};

@@ -89,7 +89,8 @@ pub(crate) fn push_loads<'a>(
     relation: &'a RelExpr,
     into: &mut Vec<Load<'a>>,
 ) -> Result<(), Memory>
-    ensures { OnOk result (into.new.items ≡ into.old.items ++ flat_map loads_of (operands_of (rel_tree_of relation.entry.now))) }
+    ensures { OnOk result (into.new.items
+        ≡ into.old.items ++ flat_map loads_of (operands_of (rel_tree_of relation.entry.now))) }
 {
     let operands = relation.operands(alloc)?;
     for operand in operands {

@@ -2,7 +2,8 @@
 ghost use Rattle.std.specs.Prelude.{◌≡◌, IfOk, OnOk, find, option_map};
 ghost use Rattle.rel_base.specs.Each.{each_or_none};
 ghost use Rattle.rel_base.specs.Keys.{same_key};
-ghost use Rattle.myrial_meaning.specs.Environments.{nothing_yet, assigned_to, kept_under, loaded_from, operand_of, with_name, with_key};
+ghost use Rattle.myrial_meaning.specs.Environments.{nothing_yet, assigned_to, kept_under};
+ghost use Rattle.myrial_meaning.specs.Environments.{loaded_from, operand_of, with_name, with_key};
 ghost use Rattle.myrial_types.specs.Resolving.{files_meant, item_meant, meant};
 
 use crate::loads::is_load_key;
@@ -176,7 +177,8 @@ impl<'a> Names<'a> {
 
     /// What was stored under a key last.
     fn stored_under(&self, key: &Key) -> Option<Meant<'_>>
-        ensures { result ≡ option_map (λ p. p.1) (find (λ p. same_key p.0 key.now) self.entry.now.stored) }
+        ensures { result
+            ≡ option_map (λ p. p.1) (find (λ p. same_key p.0 key.now) self.entry.now.stored) }
     {
         for i in (0..self.stored.len()).rev() {
             let stored = &self.stored[i];
@@ -241,7 +243,8 @@ impl<'a> Names<'a> {
         source: Source,
         schema: Schema,
     ) -> Result<(), Memory>
-        ensures { OnOk result (self.new ≡ with_name self.old name.entry.now (record { source = source; schema = schema })) }
+        ensures { OnOk result (self.new ≡ with_name self.old name.entry.now
+            (record { source = source; schema = schema })) }
     {
         self.assigned.push(Assigned {
             name,
@@ -258,7 +261,8 @@ impl<'a> Names<'a> {
         source: Source,
         schema: Schema,
     ) -> Result<(), Memory>
-        ensures { OnOk result (self.new ≡ with_key self.old key.entry.now (record { source = source; schema = schema })) }
+        ensures { OnOk result (self.new ≡ with_key self.old key.entry.now
+            (record { source = source; schema = schema })) }
     {
         self.stored.push(Stored {
             key,
@@ -271,7 +275,8 @@ impl<'a> Names<'a> {
 
 /// The file of a key.
 fn file_under<'a>(files: &'a Files, key: &Key) -> Option<Meant<'a>>
-    ensures { result ≡ option_map (λ p. p.1) (find (λ p. same_key p.0 key.now) (files_meant files.entry.now)) }
+    ensures { result ≡ option_map (λ p. p.1)
+        (find (λ p. same_key p.0 key.now) (files_meant files.entry.now)) }
 {
     for i in 0..files.len() {
         let file = files.get(i);

@@ -37,7 +37,8 @@ pub(crate) fn kinds_of(alloc: Global, schema: &Schema) -> Result<ColTypes, Memor
 
 /// An atom without keeps for each item.
 fn atoms_of(alloc: Global, items: &[MeantItem]) -> Result<Atoms, Memory>
-    ensures { IfOk result (λ atoms. map atom_tree_of atoms ≡ bare_atoms (kinds_of_items items.now)) }
+    ensures { IfOk result
+        (λ atoms. map atom_tree_of atoms ≡ bare_atoms (kinds_of_items items.now)) }
 {
     let mut atoms = Atoms::new(alloc);
     for item in items {
@@ -91,7 +92,8 @@ fn equalities_of(alloc: Global, conjuncts: &Scalars) -> Result<Vec<(u32, u32)>, 
 
 /// The conjuncts that compute no number.
 fn plain_of(alloc: Global, conjuncts: &Scalars) -> Result<Scalars, Memory>
-    ensures { IfOk result (λ found. map scalar_tree_of found ≡ plain_of (map scalar_tree_of conjuncts.now)) }
+    ensures { IfOk result (λ found. map scalar_tree_of found
+        ≡ plain_of (map scalar_tree_of conjuncts.now)) }
 {
     let mut found = Scalars::new(alloc);
     for conjunct in conjuncts.as_slice() {
@@ -104,7 +106,8 @@ fn plain_of(alloc: Global, conjuncts: &Scalars) -> Result<Scalars, Memory>
 
 /// The conjuncts that compute a number.
 fn arithmetic_of(alloc: Global, conjuncts: &Scalars) -> Result<Scalars, Memory>
-    ensures { IfOk result (λ found. map scalar_tree_of found ≡ arithmetic_of (map scalar_tree_of conjuncts.now)) }
+    ensures { IfOk result (λ found. map scalar_tree_of found
+        ≡ arithmetic_of (map scalar_tree_of conjuncts.now)) }
 {
     let mut found = Scalars::new(alloc);
     for conjunct in conjuncts.as_slice() {
@@ -117,7 +120,8 @@ fn arithmetic_of(alloc: Global, conjuncts: &Scalars) -> Result<Scalars, Memory>
 
 /// What is emitted, an aggregate by its argument.
 fn scalars_of(alloc: Global, emits: &[EmittedColumn]) -> Result<Scalars, Memory>
-    ensures { IfOk result (λ found. map scalar_tree_of found ≡ map (λ e. (emit_of e).scalar) emits.now) }
+    ensures { IfOk result (λ found. map scalar_tree_of found
+        ≡ map (λ e. (emit_of e).scalar) emits.now) }
 {
     let mut found = Scalars::new(alloc);
     for emit in emits {
@@ -131,7 +135,8 @@ fn scalars_of(alloc: Global, emits: &[EmittedColumn]) -> Result<Scalars, Memory>
 
 /// What each emitted column is for.
 fn kinds_of_emits(alloc: Global, emits: &[EmittedColumn]) -> Result<EmitKinds, Memory>
-    ensures { IfOk result (λ found. map kind_of_emit found ≡ map (λ e. (emit_of e).aggregate) emits.now) }
+    ensures { IfOk result (λ found. map kind_of_emit found
+        ≡ map (λ e. (emit_of e).aggregate) emits.now) }
 {
     let mut found = EmitKinds::new(alloc);
     for emit in emits {
@@ -161,10 +166,13 @@ fn shape_of(
     items: &[MeantItem],
     comprehension: &Comprehension,
 ) -> Result<Option<JoinShape>, Memory>
-    requires { InRange (sum (widths_in (kinds_of_items items.now))) (equalities (resolved_of comprehension.now).comprehension.conjuncts) }
+    requires { InRange (sum (widths_in (kinds_of_items items.now)))
+        (equalities (resolved_of comprehension.now).comprehension.conjuncts) }
     ensures { IfOk result (λ made.
-        let shape = shape_of (kinds_of_items items.now) (resolved_of comprehension.now).comprehension in
-        MatchOption made (is_shape shape ≡ false) (λ s. (shape_tree_of s ≡ shape) × (is_shape shape ≡ true))) }
+        let shape = shape_of (kinds_of_items items.now)
+        (resolved_of comprehension.now).comprehension in
+        MatchOption made (is_shape shape ≡ false)
+        (λ s. (shape_tree_of s ≡ shape) × (is_shape shape ≡ true))) }
 {
     let widths = widths_of(alloc, items)?;
     let equalities = equalities_of(alloc, &comprehension.conjuncts)?;
@@ -182,10 +190,13 @@ pub(crate) fn join_of(
     items: &[MeantItem],
     comprehension: &Comprehension,
 ) -> Result<Option<Term>, Memory>
-    requires { InRange (sum (widths_in (kinds_of_items items.now))) (equalities (resolved_of comprehension.now).comprehension.conjuncts) }
+    requires { InRange (sum (widths_in (kinds_of_items items.now)))
+        (equalities (resolved_of comprehension.now).comprehension.conjuncts) }
     ensures { IfOk result (λ made.
-        let term = join_term (kinds_of_items items.now) (sources_of items.now) (resolved_of comprehension.now).comprehension in
-        MatchOption made (is_term_past_limit term ≡ true) (λ t. (term_tree_of t ≡ term) × (is_term_past_limit term ≡ false))) }
+        let term = join_term (kinds_of_items items.now) (sources_of items.now)
+        (resolved_of comprehension.now).comprehension in
+        MatchOption made (is_term_past_limit term ≡ true)
+        (λ t. (term_tree_of t ≡ term) × (is_term_past_limit term ≡ false))) }
 {
     let Some(shape) = shape_of(alloc, items, comprehension)? else {
         return Ok(None);

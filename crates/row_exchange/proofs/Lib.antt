@@ -6,3 +6,4 @@ pub mod GatheringLemmas
 pub mod SumLemmas
 pub mod AssemblyLemmas
 pub mod MessageLemmas
+pub mod WorkedRows

@@ -204,7 +204,8 @@ fn fill_atom<W: Route>(
     size: Size,
     filled: Shipments,
 ) -> Result<Shipments, Memory>
-    requires routed { AreRouted (W.accepts route.now atom) (W.cells route.now atom) size.workers rows.now }
+    requires routed { AreRouted (W.accepts route.now atom) (W.cells route.now atom) size.workers
+        rows.now }
     requires atom { atom < atoms }
     requires size { IsSize size }
     requires sized { All (IsShipment size.workers atoms size.batch) filled.items }

@@ -16,10 +16,12 @@
 mod exchanging;
 mod filling;
 mod gathering;
+mod moving;
 mod receiving;
 mod routes;
 mod sending;
 mod stations;
 
 pub use exchanging::{Exchanged, Given, exchange};
+pub use moving::{bring_back, pop_two, set_aside};
 pub use routes::{Cells, Route, Size, Spreads};

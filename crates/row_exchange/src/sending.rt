@@ -31,7 +31,8 @@ pub(crate) fn send<R: Wait, W: Route, T: Tap>(
     requires size { IsSize size }
     requires worker { worker < size.workers }
     requires fresh { IsFresh size.workers outlet }
-    ensures sent { HasSentAll (W.cells route.now) parts.now size.workers size.batch worker outlet result.0 result.1 }
+    ensures sent { HasSentAll (W.cells route.now) parts.now size.workers size.batch worker outlet
+        result.0 result.1 }
     ensures tap { T.totals tap.new ≡ with_sent (T.totals tap.old) (rows_sent result.0) }
     ensures tag { T.tag tap.new ≡ T.tag tap.old }
 {

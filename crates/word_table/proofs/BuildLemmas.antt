@@ -20,7 +20,7 @@ use Rattle.word_table.specs.Words.{text_order, strings_of_value, strings_of_row,
 use Rattle.word_table.proofs.WordLemmas.{same_text}
 
 -- an order that is tested to be `Equal` is so
-equal_from_test : (r : Ordering) → is_eq r ≡ true → r ≡ Equal
+pub equal_from_test : (r : Ordering) → is_eq r ≡ true → r ≡ Equal
 equal_from_test Less e = cc
 equal_from_test Equal e = refl
 equal_from_test Greater e = cc
@@ -44,7 +44,7 @@ dictionary_from_sort parts found ordered kept all moved up filtered =
     }
 
 -- what an item gives stands in what all items give
-Contains-flat_map : {X : Type 0} (f : X → List (List ℕ)) (xs : List X) (i : ℕ) (e : X) (s : List ℕ) → i < length xs → Contains (f (get_or xs i e)) s → Contains (flat_map f xs) s
+pub Contains-flat_map : {X : Type 0} (f : X → List (List ℕ)) (xs : List X) (i : ℕ) (e : X) (s : List ℕ) → i < length xs → Contains (f (get_or xs i e)) s → Contains (flat_map f xs) s
 Contains-flat_map f [] i e s below held = absurd (omega arith)
 Contains-flat_map f (x ∷ xs) zero e s below held = rw (flat_map-cons f x xs) (Contains-append_left (f x) (flat_map f xs) s held)
 Contains-flat_map f (x ∷ xs) (suc i) e s below held =

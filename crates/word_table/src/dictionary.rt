@@ -46,6 +46,14 @@ impl Dictionary {
         Ok(Dictionary { entries })
     }
 
+    /// The dictionary of these strings.
+    pub(crate) fn of_entries(entries: Vec<Entry>) -> Dictionary
+        requires { IsAscending entries.items }
+        ensures { result ≡ entries.items }
+    {
+        Dictionary { entries }
+    }
+
     /// The word of a value; `None` where it is a string that is not in the dictionary.
     pub fn word(&self, value: &Value) -> Option<u64>
         ensures some { IsSome result ↔ IsHeld self.now value.now }
@@ -54,7 +62,7 @@ impl Dictionary {
     {
         let _strings = &self.entries;
         match value {
-            Value::Int(number) => Some(number.abs_diff(i64::MIN)),
+            Value::Int(number) => Some(word_of_int(*number)),
             Value::Str(text) => self.rank(text.as_str()),
             Value::Bool(truth) => Some(u64::from(*truth)),
         }
@@ -96,6 +104,13 @@ impl Dictionary {
 pub fn words_keep_order()
     ensures { WordsKeepOrder }
 {}
+
+/// The word of a number.
+pub(crate) fn word_of_int(number: i64) -> u64
+    ensures { result ≡ int_word number }
+{
+    number.abs_diff(i64::MIN)
+}
 
 /// The number with this word.
 fn int_of(word: u64) -> i64

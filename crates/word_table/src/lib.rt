@@ -5,19 +5,25 @@
 //! such words in one flat list, so that a join compares numbers that stand side by side.
 //!
 //! Promises: a dictionary has exactly the strings of the rows that it was built over, each once and in byte order; a
-//! word is undone by `value`; a table has the words of its rows, row by row.
+//! word is undone by `value`; a table has the words of its rows, row by row; `encode` makes both for all parts of a join
+//! at once.
 //! Not promised: that memory is there, nor anything of words of two types, which may coincide.
 //!
-//! Read `specs/Words.antt` and `specs/WordTables.antt`, then `dictionary.rt` and `tables.rt`.
+//! Read `specs/Words.antt`, `specs/WordTables.antt` and `specs/Encodings.antt`, then `dictionary.rt`, `tables.rt` and
+//! `encoding.rt`.
 #![tactic(auto)]
 
 mod dictionary;
+mod encoding;
 mod entries;
 mod gathering;
 mod keyed;
+mod occurrences;
+mod ranking;
 mod tables;
 #[cfg(test)]
 mod tests;
 
 pub use dictionary::{Dictionary, words_keep_order};
+pub use encoding::{Encoded, encode};
 pub use tables::Table;

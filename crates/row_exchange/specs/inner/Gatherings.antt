@@ -1,4 +1,5 @@
--- The stations of all workers before and after they ran, in the order of their workers: the last one is the first worker's.
+-- The stations of all workers before and after they ran, in the order of their workers: the last
+-- one is the first worker's.
 --
 --   taps_of, out_of, ..      what a station has
 --   AreManned ..             the stations of all workers, with these outlets, intakes and taps
@@ -72,7 +73,8 @@ both (Ok x) r = r
 both (Err e) r = Err e
 
 -- a sending half works with this
-pub record WorksWith {W T : Type 0} (route : W) (parts : List (List Rows)) (size : Size) (worker : ℕ) (half : Outgoing W T) : Type 0 where
+pub record WorksWith {W T : Type 0} (route : W) (parts : List (List Rows)) (size : Size)
+    (worker : ℕ) (half : Outgoing W T) : Type 0 where
   pub route_is : half.route.now ≡ route
   pub parts_are : half.parts.now ≡ parts
   pub size_is : half.size ≡ size
@@ -89,39 +91,49 @@ module _ {W T : Type 0} where
     pub taken : IsSome (taken_of s)
 
   -- a station works with this
-  pub record IsOfWork (route : W) (parts : List (List Rows)) (size : Size) (s : Station W T) : Type 0 where
+  pub record IsOfWork (route : W) (parts : List (List Rows)) (size : Size)
+      (s : Station W T) : Type 0 where
     pub out : WorksWith route parts size (worker_of s) s.outgoing
     pub atoms : s.incoming.atoms ≡ length parts
 
   -- stations with the last of these outlets, intakes and taps; the first ones are left
-  pub record AreMannedBut (route : W) (parts : List (List Rows)) (size : Size) (outlets left_outlets : List OutletState) (intakes left_intakes : List IntakeState)
+  pub record AreMannedBut (route : W) (parts : List (List Rows)) (size : Size)
+      (outlets left_outlets : List OutletState) (intakes left_intakes : List IntakeState)
       (taps left_taps : List T) (stations : List (Station W T)) : Type 0 where
     pub outlets_are : map Some outlets ≡ map Some left_outlets ++ map opened stations
     pub intakes_are : map Some intakes ≡ map Some left_intakes ++ map awaiting stations
     pub taps_are : taps ≡ left_taps ++ flat_map taps_of stations
-    pub workers_are : range_with_len 0 (length outlets) ≡ range_with_len 0 (length left_outlets) ++ map worker_of stations
+    pub workers_are : range_with_len 0 (length outlets)
+        ≡ range_with_len 0 (length left_outlets) ++ map worker_of stations
     pub same_work : All (IsOfWork route parts size) stations
 
   -- the stations of all workers
-  abbrev pub AreManned : W → List (List Rows) → Size → List OutletState → List IntakeState → List T → List (Station W T) → Type 0
-  AreManned route parts size outlets intakes taps stations = AreMannedBut route parts size outlets [] intakes [] taps [] stations
+  abbrev pub AreManned : W → List (List Rows) → Size → List OutletState → List IntakeState → List T
+      → List (Station W T) → Type 0
+  AreManned route parts size outlets intakes taps stations = AreMannedBut route parts size outlets
+      [] intakes [] taps [] stations
 
   -- what some of the stations gave back, while others are left
-  pub record IsTakenApartBut (stations left : List (Station W T)) (taps taps' : List T) (outs outs' : List OutletState) (ins ins' : List IntakeState)
+  pub record IsTakenApartBut (stations left : List (Station W T)) (taps taps' : List T)
+      (outs outs' : List OutletState) (ins ins' : List IntakeState)
       (given : List (List Rows)) (given' : Result (List (List Rows)) Memory) : Type 0 where
     pub taps_are : taps' ++ flat_map taps_of left ≡ taps ++ flat_map taps_of stations
     pub outs_are : map Some outs' ++ map out_of left ≡ map Some outs ++ map out_of stations
     pub ins_are : map Some ins' ++ map taken_of left ≡ map Some ins ++ map taken_of stations
-    pub given_is : IfOk given' (λ now. map Ok now ++ map outcome_of left ≡ map Ok given ++ map outcome_of stations)
+    pub given_is : IfOk given' (λ now. map Ok now ++ map outcome_of left
+        ≡ map Ok given ++ map outcome_of stations)
 
   -- what all stations gave back
-  abbrev pub IsTakenApart : List (Station W T) → List T → List T → List OutletState → List OutletState → List IntakeState → List IntakeState
+  abbrev pub IsTakenApart : List (Station W T) → List T → List T → List OutletState
+      → List OutletState → List IntakeState → List IntakeState
       → List (List Rows) → Result (List (List Rows)) Memory → Type 0
-  IsTakenApart stations taps taps' outs outs' ins ins' given given' = IsTakenApartBut stations [] taps taps' outs outs' ins ins' given given'
+  IsTakenApart stations taps taps' outs outs' ins ins' given given' = IsTakenApartBut stations []
+      taps taps' outs outs' ins ins' given given'
 
 -- all that an exchange needs before the first batch is sent
 pub record IsRoom (size : Size) (room : Room) : Type 0 where
-  pub wired : IsWired room.wiring.keep room.wiring.outlets room.wiring.intakes size.workers size.workers size.capacity
+  pub wired : IsWired room.wiring.keep room.wiring.outlets room.wiring.intakes size.workers
+      size.workers size.capacity
   pub outs : room.outs.items ≡ []
   pub outs_room : size.workers ≤ room.outs.spare
   pub ins : room.ins.items ≡ []

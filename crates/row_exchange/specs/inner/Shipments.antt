@@ -32,12 +32,14 @@ shipped xs w atom = flat_map (shipped_in w atom) xs
 abbrev pub rows_in : List Shipment → ℕ
 rows_in xs = sum_by (λ s. length s.1.rows) xs
 
--- a batch that may be sent: to one of so many cells, of one of so many atoms, with 1 to so many rows
+-- a batch that may be sent: to one of so many cells, of one of so many atoms, with 1 to so many
+-- rows
 pub record IsShipment (cells atoms most : ℕ) (s : Shipment) : Type 0 where
   pub inside : s.0 < cells
   pub is_batch : IsBatch atoms most s.1
 
--- what a worker fills from the rows of one atom: for each cell the places of rows that wait, and the batches
+-- what a worker fills from the rows of one atom: for each cell the places of rows that wait, and
+-- the batches
 pub record FillingState : Type 0 where
   pub atom : ℕ
   pub atoms : ℕ
@@ -82,13 +84,21 @@ pub record IsSameWork (old new : FillingState) : Type 0 where
 -- each cell has the rows of before, and of the atom at hand these more
 pub record Gathers (more : ℕ → Rows) (count : ℕ) (old new : FillingState) : Type 0 where
   pub same_work : IsSameWork old new
-  pub rows : (w atom : ℕ) → gathered new w atom ≡ gathered old w atom ++ (if atom == old.atom then more w else [])
+  pub rows : (w atom : ℕ) → gathered new w atom
+      ≡ gathered old w atom ++ (if atom == old.atom then more w else [])
   pub count_is : counted new ≡ counted old + count
 
 -- what a worker begins to fill, where nothing waits
 abbrev pub filling_of : ℕ → ℕ → Rows → ℕ → ℕ → List Shipment → FillingState
 filling_of atom atoms rows batch cells filled =
-    record { atom = atom; atoms = atoms; rows = rows; batch = batch; pending = replicate cells []; filled = filled }
+    record {
+      atom = atom;
+      atoms = atoms;
+      rows = rows;
+      batch = batch;
+      pending = replicate cells [];
+      filled = filled;
+    }
 
 -- the batches have all rows, and are as they may be sent
 pub record Finishes (s : FillingState) (xs : List Shipment) : Type 0 where
@@ -105,23 +115,29 @@ abbrev pub row_at : FillingState → ℕ → Row
 row_at s number = slice_index_or s.rows number []
 
 -- the batches of before and those of one more atom
-pub record AddsAtom (goes : Row → List ℕ) (cells atoms most atom : ℕ) (rows : Rows) (old new : List Shipment) : Type 0 where
+pub record AddsAtom (goes : Row → List ℕ) (cells atoms most atom : ℕ) (rows : Rows)
+    (old new : List Shipment) : Type 0 where
   pub sized : All (IsShipment cells atoms most) new
-  pub rows_are : (w a : ℕ) → shipped new w a ≡ shipped old w a ++ (if a == atom then rows_to goes w rows else [])
+  pub rows_are : (w a : ℕ) → shipped new w a
+      ≡ shipped old w a ++ (if a == atom then rows_to goes w rows else [])
   pub count_is : rows_in new ≡ rows_in old + pairs_of goes rows
   pub few : pairs_of goes rows ≤ 274877906944
 
 -- the batches of the rows of the first atoms that lie at a worker
-pub record IsFilledTo (goes : ℕ → Row → List ℕ) (parts : List (List Rows)) (cells most worker done : ℕ) (xs : List Shipment) : Type 0 where
+pub record IsFilledTo (goes : ℕ → Row → List ℕ) (parts : List (List Rows))
+    (cells most worker done : ℕ) (xs : List Shipment) : Type 0 where
   pub sized : All (IsShipment cells (length parts) most) xs
   pub rows_are : (w a : ℕ) → a < done → shipped xs w a ≡ rows_to (goes a) w (rows_at parts a worker)
   pub none : (w a : ℕ) → done ≤ a → shipped xs w a ≡ []
-  pub count_is : rows_in xs ≡ sum_by (λ a. pairs_of (goes a) (rows_at parts a worker)) (range_with_len 0 done)
+  pub count_is : rows_in xs ≡ sum_by (λ a. pairs_of (goes a) (rows_at parts a worker))
+      (range_with_len 0 done)
   pub few : rows_in xs ≤ done * 274877906944
 
 -- the batches of all rows that lie at a worker
-pub record IsFilled (goes : ℕ → Row → List ℕ) (parts : List (List Rows)) (cells most worker : ℕ) (xs : List Shipment) : Type 0 where
+pub record IsFilled (goes : ℕ → Row → List ℕ) (parts : List (List Rows)) (cells most worker : ℕ)
+    (xs : List Shipment) : Type 0 where
   pub sized : All (IsShipment cells (length parts) most) xs
-  pub rows_are : (w a : ℕ) → a < length parts → shipped xs w a ≡ rows_to (goes a) w (rows_at parts a worker)
+  pub rows_are : (w a : ℕ) → a < length parts
+      → shipped xs w a ≡ rows_to (goes a) w (rows_at parts a worker)
   pub count_is : rows_in xs ≡ pairs_from goes parts worker
   pub few : rows_in xs ≤ 2199023255552

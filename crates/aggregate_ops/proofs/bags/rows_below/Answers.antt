@@ -1,6 +1,7 @@
 use Rattle.std.proofs.Common.{◌≡◌, List, true, is_lt, arith, below_more, rules, sym, subst}
 use Rattle.rel_base.specs.Values.{row_order}
 use Rattle.myrial_ast.specs.Combinations.{Row}
+use Rattle.std.specs.Borrow.{Bor}
 use Rattle.aggregate_ops.proofs.StepLemmas.{row-item}
 use Rattle.aggregate_ops.proofs.bags.rows_below.Goals as goal
 
@@ -10,5 +11,5 @@ loop-count-preserved c =
       omega arith,
       below_more _ _ c.loop-count.invariant.1
           (subst (λ (r : Row). is_lt (row_order r c.args.row.now) ≡ true)
-          (sym (row-item c.args.rows.now c.loop-count.count c.index-rows-count.result c.loop-count-test.true c.index-rows-count.is)) less),
+          (sym (row-item (λ (r : Bor Row). r.now) c.args.rows.now c.loop-count.count c.index-rows-count.result c.loop-count-test.true c.index-rows-count.is)) less),
     )

@@ -2,7 +2,8 @@ use Rattle.std.proofs.Common.{◌≡◌, ◌+◌, ◌-◌, ◌≤◌, ◌∷◌,
 use Rattle.std.proofs.lemmas.List.{length-map, length-drop}
 use Rattle.myrial_ast.specs.Combinations.{Rows}
 use Rattle.algebra.specs.Trees.{kind_of_emit}
-use Rattle.aggregate_ops.specs.Columns.{rows_in, key_at}
+use Rattle.aggregate_ops.specs.Columns.{key_at}
+use Rattle.aggregate_ops.specs.inner.Reading.{row_of, rows_of}
 use Rattle.aggregate_ops.specs.inner.Runs.{IsRun}
 use Rattle.aggregate_ops.proofs.CellLemmas.{LeftOver, one-more-at, one-overflows-at}
 use Rattle.aggregate_ops.proofs.StepLemmas.{behind}
@@ -17,14 +18,14 @@ loop-done-preserved c =
     let row = simp behind at c.in-Ok.ensures.row in
     let fits = simp behind at c.in-Ok.ensures.fits in
     let within : count ≤ length (drop done ordered) =
-    omega (arith, run.within, length-map (drop done ordered) (λ r. r.now), length-map (rows_in (drop done ordered)) (key_at c.args.places.now)) in
+    omega (arith, run.within, length-map (drop done ordered) row_of, length-map (rows_of (drop done ordered)) (key_at c.args.places.now)) in
     let more =
     one-more-at c.args.form (map kind_of_emit c.args.kinds.now) c.args.places.now ordered c.loop-done.made done count c.in-Ok.row c.requires.places
     c.loop-done.invariant.2 run row fits in
     let made : c.push.new.self ≡ c.loop-done.made ++ c.in-Ok.row ∷ [] = c.in_ok-push-in-Ok.ensures.ok in (
       omega (arith, within, length-drop done ordered),
       omega (arith, run.some, length-append c.loop-done.made (c.in-Ok.row ∷ []), ap length made),
-      subst (λ (rows : Rows). LeftOver c.args.form (map kind_of_emit c.args.kinds.now) c.args.places.now (rows_in ordered) rows (rows_in (drop (done + count) ordered))) (sym made) more,
+      subst (λ (rows : Rows). LeftOver c.args.form (map kind_of_emit c.args.kinds.now) c.args.places.now (rows_of ordered) rows (rows_of (drop (done + count) ordered))) (sym made) more,
     )
 
 pub returns-in-Err-clause-fault : goal.returns-in-Err-clause-fault

@@ -3,7 +3,8 @@ use Rattle.std.specs.Prelude.{IsSorted}
 use Rattle.rel_base.specs.Values.{row_order}
 use Rattle.bag_laws.specs.PartialLaws.{AreGrouped}
 use Rattle.algebra.specs.Trees.{kind_of_emit}
-use Rattle.aggregate_ops.specs.Columns.{rows_in, key_at}
+use Rattle.aggregate_ops.specs.Columns.{key_at}
+use Rattle.aggregate_ops.specs.inner.Reading.{rows_of}
 use Rattle.aggregate_ops.specs.Forms.{grouped_kinds, results, results_fit}
 use Rattle.aggregate_ops.proofs.CellLemmas.{LeftOver}
 use Rattle.aggregate_ops.proofs.grouping.rows_of_runs.Given as goal
@@ -11,7 +12,7 @@ use Rattle.aggregate_ops.proofs.grouping.rows_of_runs.Given as goal
 abbrev pub invariant-loop-done : goal.invariant-loop-done
 invariant-loop-done l =
     (l.done ≤ length l.ordered) × (length l.made ≤ l.done)
-    × LeftOver l.form (map kind_of_emit l.kinds) l.places (rows_in l.ordered) l.made (rows_in (drop l.done l.ordered))
+    × LeftOver l.form (map kind_of_emit l.kinds) l.places (rows_of l.ordered) l.made (rows_of (drop l.done l.ordered))
 
 abbrev pub decreases-loop-done : goal.decreases-loop-done
 decreases-loop-done l = length l.initial.ordered - l.done

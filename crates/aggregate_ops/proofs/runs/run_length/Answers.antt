@@ -1,6 +1,7 @@
 use Rattle.std.proofs.Common.{arith, below_more, rules, length}
 use Rattle.std.proofs.lemmas.List.{length-map}
-use Rattle.aggregate_ops.specs.Columns.{rows_in, key_at}
+use Rattle.aggregate_ops.specs.Columns.{key_at}
+use Rattle.aggregate_ops.specs.inner.Reading.{row_of, rows_of}
 use Rattle.aggregate_ops.proofs.StepLemmas.{key-same, key-other}
 use Rattle.aggregate_ops.proofs.runs.run_length.Goals as goal
 
@@ -9,15 +10,15 @@ loop-count-preserved c = (
   omega arith,
   omega arith,
   below_more _ _ c.loop-count.invariant.2
-      (key-same c.args.rows.now c.args.places.now c.loop-count.count c.index-rows-0.result c.index-rows-count.result c.loop-count-test.true c.requires
+      (key-same row_of c.args.rows.now c.args.places.now c.loop-count.count c.index-rows-0.result c.index-rows-count.result c.loop-count-test.true c.requires
       c.index-rows-0.is c.index-rows-count.is (search rules)),
 )
 
 pub returns-else-is_eq : goal.returns-else-is_eq
 returns-else-is_eq c = record {
   some = c.loop-count.invariant.0;
-  within = omega (arith, length-map c.args.rows.now (λ r. r.now), length-map (rows_in c.args.rows.now) (key_at c.args.places.now));
+  within = omega (arith, length-map c.args.rows.now row_of, length-map (rows_of c.args.rows.now) (key_at c.args.places.now));
   same = c.loop-count.invariant.2;
-  next = λ low. key-other c.args.rows.now c.args.places.now c.loop-count.count c.index-rows-0.result c.index-rows-count.result c.loop-count-test.true c.requires
+  next = λ low. key-other row_of c.args.rows.now c.args.places.now c.loop-count.count c.index-rows-0.result c.index-rows-count.result c.loop-count-test.true c.requires
       c.index-rows-0.is c.index-rows-count.is (search rules);
 }

@@ -1,0 +1,165 @@
+//! Rows packed in words, where the ranges of their columns allow it: what rows are grouped by stands in the highest bits, so
+//! that the words in order are mostly the rows in the order of their keys.
+//!
+//! How columns are chosen decides about speed alone: a word is taken only where it gives the values of its row back.
+ghost use Rattle.std.specs.Prelude.{◌≡◌, ◌<◌, ◌^◌, IsTrue, IfOk, OnOk, IfSome, IsPermutation, map, length};
+ghost use Rattle.aggregate_ops.specs.inner.Reading.{unpacked_row, rows_of};
+
+use crate::packed_columns::PackedColumn;
+use crate::reading::GroupedRow;
+use crate::spans::{Span, spans_of};
+use rel_base::{Memory, Row, Rows, Value};
+use std::alloc::Global;
+
+/// Whether two columns have the same value in each row.
+fn are_same(rows: &Rows, place: usize, other: usize) -> bool {
+    for row in rows {
+        if row.as_slice().get(place) != row.as_slice().get(other) {
+            return false;
+        }
+    }
+    true
+}
+
+/// One of these places whose column has the same values.
+fn twin_of(rows: &Rows, spans: &[Span], places: &[usize], place: usize) -> Option<usize> {
+    for other in places {
+        if spans.get(*other) == spans.get(place) && are_same(rows, *other, place) {
+            return Some(*other);
+        }
+    }
+    None
+}
+
+/// The places of so many columns: first those of the keys, from left to right, and then the others.
+fn keys_first(alloc: Global, keys: &[u32], width: usize) -> Result<Vec<usize>, Memory> {
+    let mut places = Vec::with_capacity(alloc, width)?;
+    for key in keys {
+        places.push(*key as usize)?;
+    }
+    for place in 0..width {
+        if !places.contains(&place) {
+            places.push(place)?;
+        }
+    }
+    Ok(places)
+}
+
+/// The columns of the rows in a word; none where the rows have other values than ints and booleans, or take more bits.
+pub fn packed_columns(
+    alloc: Global,
+    rows: &Rows,
+    keys: &[u32],
+) -> Result<Vec<PackedColumn>, Memory> {
+    let spans = spans_of(alloc, rows)?;
+    let places = keys_first(alloc, keys, spans.len())?;
+    let mut columns = Vec::from_elem(alloc, PackedColumn::none(), spans.len())?;
+    let mut left = 64;
+    for i in 0..places.len() {
+        let place = places[i];
+        let column = match twin_of(rows, &spans, &places[..i], place) {
+            Some(twin) => columns.get(twin).copied(),
+            None => spans.get(place).and_then(|span| span.column(left)),
+        };
+        let (Some(column), Some(old)) = (column, columns.get_mut(place)) else {
+            return Ok(Vec::new(alloc));
+        };
+        *old = column;
+        left = left.min(column.shift);
+    }
+    Ok(columns)
+}
+
+/// Whether a word has these values in the columns.
+fn gives_back(word: u64, columns: &[PackedColumn], values: &[Value]) -> bool
+    ensures { IsTrue result → unpacked_row columns.now word ≡ values.now }
+{
+    match (columns, values) {
+        ([], []) => true,
+        ([column, columns @ ..], [value, values @ ..]) => {
+            column.value(word) == *value && gives_back(word, columns, values)
+        }
+        _ => false,
+    }
+}
+
+/// The word of a row, where it gives the row's values back.
+fn word_of(columns: &[PackedColumn], row: &Row) -> Option<u64>
+    ensures { IfSome result (λ word. unpacked_row columns.now word ≡ row.now) }
+{
+    let mut word = 0;
+    for (column, value) in columns.iter().zip(row.as_slice()) {
+        word |= column.bits_of(value);
+    }
+    if gives_back(word, columns, row.as_slice()) {
+        Some(word)
+    } else {
+        None
+    }
+}
+
+/// The words of the rows, where each gives its row's values back.
+fn words_of(
+    alloc: Global,
+    rows: &Rows,
+    columns: &[PackedColumn],
+) -> Result<Option<Vec<u64>>, Memory>
+    ensures words { IfOk result (λ found. IfSome found (λ words. map
+        (unpacked_row columns.now) words.items ≡ rows.now)) }
+    ensures few { OnOk result (length rows.now < 2 ^ 32) }
+{
+    let mut words = Vec::with_capacity(alloc, rows.len() as usize)?;
+    for row in rows {
+        match word_of(columns, row) {
+            Some(word) => words.push(word)?,
+            None => return Ok(None),
+        }
+    }
+    Ok(Some(words))
+}
+
+/// The rows that are packed in the words.
+fn packed_rows<'a>(
+    alloc: Global,
+    words: &[u64],
+    columns: &'a [PackedColumn],
+) -> Result<Vec<GroupedRow<'a>>, Memory>
+    ensures { IfOk result (λ made. rows_of made.items
+        ≡ map (unpacked_row columns.entry.now) words.now) }
+{
+    let mut rows = Vec::with_capacity(alloc, words.len())?;
+    for word in words {
+        rows.push(GroupedRow::Packed(*word, columns))?;
+    }
+    Ok(rows)
+}
+
+/// The rows, each lent.
+fn lent_rows<'a>(alloc: Global, rows: &'a Rows) -> Result<Vec<GroupedRow<'a>>, Memory>
+    ensures rows { IfOk result (λ made. rows_of made.items ≡ rows.entry.now) }
+    ensures few { OnOk result (length rows.entry.now < 2 ^ 32) }
+{
+    let mut lent = Vec::with_capacity(alloc, rows.len() as usize)?;
+    for row in rows {
+        lent.push(GroupedRow::Lent(row))?;
+    }
+    Ok(lent)
+}
+
+/// The rows: in the order of their words where each is packed in one, and else as they stand.
+pub fn grouped_rows<'a>(
+    alloc: Global,
+    rows: &'a Rows,
+    columns: &'a [PackedColumn],
+) -> Result<Vec<GroupedRow<'a>>, Memory>
+    ensures same { IfOk result (λ made. IsPermutation rows.entry.now (rows_of made.items)) }
+    ensures few { OnOk result (length rows.entry.now < 2 ^ 32) }
+{
+    match words_of(alloc, rows, columns)? {
+        Some(mut words) => {
+            words.sort_unstable();
+            packed_rows(alloc, &words, columns)
+        }
+        None => lent_rows(alloc, rows),
+    }
+}

@@ -1,0 +1,2 @@
+-- Laws of what the crate promises.
+pub mod MoveLemmas

@@ -1,0 +1,56 @@
+-- Worked cases of where rows go: one atom, of which two rows lie at worker 0 and one at worker 1. A row of one value goes to
+-- worker 0, any other to both.
+use Rattle.std.proofs.Common.{◌≡◌, ℕ, ◌==◌, List, [], ◌∷◌, length, refl}
+use Rattle.std.specs.Prelude.{pos, if◌then◌else◌}
+use Rattle.rel_base.specs.declared.values.Value.TheVariants as variant
+use Rattle.row_exchange.specs.Routes.{Row, Rows, rows_at, times_to, rows_to, all_rows_to, pairs_of, pairs_from, pairs_to}
+
+abbrev first_row : Row
+first_row = variant.Int (pos 1) ∷ []
+
+abbrev second_row : Row
+second_row = variant.Int (pos 2) ∷ variant.Int (pos 3) ∷ []
+
+abbrev third_row : Row
+third_row = variant.Int (pos 4) ∷ variant.Int (pos 5) ∷ []
+
+abbrev parts : List (List Rows)
+parts = ((first_row ∷ second_row ∷ []) ∷ (third_row ∷ []) ∷ []) ∷ []
+
+abbrev goes : ℕ → Row → List ℕ
+goes atom row = if length row == 1 then 0 ∷ [] else 0 ∷ 1 ∷ []
+
+-- of the rows at worker 0 one goes to worker 1, and both to worker 0
+to_the_other : rows_to (goes 0) 1 (rows_at parts 0 0) ≡ second_row ∷ []
+to_the_other = refl
+
+to_itself : rows_to (goes 0) 0 (rows_at parts 0 0) ≡ first_row ∷ second_row ∷ []
+to_itself = refl
+
+-- worker 1 is given the long rows, worker by worker
+given_to_the_other : all_rows_to goes parts 2 0 1 ≡ second_row ∷ third_row ∷ []
+given_to_the_other = refl
+
+-- the pairs, by the worker at which the row lies, and by the cell
+sent_by_worker_0 : pairs_from goes parts 0 ≡ 3
+sent_by_worker_0 = refl
+
+sent_by_worker_1 : pairs_from goes parts 1 ≡ 2
+sent_by_worker_1 = refl
+
+received_by_worker_0 : pairs_to goes parts 2 0 ≡ 3
+received_by_worker_0 = refl
+
+received_by_worker_1 : pairs_to goes parts 2 1 ≡ 2
+received_by_worker_1 = refl
+
+-- a worker that stands twice among the cells of a row gets it twice
+twice : times_to 1 (1 ∷ 0 ∷ 1 ∷ []) first_row ≡ first_row ∷ first_row ∷ []
+twice = refl
+
+-- an atom or a worker that isn't there has no rows
+no_atom : rows_at parts 1 0 ≡ []
+no_atom = refl
+
+no_worker : rows_at parts 0 2 ≡ []
+no_worker = refl

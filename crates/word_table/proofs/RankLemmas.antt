@@ -1,0 +1,267 @@
+-- Ranks of sorted occurrences: how they are found one after another, and that they are the words of the strings.
+use Rattle.std.proofs.Common.{◌≡◌, ◌≢◌, ℕ, zero, suc, ◌+◌, ◌-◌, ◌<◌, ◌≤◌, true, false, List, [], ◌∷◌, ◌++◌, length, get_or, map, refl, ap, ◌∙◌, sym, subst, All, arith, inl, inr, length-append, get_or-set_other, get_or-set_same}
+use Rattle.std.specs.Prelude.{Contains, IsPermutation, IsSorted}
+use Rattle.std.specs.List.{flat_map}
+use Rattle.std.specs.declared.cmp.Ordering.{Ordering}
+use Rattle.std.specs.declared.cmp.Ordering.TheVariants.{Less, Equal, Greater}
+use Rattle.std.specs.Ordering.{is_lt, ordering_reverse}
+use Rattle.std.proofs.lemmas.Bool.{cases_lt, cases_eq}
+use Rattle.std.proofs.lemmas.Cmp.{nat_list_cmp_total}
+use Rattle.std.proofs.lemmas.List.{get_or_append_left, get_or-append-add, get_or_default, get_or-map, length-map, ext_get_or, length-set}
+use Rattle.std.proofs.lemmas.List.Concat.{flat_map-append, flat_map-cons}
+use Rattle.std.proofs.lemmas.List.Elements.{Contains-append_cases}
+use Rattle.std.proofs.lemmas.List.Quantifiers.{all_pairs_push}
+use Rattle.std.proofs.lemmas.List.Sorted.{All-permutation, Contains-permutation}
+use Rattle.std.proofs.Math.ListN.{set}
+use Rattle.rel_base.specs.declared.values.Value.{Value}
+use Rattle.rel_base.specs.declared.values.Value.TheVariants as variant
+use Rattle.word_table.specs.Words.{text_order, strings_of_value, strings_of_rows, strings_in, IsAscending, IsDictionaryOf, rank, word_of, HasWord}
+use Rattle.word_table.specs.declared.occurrences.Occurrence.{Occurrence}
+use Rattle.word_table.specs.inner.Gathered.{value_at, StandsAt, IsGathered, values_of_rows, values_in, Rise, IsLast, IsRanked}
+use Rattle.word_table.proofs.BuildLemmas.{Contains-flat_map}
+use Rattle.word_table.proofs.WordLemmas.{same_text, rank_at}
+
+pub IsRanked-none : (found : List Occurrence) (words : List ℕ) → IsRanked found 0 [] words words
+IsRanked-none found words = record {
+  long = refl;
+  ascending = λ i j d h k. absurd (omega arith);
+  earlier = λ k d o h. absurd (omega arith);
+  ranked = λ values stand j o d h. absurd (omega arith);
+  others = λ p none. refl;
+}
+
+-- an order that is neither less nor equal the other way round is less
+less_from : (s t : List ℕ) → is_lt (text_order t s) ≡ false → (text_order t s ≡ Equal → ⊥) → text_order s t ≡ Less
+less_from s t not_less not_equal = by (text_order t s) refl
+  where
+    by : (r : Ordering) → text_order t s ≡ r → text_order s t ≡ Less
+    by Less e = let bad : true ≡ false = sym (ap is_lt e) ∙ not_less in absurd (cc)
+    by Equal e = absurd (not_equal e)
+    by Greater e = nat_list_cmp_total.antisymm s t ∙ ap ordering_reverse e
+
+module _ (found : List Occurrence) (done : ℕ) (strings : List (List ℕ)) (old mid : List ℕ) (o : Occurrence) (had : IsRanked found done strings old mid) (rise : Rise found) (there : done < length found) (is : get_or found done o ≡ o) (place : o.place < length mid) where
+  -- the string of the next occurrence is below none so far
+  not_below : (k : ℕ) (d : List ℕ) → k < length strings → is_lt (text_order o.string (get_or strings k d)) ≡ false
+  not_below k d h =
+      let from = had.earlier k d o h in
+      let up : is_lt (text_order (get_or found done o).string (get_or found from.0 o).string) ≡ false = rise.in_turn from.0 done o (omega (arith, from.1)) there in
+      (λ i. is_lt (text_order ((sym is) i).string (from.2 i))) ∙ up
+
+  -- and where it isn't the last of them, each of them is below it
+  above_all : (IsLast strings o.string → ⊥) → (k : ℕ) (d : List ℕ) → k < length strings → text_order (get_or strings k d) o.string ≡ Less
+  above_all beyond k d h = less_from (get_or strings k d) o.string (not_below k d h) (λ tied.
+      let same : o.string ≡ get_or strings k d = same_text o.string (get_or strings k d) tied in
+      elim (cases_lt k (length strings - 1)) [
+        | inl less ↦
+            let last : length strings - 1 < length strings = omega arith in
+            let below : text_order (get_or strings k d) (get_or strings (length strings - 1) d) ≡ Less = had.ascending k (length strings - 1) d less last in
+            let bad : true ≡ false = sym (ap is_lt (ap (λ s. text_order s (get_or strings (length strings - 1) d)) same ∙ below)) ∙ not_below (length strings - 1) d last in
+            cc
+        | inr end ↦
+            let at_end : k ≡ length strings - 1 = omega arith in
+            beyond (omega arith, get_or_default strings (length strings - 1) [] d (omega arith) ∙ ap (λ n. get_or strings n d) (sym at_end) ∙ sym same)
+      ])
+
+  -- the strings with the next one among them
+  module _ (more : List (List ℕ)) (kept : (k : ℕ) (d : List ℕ) → k < length strings → get_or more k d ≡ get_or strings k d) (long : length strings ≤ length more) (last : (0 < length more) × ((d : List ℕ) → get_or more (length more - 1) d ≡ o.string)) (up : IsAscending more)
+      (origin : (k : ℕ) (d : List ℕ) → length strings ≤ k → k < length more → get_or more k d ≡ o.string) (new : List ℕ) (written : new ≡ set mid o.place (length more - 1)) where
+    at_place : get_or new o.place 0 ≡ length more - 1
+    at_place = ap (λ (ws : List ℕ). get_or ws o.place 0) written ∙ get_or-set_same mid o.place (length more - 1) 0 place
+
+    elsewhere : (p : ℕ) → p ≢ o.place → get_or new p 0 ≡ get_or mid p 0
+    elsewhere p ne = ap (λ (ws : List ℕ). get_or ws p 0) written ∙ get_or-set_other mid o.place p (length more - 1) 0 ne
+
+    earlier : (k : ℕ) (d : List ℕ) (e : Occurrence) → k < length more → (j : ℕ) × (j < done + 1) × (get_or more k d ≡ (get_or found j e).string)
+    earlier k d e h = elim (cases_lt k (length strings)) [
+      | inl less ↦ let from = had.earlier k d e less in (from.0, omega (arith, from.1), kept k d less ∙ from.2)
+      | inr fresh ↦ (done, omega arith, origin k d fresh h ∙ ap (λ (x : Occurrence). x.string) (sym is) ∙ ap (λ (x : Occurrence). x.string) (get_or_default found done o e there))
+    ]
+
+    ranked : (values : List Value) → All (StandsAt values) found → (j : ℕ) (e : Occurrence) (d : List ℕ) → j < done + 1
+        → (get_or new (get_or found j e).place 0 < length more) × (get_or more (get_or new (get_or found j e).place 0) d ≡ (get_or found j e).string)
+    ranked values stand j e d h =
+        let x : Occurrence = get_or found j e in
+        let at_x : StandsAt values x = stand j e (omega arith) in
+        let at_o : StandsAt values o = subst (StandsAt values) is (stand done o there) in
+        elim (cases_eq x.place o.place) [
+          | inl same ↦
+              let word : get_or new x.place 0 ≡ length more - 1 = ap (λ p. get_or new p 0) same ∙ at_place in
+              let both : variant.Str x.string ≡ variant.Str o.string = sym at_x.is ∙ ap (value_at values) same ∙ at_o.is in
+              let text : x.string ≡ o.string = cc in
+              let some : 0 < length more = last.0 in
+              (rw word (omega arith), ap (λ n. get_or more n d) word ∙ last.1 d ∙ sym text)
+          | inr other ↦
+              let before : j < done = elim (cases_eq j done) [
+                | inl now ↦ absurd (other (ap (λ n. (get_or found n e).place) now ∙ ap (λ (y : Occurrence). y.place) (sym (get_or_default found done o e there) ∙ is)))
+                | inr not_now ↦ omega arith
+              ] in
+              let was = had.ranked values stand j e d before in
+              let word : get_or new x.place 0 ≡ get_or mid x.place 0 = elsewhere x.place other in
+              (rw word (omega (arith, was.0)), ap (λ n. get_or more n d) word ∙ kept (get_or mid x.place 0) d was.0 ∙ was.1)
+        ]
+
+    others : (p : ℕ) → ((j : ℕ) (e : Occurrence) → j < done + 1 → (get_or found j e).place ≢ p) → get_or new p 0 ≡ get_or old p 0
+    others p none =
+        let ne : p ≢ o.place = λ (same : p ≡ o.place). none done o (omega arith) (ap (λ (x : Occurrence). x.place) is ∙ sym same) in
+        elsewhere p ne ∙ had.others p (λ j e low. none j e (omega arith))
+
+    pub IsRanked-with : IsRanked found (done + 1) more old new
+    IsRanked-with = record {
+      long = ap length written ∙ length-set mid o.place (length more - 1) ∙ had.long;
+      ascending = up;
+      earlier = earlier;
+      ranked = ranked;
+      others = others;
+    }
+
+  -- where the string is the last so far, the strings stay
+  pub IsRanked-again : IsLast strings o.string → (new : List ℕ) → new ≡ set mid o.place (length strings - 1) → IsRanked found (done + 1) strings old new
+  IsRanked-again last new written =
+      let some : 0 < length strings = last.0 in
+      IsRanked-with strings (λ k d h. refl) (omega arith) (last.0, λ d. get_or_default strings (length strings - 1) d [] (omega arith) ∙ last.1) had.ascending
+      (λ k d low high. absurd (omega arith)) new written
+
+  -- where it isn't, it comes behind them
+  pub IsRanked-next : (IsLast strings o.string → ⊥) → (more : List (List ℕ)) → more ≡ strings ++ o.string ∷ [] → (new : List ℕ) → new ≡ set mid o.place (length more - 1) → IsRanked found (done + 1) more old new
+  IsRanked-next beyond more added new written =
+      let long : length more ≡ length strings + 1 = ap length added ∙ length-append strings (o.string ∷ []) in
+      let end : (k : ℕ) (d : List ℕ) → length strings ≤ k → k < length more → get_or more k d ≡ o.string =
+      λ k d low high.
+      let at_end : k ≡ length strings + 0 = omega arith in
+      (λ i. get_or (added i) (at_end i) d) ∙ get_or-append-add strings (o.string ∷ []) 0 d in
+      IsRanked-with more (λ k d h. ap (λ (l : List (List ℕ)). get_or l k d) added ∙ get_or_append_left strings (o.string ∷ []) d k h) (omega arith)
+      (omega arith, λ d. end (length more - 1) d (omega arith) (omega arith))
+      (subst IsAscending (sym added) (all_pairs_push (λ s t. text_order s t ≡ Less) strings o.string had.ascending (above_all beyond)))
+      end new written
+
+-- ---- all occurrences of gathered values
+
+-- what a flat list has, one of its items has
+Contains-from_flat_map : {X : Type 0} (f : X → List (List ℕ)) (xs : List X) (e : X) (s : List ℕ) → Contains (flat_map f xs) s → (k : ℕ) × (k < length xs) × Contains (f (get_or xs k e)) s
+Contains-from_flat_map f [] e s held = absurd (omega (arith, held.1))
+Contains-from_flat_map f (x ∷ xs) e s held =
+    elim (Contains-append_cases (f x) (flat_map f xs) s (subst (λ l. Contains l s) (flat_map-cons f x xs) held)) [
+      | inl front ↦ (0, omega arith, front)
+      | inr later ↦ let found = Contains-from_flat_map f xs e s later in (suc found.0, omega (arith, found.1), found.2)
+    ]
+
+-- a value that has a string is this string
+string_from : (v : Value) (s : List ℕ) → Contains (strings_of_value v) s → v ≡ variant.Str s
+string_from (variant.Int n) s held = absurd (omega (arith, held.1))
+string_from (variant.Bool b) s held = absurd (omega (arith, held.1))
+string_from (variant.Str t) s held =
+    let first : held.0 ≡ 0 = omega (arith, held.1) in
+    let is : t ≡ s = sym (ap (λ k. get_or (t ∷ []) k s) first) ∙ held.2 in
+    ap variant.Str is
+
+-- flat lists of flat lists
+flat_map-flat_map : {X Y Z : Type 0} (f : X → List Y) (g : Y → List Z) (xs : List X) → flat_map g (flat_map f xs) ≡ flat_map (λ x. flat_map g (f x)) xs
+flat_map-flat_map f g [] = refl
+flat_map-flat_map f g (x ∷ xs) =
+    ap (flat_map g) (flat_map-cons f x xs) ∙ flat_map-append g (f x) (flat_map f xs) ∙ ap (λ l. flat_map g (f x) ++ l) (flat_map-flat_map f g xs) ∙ sym (flat_map-cons (λ y. flat_map g (f y)) x xs)
+
+-- what holds of all of two lists holds of all of each
+All-front : {X : Type 0} (P : X → Type 0) (xs ys : List X) → All P (xs ++ ys) → All P xs
+All-front P xs ys all k d h = subst P (get_or_append_left xs ys d k h) (all k d (omega (arith, length-append xs ys)))
+
+All-back : {X : Type 0} (P : X → Type 0) (xs ys : List X) → All P (xs ++ ys) → All P ys
+All-back P xs ys all k d h = subst P (get_or-append-add xs ys k d) (all (length xs + k) d (omega (arith, length-append xs ys)))
+
+-- what holds of all of a flat list holds of all of each item's
+All-from_flat_map : {X Y : Type 0} (P : Y → Type 0) (f : X → List Y) (xs : List X) → All P (flat_map f xs) → All (λ x. All P (f x)) xs
+All-from_flat_map P f [] all k d h = absurd (omega arith)
+All-from_flat_map P f (x ∷ xs) all zero d h = All-front P (f x) (flat_map f xs) (subst (All P) (flat_map-cons f x xs) all)
+All-from_flat_map P f (x ∷ xs) all (suc k) d h = All-from_flat_map P f xs (All-back P (f x) (flat_map f xs) (subst (All P) (flat_map-cons f x xs) all)) k d (omega arith)
+
+-- the strings of parts are those of their values
+strings_of_values : (parts : List (List (List Value))) → strings_in parts ≡ flat_map strings_of_value (values_in parts)
+strings_of_values parts = sym (flat_map-flat_map values_of_rows strings_of_value parts ∙ inside parts)
+  where
+    rows : (l : List (List Value)) → flat_map strings_of_value (values_of_rows l) ≡ strings_of_rows l
+    rows l = flat_map-flat_map (λ row. row) strings_of_value l
+
+    inside : (l : List (List (List Value))) → flat_map (λ x. flat_map strings_of_value (values_of_rows x)) l ≡ flat_map strings_of_rows l
+    inside [] = refl
+    inside (x ∷ l) =
+        flat_map-cons (λ y. flat_map strings_of_value (values_of_rows y)) x l ∙ (λ i. rows x i ++ inside l i) ∙ sym (flat_map-cons strings_of_rows x l)
+
+module _ (parts : List (List (List Value))) (words : List ℕ) (found sorted : List Occurrence) (gathered : IsGathered (values_in parts) words found) (moved : IsPermutation found sorted) (strings : List (List ℕ)) (new : List ℕ) (ranks : IsRanked sorted (length sorted) strings words new) where
+  stand : All (StandsAt (values_in parts)) sorted
+  stand = All-permutation (StandsAt (values_in parts)) found sorted moved gathered.stand
+
+  -- a string's word is its place among the strings
+  word_of_string : (p : ℕ) (s : List ℕ) → p < length (values_in parts) → value_at (values_in parts) p ≡ variant.Str s → (get_or new p 0 < length strings) × (get_or strings (get_or new p 0) s ≡ s)
+  word_of_string p s h is =
+      let o : Occurrence = record { string = s; place = p } in
+      let there = Contains-permutation found sorted o moved (gathered.whole p s h is) in
+      let at : get_or sorted there.0 o ≡ o = there.2 in
+      let rank = ranks.ranked (values_in parts) stand there.0 o s there.1 in
+      let place : (get_or sorted there.0 o).place ≡ p = ap (λ (x : Occurrence). x.place) at in
+      let string : (get_or sorted there.0 o).string ≡ s = ap (λ (x : Occurrence). x.string) at in
+      (subst (λ n. get_or new n 0 < length strings) place rank.0, ap (λ n. get_or strings (get_or new n 0) s) (sym place) ∙ rank.1 ∙ string)
+
+  pub ranked-dictionary : IsDictionaryOf parts strings
+  ranked-dictionary = record {
+    ascending = ranks.ascending;
+    whole = λ s. (
+      (λ (in_strings : Contains strings s). subst (λ l. Contains l s) (sym (strings_of_values parts)) (from_strings s in_strings)),
+      (λ (in_parts : Contains (strings_in parts) s). to_strings s (subst (λ l. Contains l s) (strings_of_values parts) in_parts)),
+    );
+  }
+    where
+      values : List Value
+      values = values_in parts
+
+      from_strings : (s : List ℕ) → Contains strings s → Contains (flat_map strings_of_value (values_in parts)) s
+      from_strings s held =
+          let none : Occurrence = record { string = []; place = 0 } in
+          let from = ranks.earlier held.0 s none held.1 in
+          let o : Occurrence = get_or sorted from.0 none in
+          let at : StandsAt (values_in parts) o = stand from.0 none from.1 in
+          let string : s ≡ o.string = sym held.2 ∙ from.2 in
+          Contains-flat_map strings_of_value (values_in parts) o.place (variant.Bool false) s at.within
+          (subst (λ v. Contains (strings_of_value v) s) (sym at.is) (0, omega arith, sym string))
+
+      to_strings : (s : List ℕ) → Contains (flat_map strings_of_value (values_in parts)) s → Contains strings s
+      to_strings s held =
+          let at = Contains-from_flat_map strings_of_value (values_in parts) (variant.Bool false) s held in
+          let is : value_at (values_in parts) at.0 ≡ variant.Str s = string_from (value_at (values_in parts) at.0) s at.2 in
+          let word = word_of_string at.0 s at.1 is in
+          (get_or new at.0 0, word.0, word.1)
+
+  -- a value that is no string keeps its word
+  plain : (p : ℕ) → p < length (values_in parts) → strings_of_value (value_at (values_in parts) p) ≡ [] → HasWord strings (value_at (values_in parts) p) × (get_or new p 0 ≡ word_of strings (value_at (values_in parts) p))
+  plain p h none =
+      let own = gathered.plain strings p h none in
+      let nowhere : (j : ℕ) (o : Occurrence) → j < length sorted → (get_or sorted j o).place ≢ p =
+      λ j o low. λ (e : (get_or sorted j o).place ≡ p).
+      let at : StandsAt (values_in parts) (get_or sorted j o) = stand j o low in
+      let is : value_at (values_in parts) p ≡ variant.Str (get_or sorted j o).string = ap (value_at (values_in parts)) (sym e) ∙ at.is in
+      let some : (get_or sorted j o).string ∷ [] ≡ [] = sym (ap strings_of_value is) ∙ none in
+      absurd (cc) in
+      (own.0, ranks.others p nowhere ∙ own.1)
+
+  -- each value has its word
+  pub ranked-word : (p : ℕ) → p < length (values_in parts) → HasWord strings (value_at (values_in parts) p) × (get_or new p 0 ≡ word_of strings (value_at (values_in parts) p))
+  ranked-word p h = by (value_at (values_in parts) p) refl
+    where
+      by : (v : Value) → value_at (values_in parts) p ≡ v → HasWord strings (value_at (values_in parts) p) × (get_or new p 0 ≡ word_of strings (value_at (values_in parts) p))
+      by (variant.Int n) is = plain p h (ap strings_of_value is)
+      by (variant.Bool b) is = plain p h (ap strings_of_value is)
+      by (variant.Str s) is =
+          let word = word_of_string p s h is in
+          let rank : rank strings s ≡ get_or new p 0 = rank_at strings s (get_or new p 0) ranks.ascending word.0 word.1 in
+          (subst (HasWord strings) (sym is) (get_or new p 0, word.0, word.1), sym rank ∙ ap (word_of strings) (sym is))
+
+  pub ranked-words : new ≡ map (word_of strings) (values_in parts)
+  ranked-words =
+      let long : length new ≡ length (values_in parts) = ranks.long ∙ gathered.long in
+      ext_get_or 0 new (map (word_of strings) (values_in parts)) (long ∙ sym (length-map (values_in parts) (word_of strings)))
+      (λ p h. let there : p < length (values_in parts) = rw (← long) h in
+      (ranked-word p there).1 ∙ sym (get_or-map (word_of strings) (values_in parts) p (variant.Bool false) 0 there))
+
+  pub ranked-have_words : All (All (All (HasWord strings))) parts
+  ranked-have_words =
+      let all : All (HasWord strings) (values_in parts) =
+      λ p d h. subst (HasWord strings) (get_or_default (values_in parts) p (variant.Bool false) d h) ((ranked-word p h).0) in
+      λ j rows h. All-from_flat_map (HasWord strings) (λ row. row) (get_or parts j rows) (All-from_flat_map (HasWord strings) values_of_rows parts all j rows h)

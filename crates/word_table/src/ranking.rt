@@ -1,0 +1,41 @@
+//! The ranks of strings that are sorted together with the places of their words.
+ghost use Rattle.std.specs.Prelude.{◌<◌, ◌↔◌, All, IfOk, IsTrue, length};
+ghost use Rattle.word_table.specs.declared.occurrences.Occurrence.{Occurrence as Found};
+ghost use Rattle.word_table.specs.inner.Gathered.{Rise, IsLast, IsRanked};
+
+use crate::entries::Entry;
+use crate::keyed::Keyed;
+use crate::occurrences::Occurrence;
+use rel_base::Memory;
+use std::alloc::Global;
+
+/// The strings of occurrences that ascend, each once, and in the place of each occurrence the rank of its string.
+pub(crate) fn ranked(
+    alloc: Global,
+    found: &[Occurrence<'_>],
+    words: &mut Vec<u64>,
+) -> Result<Vec<Entry>, Memory>
+    requires rise { Rise found.now }
+    requires places { All (λ (o : Found). o.place < length words.old.items) found.now }
+    ensures { IfOk result (λ made.
+        IsRanked found.now (length found.now) made.items words.old.items words.new.items) }
+{
+    let mut entries = Vec::new(alloc);
+    for occurrence in found {
+        if !is_last(entries.as_slice(), &occurrence.string) {
+            entries.push(Entry::of(alloc, &occurrence.string)?)?;
+        }
+        words[occurrence.place as usize] = entries.len() as u64 - 1;
+    }
+    Ok(entries)
+}
+
+/// Whether the last of the entries is this string.
+fn is_last(entries: &[Entry], string: &Keyed<'_>) -> bool
+    ensures { IsTrue result ↔ IsLast entries.now string.now }
+{
+    match entries.last() {
+        Some(entry) => entry.compare(string).is_eq(),
+        None => false,
+    }
+}
