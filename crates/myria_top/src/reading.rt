@@ -150,8 +150,7 @@ pub fn read_fetched<F: Shelf>(
 
 /// The relation of the bytes of a file: a loaded file is read by its form, and any other by its header.
 fn relation_of(alloc: Global, bytes: &[u8], form: &Option<LoadForm>) -> Result<Relation, RelFault>
-    ensures read { IsReadAs result (relation_read form.now bytes.now) }
-    ensures formed { IfOk result (λ relation. IsTrue (has_form form.now relation)) }
+    ensures { IsReadAs result (relation_read form.now bytes.now) }
 {
     match form {
         None => read_relation(alloc, bytes),
