@@ -1,5 +1,5 @@
 -- What a file comes to is never want of memory.
-use Rattle.std.proofs.Common.{◌≡◌, ◌≢◌, ℕ, ◌+◌, Bool, true, false, cond, ltb, eqb, not, Option, Some, None, Result, Ok, Err, List, [], ◌∷◌, length, zip, drop}
+use Rattle.std.proofs.Common.{◌≢◌, ℕ, ◌+◌, Bool, true, false, cond, ltb, eqb, not, Option, Some, None, Result, Ok, Err, List, [], ◌∷◌, length, zip, drop}
 use Rattle.std.specs.Option.{ok_or}
 use Rattle.rel_base.specs.Limits.{most_columns, most_rows}
 use Rattle.rel_base.specs.declared.relations.Column.{Column}

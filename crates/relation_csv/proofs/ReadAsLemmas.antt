@@ -1,5 +1,5 @@
 -- A fault of a part is a fault of the whole.
-use Rattle.std.proofs.Common.{◌≡◌, ◌≢◌, ◌∙◌, Result, Ok, Err, refl, sym, ap}
+use Rattle.std.proofs.Common.{◌≡◌, ◌≢◌, ◌∙◌, Result, Ok, Err, sym, ap}
 use Rattle.std.specs.Prelude.{IsErrAnd}
 use Rattle.relation_csv.specs.declared.faults.RelFault.{RelFault}
 use Rattle.relation_csv.specs.declared.faults.RelFault.TheVariants as fault

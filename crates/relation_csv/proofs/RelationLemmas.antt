@@ -1,10 +1,10 @@
 -- The relation of a file, by its header and its rows.
-use Rattle.std.proofs.Common.{◌≡◌, ℕ, false, Result, Ok, Err, List, [], ◌∷◌, drop, refl, ap}
+use Rattle.std.proofs.Common.{◌≡◌, ℕ, Result, Ok, Err, List, [], ◌∷◌, drop, refl}
 use Rattle.rel_base.specs.declared.relations.Column.{Column}
 use Rattle.rel_base.specs.declared.values.Value.{Value}
 use Rattle.relation_csv.specs.declared.faults.RelFault.{RelFault}
 use Rattle.relation_csv.specs.declared.faults.RelFault.TheVariants as fault
-use Rattle.relation_csv.specs.Files.{Record, is_text, records_of_bytes, relation_of_bytes, relation_of_rows, relation_with, rows_of_records, schema_of_record}
+use Rattle.relation_csv.specs.Files.{Record, records_of_bytes, relation_of_bytes, relation_of_rows, relation_with, rows_of_records, schema_of_record}
 
 module _ (bytes : List ℕ) where
   pub relation_of_bytes-no_record : records_of_bytes bytes ≡ [] → relation_of_bytes bytes ≡ Err fault.NoHeader

@@ -1,5 +1,5 @@
 -- The columns of a header, or its fault.
-use Rattle.std.proofs.Common.{◌≡◌, ◌<◌, ◌≤◌, true, false, ltb, Result, List, Err, length, refl}
+use Rattle.std.proofs.Common.{◌≡◌, ◌<◌, ◌≤◌, true, false, Err, length, refl}
 use Rattle.std.proofs.lemmas.Bool.{le-ltb, lt-ltb}
 use Rattle.rel_base.specs.Limits.{most_columns}
 use Rattle.relation_csv.specs.declared.faults.RelFault.TheVariants as fault

@@ -4,7 +4,7 @@
 --   bool_of_field f                   the truth value that field f writes, if it is a boolean field
 --   value_of_field nth column t f     the value of type t that field f writes, or its fault
 --   column_of_field number f          the column that header field f names, or its fault
-use Rattle.std.specs.Prelude.{ℕ, ◌^◌, ℤ, pos, negsuc, neg_ℤ, Bool, true, false, ◌&&◌, ◌||◌, not, ◌==◌, nat_lt, if◌then◌else◌, Option, Some, None, option_map, Result, Ok, Err, List, [], ◌∷◌, length, codes}
+use Rattle.std.specs.Prelude.{ℕ, ℤ, pos, neg_ℤ, Bool, true, false, ◌&&◌, not, ◌==◌, if◌then◌else◌, Option, Some, None, option_map, Result, Ok, List, [], ◌∷◌, length, codes}
 use Rattle.std.specs.List.{list_any, before_last, after_last}
 use Rattle.std.specs.Option.{ok_or}
 use Rattle.std.specs.Str.{all_ascii_digits, byte, str_eq_ignore_ascii_case}

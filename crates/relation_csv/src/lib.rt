@@ -8,6 +8,8 @@
 //! relation that is written so is read back.
 //! Not promised: that memory is there.
 //!
+//! A file without quotes and carriage returns is read where it stands (`plain.rt`), and any other record by record.
+//!
 //! Read `specs/Fields.antt`, `specs/Files.antt`, `specs/RecordTexts.antt` and `specs/RoundTrip.antt`, then `files.rt`.
 #![tactic(auto)]
 

@@ -1,11 +1,11 @@
-use Rattle.std.proofs.Common.{◌≡◌, ◌+◌, ◌∙◌, length, take, zip, sym, ap, arith, length-take}
+use Rattle.std.proofs.Common.{◌≡◌, ◌∙◌, length, take, zip, sym, ap, arith, length-take}
 use Rattle.csv.specs.Records.{fields_of}
 use Rattle.relation_csv.specs.Files.{value_under}
 use Rattle.relation_csv.specs.Numbered.{each_numbered}
 use Rattle.relation_csv.proofs.NumberedLemmas.{each_numbered-fault_at, each_numbered-next, length-each_numbered}
 use Rattle.relation_csv.proofs.ReadAsLemmas.{IsReadAs-Ok, IsReadAs-part}
 use Rattle.relation_csv.proofs.RecordIterLemmas.{YieldsList-from_pairs}
-use Rattle.relation_csv.proofs.RowLemmas.{row_of_record-field_count, row_of_record-values}
+use Rattle.relation_csv.proofs.RowLemmas.{row_of_record-values}
 use Rattle.std.proofs.lemmas.Iterator.Consumers.{YieldsList-end, YieldsList-turn}
 use Rattle.std.proofs.lemmas.List.{length_push, take_all}
 use Rattle.std.proofs.lemmas.Slice.Zip.{length-zip}

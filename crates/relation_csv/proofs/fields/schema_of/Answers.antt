@@ -1,4 +1,4 @@
-use Rattle.std.proofs.Common.{◌≡◌, ◌≤◌, ◌+◌, ◌∙◌, length, take, sym, ap, arith, length-take}
+use Rattle.std.proofs.Common.{◌≡◌, ◌≤◌, ◌∙◌, length, take, sym, ap, arith, length-take}
 use Rattle.csv.specs.Records.{fields_of}
 use Rattle.relation_csv.specs.Fields.{column_of_field}
 use Rattle.relation_csv.specs.Numbered.{each_numbered}

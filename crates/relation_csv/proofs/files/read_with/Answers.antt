@@ -1,5 +1,4 @@
-use Rattle.std.proofs.Common.{◌∙◌, ◌≡◌, true, refl, ap, sym, drop}
-use Rattle.relation_csv.specs.Files.{records_of_bytes}
+use Rattle.std.proofs.Common.{◌∙◌, sym}
 use Rattle.relation_csv.proofs.ReadAsLemmas.{IsReadAs-Ok, IsReadAs-part}
 use Rattle.relation_csv.proofs.RelationLemmas.{relation_of_rows-Err, relation_of_rows-Ok, relation_with-rows}
 use Rattle.relation_csv.proofs.TypeLemmas.{HasTypes-rows_of_records}

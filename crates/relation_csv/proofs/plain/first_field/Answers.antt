@@ -1,4 +1,4 @@
-use Rattle.std.proofs.Common.{◌≡◌, ◌-◌, ◌+◌, ◌∙◌, get_or, take, drop, ap, ℕ, arith}
+use Rattle.std.proofs.Common.{◌≡◌, ◌-◌, ◌∙◌, get_or, take, ap, ℕ, arith}
 use Rattle.std.proofs.lemmas.Str.{IsCharBoundary-after_ascii}
 use Rattle.std.proofs.lemmas.List.{take_all}
 use Rattle.relation_csv.proofs.PlainLemmas.{BeginsWithField-comma_at, BeginsWithField-end, BeginsWithField-line_at}

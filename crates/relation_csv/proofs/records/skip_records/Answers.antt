@@ -1,4 +1,4 @@
-use Rattle.std.proofs.Common.{◌≡◌, ◌-◌, ◌+◌, ◌∙◌, arith, rules}
+use Rattle.std.proofs.Common.{◌-◌, ◌+◌, ◌∙◌, arith, rules}
 use Rattle.csv.specs.Records.{fields_of}
 use Rattle.relation_csv.proofs.RecordsLeftLemmas.{drop-records_left, drop-records_left-none}
 use Rattle.relation_csv.proofs.records.skip_records.Goals as goal
