@@ -1,16 +1,19 @@
--- The keys of the files that a script needs stand once.
+-- The keys of the files that a script needs stand once, and the files have the columns that its loads write.
 use Rattle.std.proofs.Common.{◌≡◌, ℕ, zero, suc, ◌<◌, Bool, true, false, not, ◌||◌, List, [], ◌∷◌, ◌++◌, get_or, length, map, filter, take, drop, refl, sym, ◌∙◌, ap, subst, arith}
-use Rattle.std.specs.Prelude.{AllPairs, Any}
+use Rattle.std.specs.Prelude.{All, AllPairs, Any, Contains}
 use Rattle.std.specs.List.{list_any}
 use Rattle.std.proofs.Math.Seq.{drop-cons}
-use Rattle.std.proofs.lemmas.Bool.{false_from_ne_true}
+use Rattle.std.proofs.lemmas.Bool.{and_from, false_from_ne_true}
 use Rattle.std.proofs.lemmas.List.{append_assoc, append-nil, get_or-take, get_or_read, length-map, length-take, take-append-drop}
+use Rattle.std.proofs.lemmas.List.Elements.{All-head, All-tail}
 use Rattle.std.proofs.lemmas.List.Folds.{Any-from_list_any}
 use Rattle.rel_base.specs.Keys.{File, same_key, holds_key}
 use Rattle.rel_base.specs.declared.names.Key.{Key}
 use Rattle.myrial_ast.specs.Trees.{StatementTree}
 use Rattle.myrial_meaning.specs.declared.needed_files.Fetch.{Fetch}
 use Rattle.myrial_meaning.specs.Fetches.{each_once, fetched_keys, fetches, form_in, has_key, needed_from}
+use Rattle.myrial_types.specs.Fetching.{has_form, have_forms}
+use Rattle.myria_top.specs.Runs.{IsFetchedBy}
 use Rattle.myrial_meaning.proofs.FetchLemmas.{distinct-push, each_once-push}
 
 -- what stands before a place, at it, and behind it
@@ -85,3 +88,24 @@ module _ (script : List StatementTree) where
       let keys = fetched_keys script in
       let size : length (map fetch_of keys) ≡ length keys = length-map keys fetch_of in
       rw (key_at keys i d (omega arith), key_at keys j d (omega arith)) (each_once-distinct (needed_from [] script) i j d.key low (omega arith))
+
+  -- each fetch has the form of the first load of its key
+  form_at : (keys : List Key) (i : ℕ) (d : Fetch) → i < length keys → (get_or (map fetch_of keys) i d).form ≡ form_in script (get_or (map fetch_of keys) i d).key
+  form_at [] i d low = absurd (omega arith)
+  form_at (k ∷ keys) zero d low = refl
+  form_at (k ∷ keys) (suc i) d low = form_at keys i d (omega (arith, low))
+
+  fetch-formed : (f : Fetch) → Contains (fetches script) f → f.form ≡ form_in script f.key
+  fetch-formed f is_one =
+      let size : length (map fetch_of (fetched_keys script)) ≡ length (fetched_keys script) = length-map (fetched_keys script) fetch_of in
+      let low : is_one.0 < length (map fetch_of (fetched_keys script)) = is_one.1 in
+      subst (λ (g : Fetch). g.form ≡ form_in script g.key) is_one.2 (form_at (fetched_keys script) is_one.0 f (omega arith))
+
+  -- files that were read by the fetches of a script have the forms of its loads
+  pub forms-fetched : (files : List File) → All (IsFetchedBy (fetches script)) files → have_forms files script ≡ true
+  forms-fetched [] all = refl
+  forms-fetched (file ∷ files) all =
+      let one = All-head (IsFetchedBy (fetches script)) file files all in
+      and_from (has_form (form_in script file.0) file.1) (have_forms files script)
+      (ap (λ key. has_form (form_in script key) file.1) one.key ∙ ap (λ form. has_form form file.1) (sym (fetch-formed one.fetch one.is_one)) ∙ one.formed)
+      (forms-fetched files (All-tail (IsFetchedBy (fetches script)) file files all))

@@ -1,12 +1,21 @@
 -- What the first bytes of a file show of what the file comes to.
-use Rattle.std.proofs.Common.{◌≡◌, ◌⊎◌, inl, inr, ℕ, ◌+◌, ◌<◌, ◌≤◌, min, Bool, false, cond, List, length, take, refl, sym, ◌∙◌, ap, subst, arith, nat_lt}
+use Rattle.std.proofs.Common.{◌≡◌, ◌⊎◌, inl, inr, ℕ, ◌+◌, ◌<◌, ◌≤◌, min, Bool, true, false, cond, List, length, take, refl, sym, ◌∙◌, ap, subst, arith, nat_lt}
 use Rattle.std.proofs.lemmas.Bool.{lt-ltb, false_from_ne_true, ltb-true}
 use Rattle.std.proofs.lemmas.List.{take_all, length-take}
+use Rattle.std.specs.Prelude.{Option, Some, None, Result, Ok, Err, drop}
+use Rattle.rel_base.specs.Relations.{RelationState}
+use Rattle.rel_base.specs.declared.values.Value.{Value}
+use Rattle.relation_csv.specs.declared.faults.RelFault.{RelFault}
+use Rattle.relation_csv.specs.Files.{records_of_bytes, relation_of_rows, relation_with, rows_of_records}
+use Rattle.myrial_ast.specs.declared.relations.LoadForm.{LoadForm}
+use Rattle.myrial_types.specs.Fetching.{has_form, same_columns}
+use Rattle.myrial_types.proofs.LoadLemmas.{same_columns-itself}
 use Rattle.rel_io.specs.Outside.{Content, IsGiven}
 use Rattle.rel_io.specs.Outside as outside
 use Rattle.myria_top.specs.declared.outcomes.Outcome.{Outcome}
 use Rattle.myria_top.specs.declared.outcomes.Outcome.TheVariants as outcome
 use Rattle.myria_top.specs.Reading.{file_verdict}
+use Rattle.myria_top.specs.Runs.{relation_read}
 use Rattle.myria_top.specs.Verdicts.{Verdict, refused, passes, IfTold}
 
 -- an answer, or want of memory in its place
@@ -56,3 +65,16 @@ module _ {X : Type 0} (most : ℕ) (if_missing if_long : Outcome) (read : List �
   read_refuses outside.missing bytes answer given short e = absurd given
   read_refuses (outside.there file) bytes answer given short e =
       subst (λ (s : Verdict X). IfTold s (λ t. t ≡ refused answer)) (sym (whole file bytes given short ∙ e)) refl
+
+-- a loaded file has the columns of its form
+pub read-formed : (form : Option LoadForm) (bytes : List ℕ) (relation : RelationState) → relation_read form bytes ≡ Ok relation → has_form form relation ≡ true
+unfolding relation_with
+read-formed None bytes relation e = refl
+read-formed (Some form) bytes relation e = by (rows_of_records form.schema (drop form.skip (records_of_bytes bytes))) e
+  where
+    by : (rows : Result (List (List Value)) RelFault) → relation_of_rows form.schema rows ≡ Ok relation → same_columns relation.schema form.schema ≡ true
+    by (Err why) e = cc
+    by (Ok rows) e =
+        let made : RelationState = record { schema = form.schema; rows = rows } in
+        let same : made ≡ relation = cc in
+        ap (λ (t : RelationState). same_columns t.schema form.schema) (sym same) ∙ same_columns-itself form.schema

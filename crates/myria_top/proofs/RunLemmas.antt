@@ -1,5 +1,5 @@
 -- What a script comes to over its files, and what the words and the files come to.
-use Rattle.std.proofs.Common.{◌≡◌, ℕ, Bool, true, cond, List, map, Option, Some, None, Ok, Err, Result, refl, sym, ◌∙◌, ap, subst, inl, inr, arith}
+use Rattle.std.proofs.Common.{◌≡◌, ℕ, List, map, Option, Some, None, Ok, Err, Result, refl, sym, ◌∙◌, ap, subst, inl, inr, arith}
 use Rattle.std.specs.Prelude.{IfErr}
 use Rattle.std.specs.List.{flat_map}
 use Rattle.std.specs.Option.{option_map_or}
@@ -15,7 +15,6 @@ use Rattle.myrial_ast.specs.CandidateFaults.{Uncounted}
 use Rattle.myrial_meaning.specs.Faults.{run_fault}
 use Rattle.myrial_meaning.specs.Meaning.{stored_relations}
 use Rattle.myrial_meaning.specs.SortedFiles.{sorted_file}
-use Rattle.myrial_meaning.specs.Runnable.{has_meaning}
 use Rattle.myrial_meaning.specs.declared.needed_files.Fetch.{Fetch}
 use Rattle.myrial_meaning.specs.Fetches.{fetches}
 use Rattle.myrial_types.specs.declared.faults.TypeFault.{TypeFault}
@@ -25,7 +24,6 @@ use Rattle.myrial_types.specs.Checking.{checked_of, IsFault}
 use Rattle.rel_io.specs.Shelves.{CallCounts}
 use Rattle.myria_top.specs.declared.outcomes.Outcome.{Outcome}
 use Rattle.myria_top.specs.declared.outcomes.Outcome.TheVariants as outcome
-use Rattle.myria_top.specs.declared.outcomes.Part.TheVariants as part
 use Rattle.myria_top.specs.Headline.{Run, Decides, IsInPlace, Explains, IsAskedOf, TellsLine, of_untold, a_relation}
 use Rattle.myria_top.specs.OutputText.{output_text, relation_text_in_order}
 use Rattle.myria_top.specs.Reading.{Agrees, AgreesBy, AgreesRefused, HasCause, Meets, ReadsBy, ReadsStep, RefusesBy, script_name}
@@ -42,21 +40,18 @@ module _ (script : List StatementTree) (files : List File) where
   abbrev verdict : Option RunFault → Verdict (List File)
   verdict found = option_map_or (λ fault. refused (run_answer fault)) found (passes (stored_relations files script))
 
-  abbrev with_meaning : Bool → Verdict (List File)
-  with_meaning b = cond b (verdict (run_fault Uncounted files script)) (refused (outcome.NotBuilt part.Script))
-
   abbrev printed : Verdict (List File) → Verdict (List ℕ)
   printed s = and_then s (λ stored. passes (output_text stored))
 
   -- without a fault the text is printed
-  pub run_prints : (stored : List File) (text : List ℕ) → has_meaning files script ≡ true → run_fault Uncounted files script ≡ None
+  pub run_prints : (stored : List File) (text : List ℕ) → run_fault Uncounted files script ≡ None
       → stored ≡ map sorted_file (stored_relations files script) → text ≡ flat_map (λ (file : File). relation_text_in_order file.0 file.1) stored
       → IfTold (printed (typed_verdict script files)) (λ s. s ≡ passes text)
-  run_prints stored text meaning fault is texts =
+  run_prints stored text fault is texts =
       let all : text ≡ output_text (stored_relations files script) =
       texts ∙ ap (flat_map (λ (file : File). relation_text_in_order file.0 file.1)) is ∙ output_text-sorted (stored_relations files script) in
       let step : printed (typed_verdict script files) ≡ passes text =
-      ap (λ (b : Bool). printed (with_meaning b)) meaning ∙ ap (λ (o : Option RunFault). printed (verdict o)) fault ∙ ap passes (sym all) in
+      ap (λ (o : Option RunFault). printed (verdict o)) fault ∙ ap passes (sym all) in
       subst (λ (s : Verdict (List ℕ)). IfTold s (λ t. t ≡ passes text)) (sym step) refl
 
   -- a script that is typed comes to its run

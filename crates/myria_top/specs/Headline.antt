@@ -14,7 +14,6 @@ use Rattle.myrial_meaning.specs.Fetches.{fetches}
 use Rattle.myria_top.specs.FileNames.{file_name_of}
 use Rattle.myria_top.specs.declared.outcomes.Outcome.{Outcome}
 use Rattle.myria_top.specs.declared.outcomes.Outcome.TheVariants as outcome
-use Rattle.myria_top.specs.declared.outcomes.Part.TheVariants as part
 use Rattle.myria_top.specs.Outcomes.{line_of}
 use Rattle.myria_top.specs.Reading.{HasCause, RefusesBy, script_name}
 use Rattle.myria_top.specs.Scripts.{ScriptComesTo}
@@ -78,7 +77,7 @@ pub record Headline (run : Run) (err : Written) (answer : Outcome) : Type 0 wher
   -- where writing itself was refused, a beginning of that text.
   pub explained : Explains run answer
   -- Words that don't name one script are refused so, and no others are.
-  pub words_exactly : (answer ≡ outcome.NotBuilt part.Words) ↔ (script_name run.words ≡ None)
+  pub words_exactly : (answer ≡ outcome.NotBuilt) ↔ (script_name run.words ≡ None)
   -- The words and the files decide the answer: the one refusal that they come to, or that the text is printed or could
   -- not be written. Want of memory and a fault of reading may come in its place.
   pub decided : (step : Verdict (List ℕ)) → ComesTo run.words run.content step → Decides step answer

@@ -35,7 +35,7 @@ status_of (outcome.AggregateOverflow statement) = 10
 status_of (outcome.ReadFault name) = 11
 status_of outcome.WriteFault = 12
 status_of outcome.Memory = 13
-status_of (outcome.NotBuilt part) = 14
+status_of outcome.NotBuilt = 14
 
 -- the word that names the script, as it was given
 abbrev pub given_name : List (List ℕ) → List ℕ
@@ -107,7 +107,7 @@ message_of words (outcome.AggregateOverflow statement) = of_statement statement 
 message_of words (outcome.ReadFault name) = codes "cannot read " ++ name
 message_of words outcome.WriteFault = codes "cannot write"
 message_of words outcome.Memory = codes "out of memory"
-message_of words (outcome.NotBuilt part) = codes "not built"
+message_of words outcome.NotBuilt = codes "not built"
 
 -- the line on standard error
 abbrev pub line_of : List (List ℕ) → Outcome → List ℕ

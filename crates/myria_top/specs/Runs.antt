@@ -2,10 +2,11 @@
 --
 --   relation_verdict fetch content     what the file of a relation comes to: the relation
 --   files_verdict content fetches      what these files come to, one after another
+--   IsFetchedBy fetches file           a file has the key of one of these fetches, and the columns of its form
 --   run_verdict script files           what the script comes to over its files: the stored relations
 --   printed_verdict content script     what it comes to: the text that is printed
 --   ComesTo words content step         what the words and the files come to
-use Rattle.std.specs.Prelude.{◌≡◌, ℕ, if◌then◌else◌, List, [], ◌∷◌, ◌++◌, fold, Contains, Option, Some, None, Result, Ok, Err}
+use Rattle.std.specs.Prelude.{◌≡◌, ℕ, List, [], ◌∷◌, ◌++◌, fold, Contains, IsTrue, Option, Some, None, Result, Ok, Err}
 use Rattle.std.specs.Option.{option_map_or}
 use Rattle.rel_base.specs.Keys.{File}
 use Rattle.rel_base.specs.Limits.{most_relation_bytes}
@@ -22,15 +23,14 @@ use Rattle.myrial_ast.specs.CandidateFaults.{Uncounted}
 use Rattle.myrial_meaning.specs.declared.needed_files.Fetch.{Fetch}
 use Rattle.myrial_meaning.specs.Faults.{run_fault}
 use Rattle.myrial_meaning.specs.Meaning.{stored_relations}
-use Rattle.myrial_meaning.specs.Runnable.{has_meaning}
 use Rattle.myrial_meaning.specs.Fetches.{fetches}
 use Rattle.myrial_types.specs.declared.faults.TypeFault.{TypeFault}
 use Rattle.myrial_types.specs.declared.faults.TypeFault.TheVariants as typing
 use Rattle.myrial_types.specs.Checking.{checked_of}
+use Rattle.myrial_types.specs.Fetching.{has_form}
 use Rattle.myria_top.specs.FileNames.{file_name_of}
 use Rattle.myria_top.specs.declared.outcomes.Outcome.{Outcome}
 use Rattle.myria_top.specs.declared.outcomes.Outcome.TheVariants as outcome
-use Rattle.myria_top.specs.declared.outcomes.Part.TheVariants as part
 use Rattle.myria_top.specs.OutputText.{output_text}
 use Rattle.myria_top.specs.Reading.{file_verdict, script_name}
 use Rattle.myria_top.specs.Scripts.{ScriptComesTo}
@@ -65,6 +65,13 @@ one_file_more content files fetch =
 abbrev pub files_verdict : (List ℕ → Content) → List Fetch → Verdict (List File)
 files_verdict content fetches = fold (one_file_more content) (passes []) fetches
 
+-- a file has the key of one of these fetches, and, where that is of a load, the columns of its form
+pub record IsFetchedBy (fetches : List Fetch) (file : File) : Type 0 where
+  pub fetch : Fetch
+  pub is_one : Contains fetches fetch
+  pub key : file.0 ≡ fetch.key
+  pub formed : IsTrue (has_form fetch.form file.1)
+
 -- the name is that of one of these files
 pub record IsFileOf (fetches : List Fetch) (name : List ℕ) : Type 0 where
   pub fetch : Fetch
@@ -88,12 +95,10 @@ abbrev pub if_typed : {X Y : Type 0} → Result X TypeFault → Verdict Y → Ve
 if_typed (Ok checked) then_verdict = then_verdict
 if_typed (Err why) then_verdict = refused (typing_answer why)
 
--- what a typed script comes to over its files: it has a meaning, and its run has no fault
+-- what a typed script comes to over its files: what it stores, or the fault of its run
 abbrev pub typed_verdict : List StatementTree → List File → Verdict (List File)
 typed_verdict script files =
-    if has_meaning files script
-    then option_map_or (λ found. refused (run_answer found)) (run_fault Uncounted files script) (passes (stored_relations files script))
-    else refused (outcome.NotBuilt part.Script)
+    option_map_or (λ found. refused (run_answer found)) (run_fault Uncounted files script) (passes (stored_relations files script))
 
 -- what the script comes to over its files: each statement is typed, and then its run
 abbrev pub run_verdict : List StatementTree → List File → Verdict (List File)
@@ -106,6 +111,6 @@ printed_verdict content script =
 
 -- what the words and the files come to: the text that is printed, or an answer that refuses
 pub data ComesTo (words : List (List ℕ)) (content : List ℕ → Content) : Verdict (List ℕ) → Type 0 where
-  unnamed : script_name words ≡ None → ComesTo words content (refused (outcome.NotBuilt part.Words))
+  unnamed : script_name words ≡ None → ComesTo words content (refused outcome.NotBuilt)
   named : (name : List ℕ) (s : Verdict (List StatementTree)) → script_name words ≡ Some name → ScriptComesTo (content name) s
       → ComesTo words content (and_then s (printed_verdict content))

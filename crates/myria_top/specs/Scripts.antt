@@ -13,7 +13,6 @@ use Rattle.myrial_lexer.specs.declared.kinds.Token.{Token}
 use Rattle.myrial_parser.specs.Pieces.{IsScript, IsFirstFault, PieceFault, Syntax, TooMany}
 use Rattle.myria_top.specs.declared.outcomes.Outcome.{Outcome}
 use Rattle.myria_top.specs.declared.outcomes.Outcome.TheVariants as outcome
-use Rattle.myria_top.specs.declared.outcomes.Part.TheVariants as part
 use Rattle.rel_base.specs.Limits.{most_script_bytes}
 use Rattle.myria_top.specs.Verdicts.{Verdict, untold, refused, passes}
 
@@ -53,5 +52,5 @@ IsOfTexts (outcome.NoRelation key) = ⊥
 IsOfTexts (outcome.RelTooLong key) = ⊥
 IsOfTexts (outcome.BadRelation key fault) = ⊥
 IsOfTexts (outcome.ReadFault name) = ⊥
-IsOfTexts (outcome.NotBuilt part.Words) = ⊥
+IsOfTexts outcome.NotBuilt = ⊥
 IsOfTexts _ = ⊤

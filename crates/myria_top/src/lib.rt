@@ -23,5 +23,5 @@ mod tests;
 
 pub use counted::fresh_taps;
 pub use messages::tell;
-pub use outcomes::{Outcome, Part};
+pub use outcomes::Outcome;
 pub use run::run_words;

@@ -50,7 +50,7 @@ pub fn tell<E: Sink>(err: &mut E, words: &[Text], answer: &Outcome) -> Result<()
         }
         Outcome::WriteFault => offer_all(err, &["myria: cannot write\n"]),
         Outcome::Memory => offer_all(err, &["myria: out of memory\n"]),
-        Outcome::NotBuilt { part: _ } => offer_all(err, &["myria: not built\n"]),
+        Outcome::NotBuilt => offer_all(err, &["myria: not built\n"]),
     }
 }
 

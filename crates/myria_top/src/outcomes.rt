@@ -8,15 +8,6 @@ use myrial_types::{TypeFault, TypeKind};
 use rel_base::{Key, Memory, RunFault, Text};
 use relation_csv::RelFault;
 
-/// The part of a request that this stage of the engine does not build yet.
-#[derive(Clone, Copy, Debug, PartialEq, Eq)]
-pub enum Part {
-    /// The words of the command line.
-    Words,
-    /// The script: it is typed and has no meaning.
-    Script,
-}
-
 /// How a run ended.
 #[derive(Debug, PartialEq, Eq, Drop)]
 pub enum Outcome {
@@ -95,11 +86,8 @@ pub enum Outcome {
     WriteFault,
     /// Memory was refused.
     Memory,
-    /// The request asks for what is not built yet.
-    NotBuilt {
-        /// The first part that asks so.
-        part: Part,
-    },
+    /// The words ask for what is not built yet.
+    NotBuilt,
 }
 
 impl Outcome {
@@ -131,7 +119,7 @@ impl Outcome {
             Outcome::ReadFault { name: _ } => 11,
             Outcome::WriteFault => 12,
             Outcome::Memory => 13,
-            Outcome::NotBuilt { part: _ } => 14,
+            Outcome::NotBuilt => 14,
         }
     }
 }

@@ -1,17 +1,19 @@
 //! Reads the words, the script and the relations that it needs.
 ghost use Rattle.std.specs.Prelude.{◌≡◌, ◌≢◌, ◌≤◌, ◌<◌, ◌^◌, ◌-◌, ◌++◌, ◌∷◌, [], ◌⊎◌};
-ghost use Rattle.std.specs.Prelude.{false, length, AllPairs, Err, IfOk, IfErr, OnOk, option_map};
+ghost use Rattle.std.specs.Prelude.{false, length, All, AllPairs, Err, IfOk, IfErr, IsTrue, OnOk, option_map};
 ghost use Rattle.rel_base.specs.Keys.{holds_key, same_key};
 ghost use Rattle.myria_top.specs.Scripts.{ScriptComesTo, TextComesTo, trees_read, IsOfTexts};
+ghost use Rattle.myrial_types.specs.Fetching.{has_form};
 ghost use Rattle.relation_csv.specs.Files.{IsReadAs};
 ghost use Rattle.rel_io.specs.Shelves.{HaveNotFallen, counts_of};
 ghost use Rattle.myria_top.specs.FileNames.{file_name_of};
 ghost use Rattle.rel_io.specs.Outside.{IsGiven};
 ghost use Rattle.myria_top.specs.Reading as spec;
-ghost use Rattle.myria_top.specs.Runs.{files_verdict, relation_read, relation_verdict, IsFileOf};
+ghost use Rattle.myria_top.specs.Runs.{files_verdict, relation_read, relation_verdict};
+ghost use Rattle.myria_top.specs.Runs.{IsFetchedBy, IsFileOf};
 
+use crate::Outcome;
 use crate::file_names::file_name;
-use crate::{Outcome, Part};
 use myrial_ast::{LoadForm, Script};
 use myrial_lexer::{LexFault, lex};
 use myrial_parser::{ParseFault, parse};
@@ -38,7 +40,7 @@ pub fn read_script<F: Shelf>(alloc: Global, shelf: &mut F, name: &Text) -> Resul
     ensures read { spec.ReadsBy (ScriptComesTo (F.content shelf.old name.now))
         (counts_of F.Shelf shelf.old shelf.new)
         (λ asked. asked ≡ name.now) (trees_read result) }
-    ensures part { result ≢ Err (Outcome.NotBuilt Part.Words) }
+    ensures part { result ≢ Err Outcome.NotBuilt }
     ensures content { F.content shelf.new ≡ F.content shelf.old }
 {
     let most = MOST_SCRIPT_BYTES as u64 + 1;
@@ -84,7 +86,8 @@ pub fn read_files<F: Shelf>(
     ensures read { spec.ReadsStep (files_verdict (F.content shelf.old) fetches.now)
         (counts_of F.Shelf shelf.old shelf.new)
         (IsFileOf fetches.now) result }
-    ensures part { result ≢ Err (Outcome.NotBuilt Part.Words) }
+    ensures formed { IfOk result (All (IsFetchedBy fetches.now)) }
+    ensures part { result ≢ Err Outcome.NotBuilt }
     ensures content { F.content shelf.new ≡ F.content shelf.old }
 {
     let mut files = Files::new(alloc);
@@ -120,7 +123,8 @@ pub fn read_fetched<F: Shelf>(
         (relation_verdict fetch.now (F.content shelf.old (file_name_of fetch.now.key)))
         (counts_of F.Shelf shelf.old shelf.new)
         (λ asked. asked ≡ file_name_of fetch.now.key) result }
-    ensures part { result ≢ Err (Outcome.NotBuilt Part.Words) }
+    ensures formed { IfOk result (λ relation. IsTrue (has_form fetch.now.form relation)) }
+    ensures part { result ≢ Err Outcome.NotBuilt }
     ensures content { F.content shelf.new ≡ F.content shelf.old }
 {
     let key = &fetch.key;

@@ -1,7 +1,9 @@
 //! One run of the program, from its words to its exit.
-ghost use Rattle.std.specs.Prelude.{◌≡◌, ◌≢◌, ◌↔◌, All, None, Err, IfErr, vec_len};
+ghost use Rattle.std.specs.Prelude.{◌≡◌, ◌≢◌, ◌↔◌, All, IsTrue, None, Err, IfErr, vec_len};
 ghost use Rattle.myrial_ast.specs.Trees.{trees_of};
 ghost use Rattle.myrial_meaning.specs.Fetches.{fetches};
+ghost use Rattle.myrial_meaning.specs.Runnable.{has_meaning};
+ghost use Rattle.myrial_types.specs.Fetching.{have_forms};
 ghost use Rattle.rel_io.specs.Shelves.{counts_of};
 ghost use Rattle.rel_io.specs.Sinks.{written_of};
 ghost use Rattle.rel_io.specs.Taps.{no_rows};
@@ -12,12 +14,12 @@ ghost use Rattle.myria_top.specs.Scripts.{IsOfTexts};
 ghost use Rattle.myria_top.specs.Verdicts.{and_then, passes};
 ghost use Rattle.myria_top.specs.Runs.{ComesTo, IsFileOf, printed_verdict, run_verdict, typed_verdict};
 
+use crate::Outcome;
 use crate::messages::tell;
 use crate::pieces::Pieces;
 use crate::reading::{read_files, read_script, script_name};
-use crate::{Outcome, Part};
 use myrial_ast::Script;
-use myrial_meaning::{evaluate, has_meaning};
+use myrial_meaning::evaluate;
 use myrial_types::{check, fetches};
 use rel_base::{Files, TAPS, Text};
 use rel_io::{Shelf, Sink, SinkFault, Tap};
@@ -65,7 +67,7 @@ fn answer<F: Shelf, O: Sink>(alloc: Global, words: &[Text], shelf: &mut F, out: 
       shelf = counts_of F.Shelf shelf.old shelf.new;
       out = written_of O.Sink out.old out.new;
     }) result }
-    ensures words_exactly { (result ≡ Outcome.NotBuilt Part.Words)
+    ensures words_exactly { (result ≡ Outcome.NotBuilt)
         ↔ (read.script_name words.now ≡ None) }
     ensures unasked { read.script_name words.now ≡ None → shelf.new ≡ shelf.old }
 {
@@ -85,12 +87,12 @@ fn prepared<F: Shelf>(alloc: Global, words: &[Text], shelf: &mut F) -> Result<Pi
     ensures read { read.ReadsBy (ComesTo words.now (F.content shelf.old))
         (counts_of F.Shelf shelf.old shelf.new)
         (IsAskedOf words.now (F.content shelf.old)) result }
-    ensures words_exactly { (result ≡ Err (Outcome.NotBuilt Part.Words))
+    ensures words_exactly { (result ≡ Err Outcome.NotBuilt)
         ↔ (read.script_name words.now ≡ None) }
     ensures unasked { read.script_name words.now ≡ None → shelf.new ≡ shelf.old }
 {
     let Some(name) = script_name(words) else {
-        return Err(Outcome::NotBuilt { part: Part::Words });
+        return Err(Outcome::NotBuilt);
     };
     let script = match read_script(alloc, shelf, name) {
         Ok(script) => script,
@@ -108,7 +110,7 @@ fn prepared_script<F: Shelf>(
     ensures read { read.ReadsStep (printed_verdict (F.content shelf.old) (trees_of script.now))
         (counts_of F.Shelf shelf.old shelf.new)
         (IsFileOf (fetches (trees_of script.now))) result }
-    ensures part { result ≢ Err (Outcome.NotBuilt Part.Words) }
+    ensures part { result ≢ Err Outcome.NotBuilt }
 {
     let needed = match fetches(alloc, script) {
         Ok(needed) => needed,
@@ -123,6 +125,7 @@ fn prepared_script<F: Shelf>(
 
 /// The text of the script's run over its files.
 fn text_of_run(alloc: Global, script: &Script, files: &Files) -> Result<Pieces, Outcome>
+    requires { IsTrue (have_forms files.now (trees_of script.now)) }
     ensures agrees { read.Agrees
         (and_then (run_verdict (trees_of script.now) files.now) (λ stored. passes (output_text stored)))
         result }
@@ -136,16 +139,12 @@ fn text_of_run(alloc: Global, script: &Script, files: &Files) -> Result<Pieces, 
 
 /// The text of a typed script's run over its files.
 fn text_of_typed(alloc: Global, script: &Script, files: &Files) -> Result<Pieces, Outcome>
+    requires { IsTrue (has_meaning files.now (trees_of script.now)) }
     ensures agrees { read.Agrees
         (and_then (typed_verdict (trees_of script.now) files.now) (λ stored. passes (output_text stored)))
         result }
     ensures kind { IfErr result IsOfTexts }
 {
-    match has_meaning(alloc, script, files) {
-        Ok(true) => {}
-        Ok(false) => return Err(Outcome::NotBuilt { part: Part::Script }),
-        Err(_) => return Err(Outcome::Memory),
-    }
     let stored = match evaluate(alloc, script, files) {
         Ok(stored) => stored,
         Err(fault) => return Err(Outcome::from(fault)),

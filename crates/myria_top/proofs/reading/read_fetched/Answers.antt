@@ -5,7 +5,7 @@ use Rattle.myria_top.specs.declared.outcomes.Outcome.TheVariants as outcome
 use Rattle.myria_top.specs.FileNames.{file_name_of}
 use Rattle.myria_top.specs.Reading.{AgreesRefused, HasCause}
 use Rattle.myria_top.specs.Runs.{relation_answer, relation_of, relation_read, relation_verdict}
-use Rattle.myria_top.proofs.ReadingLemmas.{in_place, in_place_if, too_long, read_goes, read_refuses}
+use Rattle.myria_top.proofs.ReadingLemmas.{in_place, in_place_if, too_long, read-formed, read_goes, read_refuses}
 use Rattle.myria_top.proofs.VerdictLemmas.{meets_step}
 use Rattle.myria_top.proofs.reading.read_fetched.Goals as goal
 
@@ -19,6 +19,10 @@ returns-in-Ok-relation_of-clause-read g c = record {
   cause = tt;
   kept = c.fetched.ensures.kept;
 }
+
+pub returns-in-Ok-relation_of-clause-formed : goal.returns-in-Ok-relation_of-clause-formed
+returns-in-Ok-relation_of-clause-formed g c =
+    read-formed c.args.fetch.now.form c.deref.result.now c.in-Ok-relation_of.relation (c.in-Ok-relation_of.ensures (λ e. cc))
 
 pub returns-then-len-gt-MOST_RELATION_BYTES-clause-read : goal.returns-then-len-gt-MOST_RELATION_BYTES-clause-read
 returns-then-len-gt-MOST_RELATION_BYTES-clause-read g c =

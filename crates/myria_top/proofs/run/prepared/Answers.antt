@@ -1,7 +1,6 @@
 use Rattle.std.proofs.Common.{◌≡◌, refl, sym, subst, arith, Some}
 use Rattle.myrial_ast.specs.Trees.{trees_of}
 use Rattle.myria_top.specs.declared.outcomes.Outcome.TheVariants as outcome
-use Rattle.myria_top.specs.declared.outcomes.Part.TheVariants as part
 use Rattle.myria_top.specs.Headline.{IsAskedOf, the_script}
 use Rattle.myria_top.specs.Reading.{script_name}
 use Rattle.myria_top.specs.Verdicts.{refused}
@@ -13,7 +12,7 @@ use Rattle.myria_top.proofs.run.prepared.Goals as goal
 pub returns-in_default-clause-read : goal.returns-in_default-clause-read
 returns-in_default-clause-read g c = record {
   agrees = record {
-    step = refused (outcome.NotBuilt part.Words);
+    step = refused outcome.NotBuilt;
     comes = unnamed (cc);
     is = refl;
   };

@@ -1,19 +1,24 @@
 use Rattle.std.proofs.Common.{◌≡◌, ℕ, List, false, sym, subst}
-use Rattle.std.specs.Prelude.{AllPairs}
+use Rattle.std.specs.Prelude.{All, AllPairs}
 use Rattle.rel_base.specs.Keys.{same_key}
 use Rattle.myrial_ast.specs.Trees.{trees_of}
 use Rattle.myrial_meaning.specs.Fetches.{fetches}
 use Rattle.rel_io.specs.Shelves.{CallCounts, counts_of}
-use Rattle.myria_top.specs.Runs.{IsFileOf}
+use Rattle.myria_top.specs.Runs.{IsFetchedBy, IsFileOf}
 use Rattle.myria_top.proofs.RunLemmas.{run_agrees}
 use Rattle.myria_top.proofs.ScriptLemmas.{run_cause}
 use Rattle.myrial_meaning.specs.declared.needed_files.Fetch.{Fetch}
-use Rattle.myria_top.proofs.FetchLemmas.{fetches-distinct}
+use Rattle.myria_top.proofs.FetchLemmas.{fetches-distinct, forms-fetched}
 use Rattle.myria_top.proofs.run.prepared_script.Goals as goal
 
 pub read_files-requires : goal.read_files-requires
 read_files-requires g c =
     subst (AllPairs (λ (f g' : Fetch). same_key f.key g'.key ≡ false)) (sym c.in-Ok.ensures) (fetches-distinct (trees_of c.args.script.now))
+
+pub text_of_run-requires : goal.text_of_run-requires
+text_of_run-requires g c =
+    forms-fetched (trees_of c.args.script.now) c.in-Ok-read_files.files
+    (subst (λ (fs : List Fetch). All (IsFetchedBy fs) c.in-Ok-read_files.files) c.in-Ok.ensures c.in-Ok-read_files.ensures.formed)
 
 pub returns-clause-read : goal.returns-clause-read
 returns-clause-read g c =

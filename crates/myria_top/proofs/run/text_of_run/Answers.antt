@@ -5,7 +5,12 @@ use Rattle.myria_top.specs.OutputText.{output_text}
 use Rattle.myria_top.specs.Reading.{Agrees}
 use Rattle.myria_top.specs.Verdicts.{Verdict, and_then, passes}
 use Rattle.myria_top.proofs.RunLemmas.{typed_runs, typing_refuses}
+use Rattle.myrial_types.proofs.DefinedLemmas.{typed_scripts_have_meaning}
 use Rattle.myria_top.proofs.run.text_of_run.Goals as goal
+
+pub text_of_typed-requires : goal.text_of_typed-requires
+text_of_typed-requires c =
+    typed_scripts_have_meaning c.args.files.now (trees_of c.args.script.now) _ c.requires c.in-Ok.ensures.checked
 
 pub returns-in-Ok-clause-agrees : goal.returns-in-Ok-clause-agrees
 returns-in-Ok-clause-agrees c =
