@@ -1,24 +1,20 @@
 //! Copies of an expression and of a statement.
 use super::*;
-use rel_base::Text;
+use rel_base::{Memory, Text};
 use std::alloc::Global;
 use std::test::Fail;
 
-fn text(alloc: Global, s: &str) -> Result<Text, Fail> {
-    Ok(Text::of(alloc, s)?)
+/// `not -T.y`
+fn negated(alloc: Global) -> Result<Expr, Memory> {
+    let column = ColRef::OfName(Text::of(alloc, "T")?, Text::of(alloc, "y")?);
+    let minus = Expr::minus(alloc, Expr::Col(column))?;
+    Expr::negation(alloc, minus)
 }
 
-/// `not -x and sum($1) < min(T.y) + count(*)`
-fn expression(alloc: Global) -> Result<Expr, Fail> {
-    let x = Expr::Col(ColRef::ByName(text(alloc, "x")?));
-    let left = Expr::negation(alloc, Expr::minus(alloc, x)?)?;
-    let place = Expr::Col(ColRef::ByPlace(1));
-    let sum = Expr::aggregate(alloc, AggOp::Sum, place)?;
-    let y = Expr::Col(ColRef::OfName(text(alloc, "T")?, text(alloc, "y")?));
-    let least = Expr::aggregate(alloc, AggOp::Min, y)?;
-    let added = Expr::binary(alloc, BinOp::Add, least, Expr::Agg(AggOp::CountAll, None))?;
-    let right = Expr::binary(alloc, BinOp::Lt, sum, added)?;
-    Ok(Expr::binary(alloc, BinOp::And, left, right)?)
+/// `sum($1) < count(*)`
+fn compared(alloc: Global) -> Result<Expr, Memory> {
+    let sum = Expr::aggregate(alloc, AggOp::Sum, Expr::Col(ColRef::ByPlace(1)))?;
+    Expr::binary(alloc, BinOp::Lt, sum, Expr::Agg(AggOp::CountAll, None))
 }
 
 /// The number of nodes of the left branch.
@@ -35,18 +31,19 @@ fn depth(expression: &Expr) -> u32 {
 
 #[test]
 fn copies_of_expressions(rt: HostRuntime) -> Result<(), Fail> {
-    let original = expression(rt.alloc())?;
-    let copy = original.copy(rt.alloc())?;
+    let alloc = rt.alloc();
+    let original = Expr::binary(alloc, BinOp::And, negated(alloc)?, compared(alloc)?)?;
+    let copy = original.copy(alloc)?;
     assert_eq!(rt; depth(&copy), 4);
     Ok(())
 }
 
 #[test]
 fn copies_of_statements(rt: HostRuntime) -> Result<(), Fail> {
-    let name = text(rt.alloc(), "A")?;
-    let source = Operand::Named(text(rt.alloc(), "B")?);
-    let original = Stmt::Assign(name, RelExpr::Copy(source));
-    let copy = original.copy(rt.alloc())?;
+    let alloc = rt.alloc();
+    let source = Operand::Named(Text::of(alloc, "B")?);
+    let original = Stmt::Assign(Text::of(alloc, "A")?, RelExpr::Copy(source));
+    let copy = original.copy(alloc)?;
     assert!(rt; matches!(copy, Stmt::Assign(_, RelExpr::Copy(Operand::Named(_)))));
     Ok(())
 }
