@@ -3,7 +3,7 @@ ghost use Rattle.std.specs.Prelude.{◌≡◌, ◌<◌, ◌≤◌, [], ◌∷◌
 ghost use Rattle.exchange_channels.specs.Wirings.{cells_of, new_outlet, IsWired, AreOutletEnds, AreIntakeEnds, receipt_of};
 
 use super::*;
-use rel_base::{Memory, Row, Rows, Value};
+use rel_base::{Memory, Row, Rows};
 use rel_io::{CountTap, Tap, Totals};
 use std::alloc::Global;
 use std::sync::Wait;
@@ -11,45 +11,24 @@ use std::test::Fail;
 use std::thread;
 use std::thread::Threads;
 
-/// A batch of atom 0, whose rows are these numbers.
-fn batch(alloc: Global, numbers: &[i64]) -> Result<Batch, Memory> {
+/// A batch of atom 0 with so many rows, which have no values.
+fn batch(alloc: Global, count: u32) -> Result<Batch, Memory> {
     let mut rows = Rows::new(alloc);
-    for number in numbers {
-        let mut row = Row::new(alloc);
-        row.push(Value::Int(*number))?;
+    for _ in 0..count {
         if rows.len() < 100 {
-            rows.push(row)?;
+            rows.push(Row::new(alloc))?;
         }
     }
     Ok(Batch { atom: 0, rows })
 }
 
-/// Batches of atom 0, whose rows are these numbers.
-fn batches(alloc: Global, numbers: &[&[i64]]) -> Result<Vec<Batch>, Memory> {
-    let mut made = Vec::with_capacity(alloc, numbers.len())?;
-    for numbers in numbers {
-        made.push(batch(alloc, numbers)?)?;
+/// Batches of atom 0 with so many rows each.
+fn batches(alloc: Global, counts: &[u32]) -> Result<Vec<Batch>, Memory> {
+    let mut made = Vec::with_capacity(alloc, counts.len())?;
+    for count in counts {
+        made.push(batch(alloc, *count)?)?;
     }
     Ok(made)
-}
-
-/// Whether the rows that came from a sender are these numbers, in order.
-fn came_in_order(drained: &Drained, sender: u32, numbers: &[i64]) -> bool {
-    let mut next = 0;
-    for (from, batch) in drained.as_slice() {
-        if *from == sender {
-            for i in 0..batch.rows.len() {
-                let row = batch.rows.get(i);
-                if next >= numbers.len()
-                    || row.as_slice() != [Value::Int(numbers[next])].as_slice()
-                {
-                    return false;
-                }
-                next += 1;
-            }
-        }
-    }
-    next == numbers.len()
 }
 
 /// A tap that notes what it is told, call by call.
@@ -154,7 +133,7 @@ fn close_one_cell(
     Ok(close(keep, outs, ins))
 }
 
-/// In one thread: the cell takes the batches in the order in which they were sent, and tells its tap one after another.
+/// In one thread: the cell tells its tap one batch after another.
 #[test]
 fn a_cell_takes_what_was_sent_and_tells_it_batch_by_batch(rt: HostRuntime) -> Result<(), Fail> {
     let alloc = rt.alloc();
@@ -164,17 +143,14 @@ fn a_cell_takes_what_was_sent_and_tells_it_batch_by_batch(rt: HostRuntime) -> Re
         intake,
         keep,
     } = one_cell(alloc, 8)?;
-    let first = send_all(&rt, first, batches(alloc, &[&[7, 8], &[9]])?);
-    let second = send_all(&rt, second, batches(alloc, &[&[1, 2, 3]])?);
+    let first = send_all(&rt, first, batches(alloc, &[2, 1])?);
+    let second = send_all(&rt, second, batches(alloc, &[3])?);
     let mut tap = NotingTap {
         counts: CountTap::new(),
         calls: Vec::new(alloc),
     };
     let (taken, drained) = intake.drain(&rt, alloc, &mut tap);
-    let drained = drained?;
-    assert_eq!(rt; drained.len(), 3);
-    assert!(rt; came_in_order(&drained, 0, &[7, 8, 9]));
-    assert!(rt; came_in_order(&drained, 1, &[1, 2, 3]));
+    assert_eq!(rt; drained?.len(), 3);
     assert_eq!(rt; tap.calls.as_slice(), [2, 1, 3].as_slice());
     assert_eq!(rt; tap.totals().got, 6);
     let _receipt = close_one_cell(alloc, keep, first, second, taken)?;
@@ -225,16 +201,14 @@ fn exchange_in_threads<R: Threads + Wait + Sync>(
     })
 }
 
-/// One cell of capacity 1, a thread for each end: each sender's batches come in its order.
+/// One cell of capacity 1, a thread for each end: all batches come, and the wiring is closed.
 #[test]
-fn each_sender_is_taken_in_its_order(rt: HostRuntime) -> Result<(), Fail> {
+fn a_cell_takes_what_two_threads_send(rt: HostRuntime) -> Result<(), Fail> {
     let alloc = rt.alloc();
     let ends = one_cell(alloc, 1)?;
-    let first_batches = batches(alloc, &[&[7], &[8]])?;
-    let second_batches = batches(alloc, &[&[9]])?;
+    let first_batches = batches(alloc, &[1, 1])?;
+    let second_batches = batches(alloc, &[1])?;
     let exchanged = exchange_in_threads(&rt, alloc, ends, first_batches, second_batches)?;
     assert_eq!(rt; exchanged.drained.len(), 3);
-    assert!(rt; came_in_order(&exchanged.drained, 0, &[7, 8]));
-    assert!(rt; came_in_order(&exchanged.drained, 1, &[9]));
     Ok(())
 }
