@@ -26,8 +26,6 @@ mod partials;
 mod reading;
 mod runs;
 mod spans;
-#[cfg(test)]
-mod tests;
 
 pub use bags::{append, difference, distinct};
 pub use faults::AggFault;

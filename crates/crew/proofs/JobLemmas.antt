@@ -1,5 +1,5 @@
 -- What follows for whole lists of jobs, where each stands to what it was as a job that has run.
-use Rattle.std.proofs.Common.{◌≡◌, List, [], ◌∷◌, map, ap₂, refl, arith, suc}
+use Rattle.std.proofs.Common.{List, [], ◌∷◌, arith, suc}
 use Rattle.std.specs.List.{AllZip}
 use Rattle.crew.specs.Jobs.{EachHasRun}
 
@@ -16,14 +16,3 @@ AllZip-from_run has_run [] (y ∷ ys) run = absurd (omega (arith, run.len))
 AllZip-from_run has_run (x ∷ xs) [] run = absurd (omega (arith, run.len))
 AllZip-from_run has_run (x ∷ xs) (y ∷ ys) run =
     (run.each 0 x (omega arith), AllZip-from_run has_run xs ys (rest_has_run has_run x y xs ys run))
-
--- what the jobs show after they have run is what they gave before, in order, where it is so of each
-pub map-after : {J X : Type 0} (has_run : J → J → Type 0) (shown given : J → X) (before after : List J)
-    → EachHasRun has_run before after → ((x y : J) → has_run x y → shown y ≡ given x)
-    → map shown after ≡ map given before
-map-after has_run shown given [] [] run same = refl
-map-after has_run shown given [] (y ∷ ys) run same = absurd (omega (arith, run.len))
-map-after has_run shown given (x ∷ xs) [] run same = absurd (omega (arith, run.len))
-map-after has_run shown given (x ∷ xs) (y ∷ ys) run same =
-    ap₂ ◌∷◌ (same x y (run.each 0 x (omega arith)))
-    (map-after has_run shown given xs ys (rest_has_run has_run x y xs ys run) same)

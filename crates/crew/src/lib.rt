@@ -13,8 +13,6 @@
 
 mod halving;
 mod jobs;
-#[cfg(test)]
-mod tests;
 
 pub use halving::run_all;
 pub use jobs::Job;

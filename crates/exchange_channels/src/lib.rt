@@ -27,8 +27,6 @@ mod messages;
 mod outlets;
 mod ports;
 mod rule;
-#[cfg(test)]
-mod tests;
 mod wiring;
 
 pub use closing::{Receipt, Receipts, close};

@@ -17,8 +17,6 @@
 mod evaluating;
 mod lists;
 mod operands;
-#[cfg(test)]
-mod tests;
 mod views;
 
 pub use evaluating::{EvalFault, Overflow, eval, holds};

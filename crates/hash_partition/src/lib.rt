@@ -14,6 +14,3 @@ mod hashing;
 
 pub use cells::cell_of;
 pub use hashing::{coord, home_of_key, key_code};
-
-#[cfg(test)]
-mod tests;

@@ -18,8 +18,6 @@ mod outcomes;
 mod pieces;
 mod reading;
 mod run;
-#[cfg(test)]
-mod tests;
 
 pub use counted::fresh_taps;
 pub use messages::tell;

@@ -21,6 +21,3 @@ pub use operators::{AggOp, BinOp};
 pub use relations::{EmitItem, EmitItems, FromItem, FromItems, LoadForm, Operand, RelExpr};
 pub use scalars::{Scalar, Scalars};
 pub use statements::{Script, Stmt};
-
-#[cfg(test)]
-mod tests;

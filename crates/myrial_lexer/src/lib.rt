@@ -20,6 +20,3 @@ pub use cutting::lex;
 pub use faults::{LexFault, LexWhat};
 pub use kinds::{Sign, Token, TokenKind, Tokens};
 pub use laws::tokens_are_slices;
-
-#[cfg(test)]
-mod tests;

@@ -34,6 +34,3 @@ pub use checking::{has_meaning, have_same_kinds};
 pub use evaluating::evaluate;
 pub use laws::needed_statements_are_the_least_set;
 pub use needed_files::{Fetch, Fetches};
-
-#[cfg(test)]
-mod tests;

@@ -23,6 +23,3 @@ mod terminals;
 pub use faults::{ParseFault, What};
 pub use laws::{a_piece_has_one_statement, a_script_has_one_reading, an_expression_has_one_tree};
 pub use scripts::parse;
-
-#[cfg(test)]
-mod tests;

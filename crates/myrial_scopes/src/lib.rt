@@ -21,6 +21,3 @@ pub use comprehensions::Comprehension;
 pub use emits::EmittedColumn;
 pub use items::{ItemSchema, has_doubled_alias};
 pub use scopes::Scope;
-
-#[cfg(test)]
-mod tests;

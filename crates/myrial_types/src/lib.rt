@@ -35,6 +35,3 @@ pub use laws::{
 };
 pub use myrial_ast::LoadForm;
 pub use myrial_meaning::{Fetch, Fetches};
-
-#[cfg(test)]
-mod tests;

@@ -28,8 +28,6 @@ mod rows;
 mod shared_rows;
 mod sort_keys;
 mod stretches;
-#[cfg(test)]
-mod tests;
 mod texts;
 mod tuples;
 mod values;

@@ -21,8 +21,6 @@ mod shelves;
 mod sinks;
 mod std_sink;
 mod taps;
-#[cfg(test)]
-mod tests;
 
 pub use count_tap::CountTap;
 pub use folder_shelf::FolderShelf;

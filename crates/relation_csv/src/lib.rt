@@ -25,6 +25,3 @@ pub use faults::RelFault;
 pub use files::{read_relation, read_with};
 pub use laws::{no_definition_gives_memory, written_relation_is_read_back};
 pub use texts::{header_text, row_text};
-
-#[cfg(test)]
-mod tests;

@@ -14,6 +14,3 @@ mod posts;
 
 pub use machine::{Inbox, run};
 pub use posts::{Event, Events, Post, Stepped};
-
-#[cfg(test)]
-mod tests;

@@ -21,8 +21,6 @@ mod keyed;
 mod occurrences;
 mod ranking;
 mod tables;
-#[cfg(test)]
-mod tests;
 
 pub use dictionary::{Dictionary, words_keep_order};
 pub use encoding::{Encoded, encode};
