@@ -10,7 +10,6 @@ use rel_base::{Memory, Row, Rows};
 use rel_io::{CountTap, Tap, Totals};
 use std::alloc::Global;
 use std::sync::Wait;
-use std::test::Fail;
 use std::thread;
 use std::thread::Threads;
 
@@ -138,43 +137,38 @@ fn close_one_cell(
 
 /// In one thread: the cell tells its tap one batch after another.
 #[test]
-fn a_cell_takes_what_was_sent_and_tells_it_batch_by_batch(rt: HostRuntime) -> Result<(), Fail> {
+fn a_cell_takes_what_was_sent_and_tells_it_batch_by_batch(rt: HostRuntime) -> Result<(), Memory> {
     let alloc = rt.alloc();
+    let first_batches = batches(alloc, &[2, 1])?;
+    let second_batches = batches(alloc, &[3])?;
     let OneCell {
         first,
         second,
         intake,
         keep,
     } = one_cell(alloc, 8)?;
-    let first = send_all(&rt, first, batches(alloc, &[2, 1])?);
-    let second = send_all(&rt, second, batches(alloc, &[3])?);
+    let first = send_all(&rt, first, first_batches);
+    let second = send_all(&rt, second, second_batches);
     let mut tap = NotingTap {
         counts: CountTap::new(),
         calls: Vec::new(alloc),
     };
     let (taken, drained) = intake.drain(&rt, alloc, &mut tap);
-    assert_eq!(rt; drained?.len(), 3);
+    assert_eq!(rt; drained.map(|batches| batches.len()), Ok(3));
     assert_eq!(rt; tap.calls.as_slice(), [2, 1, 3].as_slice());
     assert_eq!(rt; tap.totals().got, 6);
-    let _receipt = close_one_cell(alloc, keep, first, second, taken)?;
+    assert!(rt; close_one_cell(alloc, keep, first, second, taken).is_ok());
     Ok(())
 }
 
-/// What a cell of one wiring took and what was closed.
-#[derive(Drop)]
-struct Exchanged {
-    drained: Drained,
-    receipt: Receipt,
-}
-
-/// Sends and takes in three threads, one for each end.
+/// Sends and takes in three threads, one for each end: what the cell took.
 fn exchange_in_threads<R: Threads + Wait + Sync>(
     rt: &R,
     alloc: Global,
     ends: OneCell,
     first_batches: Vec<Batch>,
     second_batches: Vec<Batch>,
-) -> Result<Exchanged, Memory>
+) -> Result<Drained, Memory>
     requires { IsWired ends.keep (ends.first ∷ ends.second ∷ []) (ends.intake ∷ [])
         1 2 ends.keep.capacity }
 {
@@ -197,21 +191,18 @@ fn exchange_in_threads<R: Threads + Wait + Sync>(
             )
         },
     );
-    let receipt = close_one_cell(alloc, keep, first, second, taken)?;
-    Ok(Exchanged {
-        drained: drained?,
-        receipt,
-    })
+    close_one_cell(alloc, keep, first, second, taken)?;
+    drained
 }
 
 /// One cell of capacity 1, a thread for each end: all batches come, and the wiring is closed.
 #[test]
-fn a_cell_takes_what_two_threads_send(rt: HostRuntime) -> Result<(), Fail> {
+fn a_cell_takes_what_two_threads_send(rt: HostRuntime) -> Result<(), Memory> {
     let alloc = rt.alloc();
-    let ends = one_cell(alloc, 1)?;
     let first_batches = batches(alloc, &[1, 1])?;
     let second_batches = batches(alloc, &[1])?;
-    let exchanged = exchange_in_threads(&rt, alloc, ends, first_batches, second_batches)?;
-    assert_eq!(rt; exchanged.drained.len(), 3);
+    let ends = one_cell(alloc, 1)?;
+    let drained = exchange_in_threads(&rt, alloc, ends, first_batches, second_batches);
+    assert_eq!(rt; drained.map(|batches| batches.len()), Ok(3));
     Ok(())
 }

@@ -5,7 +5,6 @@ use crew::{Job, run_all};
 use std::alloc::{AllocError, Global};
 use std::sync::Wait;
 use std::sync::atomic::{AtomicU64, Ordering};
-use std::test::Fail;
 use std::thread;
 use std::thread::Threads;
 
@@ -65,7 +64,7 @@ fn have_met<R: Threads + Wait + Sync>(
 }
 
 #[test]
-fn all_jobs_run_at_once(rt: HostRuntime) -> Result<(), Fail> {
+fn all_jobs_run_at_once(rt: HostRuntime) -> Result<(), AllocError> {
     for size in SIZES {
         assert!(rt; have_met(&rt, rt.alloc(), size)?, "{size} jobs");
     }

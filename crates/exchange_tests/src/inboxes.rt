@@ -1,47 +1,53 @@
 //! The answers of an inbox to a list of events, one after another, and the inbox after them.
+use rel_base::Memory;
 use shuffle_core::{Event, Events, Inbox, Post, Stepped, run};
-use std::test::Fail;
+use std::alloc::Global;
 
-const fn post(sender: u32, label: Option<u64>) -> Post {
+fn post(sender: u32, label: Option<u64>) -> Post {
     Post { sender, label }
 }
 
-/// An inbox of two senders in which one post may wait.
-#[test]
-fn answers_as_the_worked_row(rt: HostRuntime) -> Result<(), Fail> {
-    let rows = [
-        (
-            "the first post",
-            Event::Send(post(0, Some(7))),
-            Stepped::Sent,
-        ),
+/// Events at an inbox of two senders in which one post may wait, each with its answer.
+fn steps() -> [(&'static str, Event, Stepped); 8] {
+    let (first, end) = (post(0, Some(7)), post(0, None));
+    [
+        ("the first post", Event::Send(first), Stepped::Sent),
         ("no room", Event::Send(post(1, Some(8))), Stepped::Full),
-        ("the front", Event::Take, Stepped::Took(post(0, Some(7)))),
+        ("the front", Event::Take, Stepped::Took(first)),
         ("nothing waits", Event::Take, Stepped::Empty),
-        ("an end mark", Event::Send(post(0, None)), Stepped::Sent),
-        ("the end mark", Event::Take, Stepped::Took(post(0, None))),
-        (
-            "behind the end mark",
-            Event::Send(post(0, Some(9))),
-            Stepped::Ended,
-        ),
-        (
-            "a stranger",
-            Event::Send(post(2, Some(1))),
-            Stepped::NoSender,
-        ),
-    ];
+        ("an end mark", Event::Send(end), Stepped::Sent),
+        ("the end mark", Event::Take, Stepped::Took(end)),
+        ("past the end", Event::Send(first), Stepped::Ended),
+        ("a stranger", Event::Send(post(2, None)), Stepped::NoSender),
+    ]
+}
+
+#[test]
+fn each_event_has_its_answer(rt: HostRuntime) -> Result<(), Memory> {
     let mut inbox = Inbox::new(rt.alloc(), 2, 1)?;
-    let mut events = Events::new(rt.alloc());
-    for (name, event, answer) in rows {
-        assert_eq!(rt; inbox.step(event)?, answer, "{name}");
-        assert!(rt; events.len() < 100);
-        events.push(event)?;
+    for (name, event, answer) in steps() {
+        assert_eq!(rt; inbox.step(event), Ok(answer), "{name}");
     }
-    let got = [post(0, Some(7)), post(0, None)];
-    assert_eq!(rt; inbox.got(), got.as_slice());
-    let after = run(rt.alloc(), 2, 1, &events)?;
-    assert_eq!(rt; after.got(), got.as_slice());
-    assert_eq!(rt; after.waiting(), [].as_slice());
+    assert_eq!(rt; inbox.got(), [post(0, Some(7)), post(0, None)].as_slice());
+    Ok(())
+}
+
+/// The events as a list.
+fn events_of(alloc: Global) -> Result<Events, Memory> {
+    let mut events = Events::new(alloc);
+    for (_, event, _) in steps() {
+        if events.len() < 8 {
+            events.push(event)?;
+        }
+    }
+    Ok(events)
+}
+
+#[test]
+fn a_run_takes_every_event(rt: HostRuntime) -> Result<(), Memory> {
+    let events = events_of(rt.alloc())?;
+    let inbox = run(rt.alloc(), 2, 1, &events)?;
+    assert_eq!(rt; inbox.got(), [post(0, Some(7)), post(0, None)].as_slice());
+    assert_eq!(rt; inbox.waiting(), [].as_slice());
     Ok(())
 }

@@ -3,7 +3,7 @@ use myrial_ast::Script;
 use myrial_lexer::lex;
 use myrial_parser::parse;
 use rel_base::{Files, Key, Memory, Text};
-use relation_csv::read_relation;
+use relation_csv::{RelFault, read_relation};
 use std::alloc::Global;
 use std::test::Fail;
 
@@ -27,9 +27,10 @@ fn key_of_r(alloc: Global) -> Result<Key, Memory> {
 }
 
 /// The files of which R, the one, has this text.
-pub(crate) fn files_of(alloc: Global, text: &str) -> Result<Files, Fail> {
+pub(crate) fn files_of(alloc: Global, text: &str) -> Result<Files, RelFault> {
     let relation = read_relation(alloc, text.as_bytes())?;
+    let key = key_of_r(alloc)?;
     let mut files = Files::new(alloc);
-    files.push((key_of_r(alloc)?, relation))?;
+    files.push((key, relation))?;
     Ok(files)
 }

@@ -1,22 +1,33 @@
 //! What scripts store of a file, evaluated with ample memory.
 use crate::fixtures::{files_of, script_of};
+use myrial_ast::Script;
 use myrial_meaning::{evaluate, has_meaning};
-use rel_base::Stored;
-use relation_csv::read_relation;
+use rel_base::{Files, RunFault, Stored};
+use relation_csv::{RelFault, read_relation};
 use std::alloc::Global;
 use std::process::Abort;
 use std::test::Fail;
+
+/// What a script stores of these files.
+fn evaluated(
+    rt: &impl Abort,
+    alloc: Global,
+    script: &Script,
+    files: &Files,
+) -> Result<Stored, RunFault> {
+    assert!(rt; has_meaning(alloc, script, files)?);
+    evaluate(alloc, script, files)
+}
 
 /// What a script stores where R has this text.
 fn stored_of(rt: &impl Abort, alloc: Global, source: &str, text: &str) -> Result<Stored, Fail> {
     let script = script_of(alloc, source)?;
     let files = files_of(alloc, text)?;
-    assert!(rt; has_meaning(alloc, &script, &files)?);
-    Ok(evaluate(alloc, &script, &files)?)
+    Ok(evaluated(rt, alloc, &script, &files)?)
 }
 
 /// Whether one relation is stored, which has the rows of this text in their order.
-fn is_stored(alloc: Global, stored: &Stored, text: &str) -> Result<bool, Fail> {
+fn is_stored(alloc: Global, stored: &Stored, text: &str) -> Result<bool, RelFault> {
     let wanted = read_relation(alloc, text.as_bytes())?;
     Ok(stored.len() == 1 && stored.get(0).1.rows() == wanted.rows())
 }
@@ -45,14 +56,5 @@ fn each_script_stores_its_relation(rt: HostRuntime) -> Result<(), Fail> {
         let stored = stored_of(&rt, alloc, source, text)?;
         assert!(rt; is_stored(alloc, &stored, wanted)?, "{source}");
     }
-    Ok(())
-}
-
-#[test]
-fn a_column_that_is_not_there_means_nothing(rt: HostRuntime) -> Result<(), Fail> {
-    let alloc = rt.alloc();
-    let script = script_of(alloc, "J = [from scan(R) as a emit a.z]; store(J, Out);")?;
-    let files = files_of(alloc, "x:int\n1\n")?;
-    assert!(rt; !has_meaning(alloc, &script, &files)?);
     Ok(())
 }

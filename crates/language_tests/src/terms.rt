@@ -3,7 +3,6 @@ use expr_eval::{EvalFault, Overflow, SideBySide, all_hold, emitted, eval, holds,
 use myrial_ast::{BinOp, Scalar, Scalars};
 use rel_base::{Memory, Row, Text, Value};
 use std::alloc::Global;
-use std::test::Fail;
 
 /// A row of one value.
 fn row_of(alloc: Global, value: Value) -> Result<Row, Memory> {
@@ -12,27 +11,43 @@ fn row_of(alloc: Global, value: Value) -> Result<Row, Memory> {
     Ok(row)
 }
 
-#[test]
-fn emits_of_rows_side_by_side(rt: HostRuntime) -> Result<(), Fail> {
-    let alloc = rt.alloc();
-    let left = row_of(alloc, Value::Int(7))?;
-    let right = row_of(alloc, Value::Str(Text::of(alloc, "seven")?))?;
-    let rows = [&left, &right];
-    let both = SideBySide { rows: &rows };
+/// The second column.
+fn second(alloc: Global) -> Result<Scalars, Memory> {
     let mut emits = Scalars::new(alloc);
     emits.push(Scalar::At(1))?;
-    let made = emitted(alloc, &emits, &both).ok().ok_or("a row")?;
-    assert_eq!(rt; made, right);
-    Ok(())
+    Ok(emits)
+}
+
+/// The row that is emitted of the second column where this one follows a row of one column.
+fn emitted_behind(alloc: Global, right: &Row) -> Result<Row, EvalFault> {
+    let left = row_of(alloc, Value::Int(7))?;
+    let rows = [&left, right];
+    emitted(alloc, &second(alloc)?, &SideBySide { rows: &rows })
 }
 
 #[test]
-fn sums_past_64_bits_overflow(rt: HostRuntime) -> Result<(), Fail> {
-    let alloc = rt.alloc();
-    let row = row_of(alloc, Value::Int(i64::MAX))?;
+fn emits_of_rows_side_by_side(rt: HostRuntime) -> Result<(), Memory> {
+    let text = Value::Str(Text::of(rt.alloc(), "seven")?);
+    let right = row_of(rt.alloc(), text)?;
+    let made = emitted_behind(rt.alloc(), &right);
+    assert!(rt; made.is_ok_and(|row| row == right));
+    Ok(())
+}
+
+/// The first column and 1.
+fn one_more(alloc: Global) -> Result<Scalar, Memory> {
     let one = Scalar::Lit(Value::Int(1));
-    let sum = Scalar::binary(alloc, BinOp::Add, Scalar::At(0), one)?;
-    assert_eq!(rt; eval(alloc, &sum, &row).err(), Some(EvalFault::Overflow));
+    Scalar::binary(alloc, BinOp::Add, Scalar::At(0), one)
+}
+
+#[test]
+fn sums_past_64_bits_overflow(rt: HostRuntime) -> Result<(), Memory> {
+    let sum = one_more(rt.alloc())?;
+    let row = row_of(rt.alloc(), Value::Int(i64::MAX))?;
+    assert_eq!(rt;
+        eval(rt.alloc(), &sum, &row).err(),
+        Some(EvalFault::Overflow)
+    );
     assert_eq!(rt; holds(&sum, &row), Err(Overflow));
     assert_eq!(rt; all_hold(&[sum], &row), Err(Overflow));
     assert_eq!(rt; plain_hold(&[], &row), true);

@@ -10,7 +10,6 @@ use rel_io::{Bytes, Contents, MemShelf, MemSink};
 use std::alloc::Global;
 use std::process::Abort;
 use std::sync::Wait;
-use std::test::Fail;
 use std::thread::Threads;
 
 /// A file: its name and its text.
@@ -22,13 +21,35 @@ type Failing = (u32, u32, u32);
 /// The exit status, the output and the line on standard error.
 type Wanted<'a> = (u8, &'a str, &'a str);
 
-const NAMED: [&str; 2] = ["myria", "q"];
+/// A run: what it shows, its words, its script, its relation, what fails, and what is wanted.
+type Case<'a> = (
+    &'a str,
+    &'a [&'a str],
+    File<'a>,
+    File<'a>,
+    Failing,
+    Wanted<'a>,
+);
+
+const NAMED: &[&str] = &["myria", "q"];
 
 const SCRIPT: File<'static> = ("q", "A = scan(R); store(A, Out);\n");
 
 const RELATION: File<'static> = ("public:adhoc:R.csv", "x:int,y:int\n3,1\n1,2\n2,5\n");
 
-const PRINTED: &str = "-- store public:adhoc:Out 3 rows\nx:int,y:int\n1,2\n2,5\n3,1\n";
+const JOIN: File<'static> = (
+    "q",
+    "J = [from scan(R) as a, scan(R) as b where a.y = b.x emit a.x, b.y]; store(J, Out);",
+);
+
+const LOAD: File<'static> = (
+    "q",
+    "P = load('p.txt', csv(schema(n:string, k:int), skip=1)); store(P, Out);",
+);
+
+const NO_SCRIPT: File<'static> = ("p", "");
+
+const NO_RELATION: File<'static> = ("public:adhoc:S.csv", "");
 
 fn bytes_of(alloc: Global, text: &str) -> Result<Bytes, Memory> {
     let mut bytes = Bytes::new(alloc);
@@ -68,134 +89,205 @@ fn words_of(alloc: Global, words: &[&str]) -> Result<Vec<Text>, Memory> {
     Ok(texts)
 }
 
-/// Runs the words over two files, and compares what comes out. Standard error takes a byte at once.
-fn compare_run<R: Abort + Threads + Wait + Sync>(
-    rt: &R,
+/// What a run reads and writes.
+#[derive(Drop)]
+struct Outside {
+    shelf: MemShelf,
+    out: MemSink,
+    err: MemSink,
+}
+
+/// Two files, and sinks that have taken nothing. Standard error takes a byte at once.
+fn outside_of(
     alloc: Global,
-    words: &[&str],
     script: File<'_>,
     relation: File<'_>,
     failing: Failing,
-    wanted: Wanted<'_>,
-) -> Result<(), Memory> {
-    assert!(rt; script.0 != relation.0);
+) -> Result<Outside, Memory>
+    requires { pointwise nat_eq script.0.now relation.0.now ≡ false }
+{
     let contents = two_files(alloc, script, relation)?;
-    let mut shelf = MemShelf::new(contents, one_place(alloc, failing.0)?);
-    let mut out = MemSink::new(alloc, 1000, one_place(alloc, failing.1)?);
-    let mut err = MemSink::new(alloc, 1, one_place(alloc, failing.2)?);
-    let mut taps = fresh_taps(alloc)?;
+    let fetch = one_place(alloc, failing.0)?;
+    let write = one_place(alloc, failing.1)?;
+    let line = one_place(alloc, failing.2)?;
+    Ok(Outside {
+        shelf: MemShelf::new(contents, fetch),
+        out: MemSink::new(alloc, 1000, write),
+        err: MemSink::new(alloc, 1, line),
+    })
+}
+
+/// Runs the words over two files, and compares what comes out.
+fn compare_run<R: Abort + Threads + Wait + Sync>(
+    rt: &R,
+    alloc: Global,
+    case: Case<'_>,
+) -> Result<(), Memory> {
+    let (name, words, script, relation, failing, wanted) = case;
+    assert!(rt; script.0 != relation.0);
+    let mut outside = outside_of(alloc, script, relation, failing)?;
     let words = words_of(alloc, words)?;
+    let mut taps = fresh_taps(alloc)?;
     let outcome = run_words(
         rt,
         alloc,
         words.as_slice(),
-        &mut shelf,
-        &mut out,
-        &mut err,
+        &mut outside.shelf,
+        &mut outside.out,
+        &mut outside.err,
         &mut taps,
     );
-    assert_eq!(rt; outcome.status(), wanted.0);
-    assert_eq!(rt; out.taken(), wanted.1.as_bytes());
-    assert_eq!(rt; err.taken(), wanted.2.as_bytes());
+    assert_eq!(rt; outcome.status(), wanted.0, "{name}");
+    assert_eq!(rt; outside.out.taken(), wanted.1.as_bytes(), "{name}");
+    assert_eq!(rt; outside.err.taken(), wanted.2.as_bytes(), "{name}");
     Ok(())
 }
 
-#[test]
-fn a_run_prints_what_the_script_stores(rt: HostRuntime) -> Result<(), Fail> {
-    let alloc = rt.alloc();
-    compare_run(
-        &rt,
-        alloc,
-        &NAMED,
+const PRINTING: [Case<'static>; 4] = [
+    (
+        "a scan",
+        NAMED,
         SCRIPT,
         RELATION,
         (0, 0, 0),
-        (0, PRINTED, ""),
-    )?;
-    // Doubled rows, a minus and a plus, ends of lines with a carriage return, and a name that needs quotes.
-    let odd = (
-        "public:adhoc:R.csv",
-        "\"a,b:int\",y:int\r\n7,-1\r\n-8,+2\r\n7,-1",
-    );
-    let printed = "-- store public:adhoc:Out 3 rows\n\"a,b:int\",y:int\n-8,2\n7,-1\n7,-1\n";
-    compare_run(&rt, alloc, &NAMED, SCRIPT, odd, (0, 0, 0), (0, printed, ""))?;
-    Ok(())
-}
+        (
+            0,
+            "-- store public:adhoc:Out 3 rows\nx:int,y:int\n1,2\n2,5\n3,1\n",
+            "",
+        ),
+    ),
+    (
+        "doubled rows, signs, carriage returns, and a name that needs quotes",
+        NAMED,
+        SCRIPT,
+        (
+            "public:adhoc:R.csv",
+            "\"a,b:int\",y:int\r\n7,-1\r\n-8,+2\r\n7,-1",
+        ),
+        (0, 0, 0),
+        (
+            0,
+            "-- store public:adhoc:Out 3 rows\n\"a,b:int\",y:int\n-8,2\n7,-1\n7,-1\n",
+            "",
+        ),
+    ),
+    (
+        "a file that is scanned twice, where a third fetch would fail",
+        NAMED,
+        JOIN,
+        ("public:adhoc:R.csv", "x:int,y:int\n1,2\n2,3\n2,3\n3,1\n"),
+        (3, 0, 0),
+        (
+            0,
+            "-- store public:adhoc:Out 5 rows\nx:int,y:int\n1,3\n1,3\n2,1\n2,1\n3,2\n",
+            "",
+        ),
+    ),
+    (
+        "a loaded file, which has its own name",
+        NAMED,
+        LOAD,
+        ("p.txt", "made by hand\nann,3\nbob,4\n"),
+        (0, 0, 0),
+        (
+            0,
+            "-- store public:adhoc:Out 2 rows\nn:string,k:int\nann,3\nbob,4\n",
+            "",
+        ),
+    ),
+];
 
-#[test]
-fn a_run_that_cannot_read_says_so(rt: HostRuntime) -> Result<(), Fail> {
-    let alloc = rt.alloc();
-    let (no_script, no_relation) = (("p", ""), ("public:adhoc:S.csv", ""));
-    let absent = (2, "", "myria: no script q\n");
-    compare_run(&rt, alloc, &NAMED, no_script, RELATION, (0, 0, 0), absent)?;
-    let absent = (6, "", "myria: no relation public:adhoc:R\n");
-    compare_run(&rt, alloc, &NAMED, SCRIPT, no_relation, (0, 0, 0), absent)?;
-    let failed = (11, "", "myria: cannot read q\n");
-    compare_run(&rt, alloc, &NAMED, SCRIPT, RELATION, (1, 0, 0), failed)?;
-    let failed = (11, "", "myria: cannot read public:adhoc:R.csv\n");
-    compare_run(&rt, alloc, &NAMED, SCRIPT, RELATION, (2, 0, 0), failed)?;
-    // Standard error fails at its sixth byte.
-    compare_run(
-        &rt,
-        alloc,
-        &NAMED,
-        no_script,
+const REFUSED: [Case<'static>; 9] = [
+    (
+        "no script",
+        NAMED,
+        NO_SCRIPT,
+        RELATION,
+        (0, 0, 0),
+        (2, "", "myria: no script q\n"),
+    ),
+    (
+        "no relation",
+        NAMED,
+        SCRIPT,
+        NO_RELATION,
+        (0, 0, 0),
+        (6, "", "myria: no relation public:adhoc:R\n"),
+    ),
+    (
+        "a script that can't be read",
+        NAMED,
+        SCRIPT,
+        RELATION,
+        (1, 0, 0),
+        (11, "", "myria: cannot read q\n"),
+    ),
+    (
+        "a relation that can't be read",
+        NAMED,
+        SCRIPT,
+        RELATION,
+        (2, 0, 0),
+        (11, "", "myria: cannot read public:adhoc:R.csv\n"),
+    ),
+    (
+        "standard error fails at its sixth byte",
+        NAMED,
+        NO_SCRIPT,
         RELATION,
         (0, 0, 6),
         (2, "", "myria"),
-    )?;
-    Ok(())
-}
-
-#[test]
-fn a_run_that_cannot_write_keeps_what_it_wrote(rt: HostRuntime) -> Result<(), Fail> {
-    let alloc = rt.alloc();
-    let line = "-- store public:adhoc:Out 3 rows\n";
-    let refused = (12, line, "myria: cannot write\n");
-    compare_run(&rt, alloc, &NAMED, SCRIPT, RELATION, (0, 2, 0), refused)?;
-    let refused = (12, "", "myria: cannot write\n");
-    compare_run(&rt, alloc, &NAMED, SCRIPT, RELATION, (0, 1, 0), refused)?;
-    Ok(())
-}
-
-#[test]
-fn words_that_name_no_script_are_refused(rt: HostRuntime) -> Result<(), Fail> {
-    let alloc = rt.alloc();
-    let refused = (14, "", "myria: not built\n");
-    compare_run(&rt, alloc, &["myria"], SCRIPT, RELATION, (0, 0, 0), refused)?;
-    let option = ["myria", "-q"];
-    compare_run(&rt, alloc, &option, SCRIPT, RELATION, (0, 0, 0), refused)?;
-    Ok(())
-}
-
-#[test]
-fn a_file_is_fetched_once(rt: HostRuntime) -> Result<(), Fail> {
-    let alloc = rt.alloc();
-    let join =
-        "J = [from scan(R) as a, scan(R) as b where a.y = b.x emit a.x, b.y]; store(J, Out);";
-    let edges = ("public:adhoc:R.csv", "x:int,y:int\n1,2\n2,3\n2,3\n3,1\n");
-    let printed = "-- store public:adhoc:Out 5 rows\nx:int,y:int\n1,3\n1,3\n2,1\n2,1\n3,2\n";
-    // A third fetch would fail.
-    let done = (0, printed, "");
-    compare_run(&rt, alloc, &NAMED, ("q", join), edges, (3, 0, 0), done)?;
-    Ok(())
-}
-
-#[test]
-fn a_loaded_file_has_its_own_name(rt: HostRuntime) -> Result<(), Fail> {
-    let alloc = rt.alloc();
-    let load = "P = load('p.txt', csv(schema(n:string, k:int), skip=1)); store(P, Out);";
-    let file = ("p.txt", "made by hand\nann,3\nbob,4\n");
-    let printed = "-- store public:adhoc:Out 2 rows\nn:string,k:int\nann,3\nbob,4\n";
-    let script = ("q", load);
-    compare_run(
-        &rt,
-        alloc,
-        &NAMED,
-        script,
-        file,
+    ),
+    (
+        "the second write fails",
+        NAMED,
+        SCRIPT,
+        RELATION,
+        (0, 2, 0),
+        (
+            12,
+            "-- store public:adhoc:Out 3 rows\n",
+            "myria: cannot write\n",
+        ),
+    ),
+    (
+        "the first write fails",
+        NAMED,
+        SCRIPT,
+        RELATION,
+        (0, 1, 0),
+        (12, "", "myria: cannot write\n"),
+    ),
+    (
+        "no word for the script",
+        &["myria"],
+        SCRIPT,
+        RELATION,
         (0, 0, 0),
-        (0, printed, ""),
-    )?;
+        (14, "", "myria: not built\n"),
+    ),
+    (
+        "an option",
+        &["myria", "-q"],
+        SCRIPT,
+        RELATION,
+        (0, 0, 0),
+        (14, "", "myria: not built\n"),
+    ),
+];
+
+#[test]
+fn a_run_prints_what_the_script_stores(rt: HostRuntime) -> Result<(), Memory> {
+    for case in PRINTING {
+        compare_run(&rt, rt.alloc(), case)?;
+    }
+    Ok(())
+}
+
+#[test]
+fn a_run_that_is_refused_says_why(rt: HostRuntime) -> Result<(), Memory> {
+    for case in REFUSED {
+        compare_run(&rt, rt.alloc(), case)?;
+    }
     Ok(())
 }

@@ -7,10 +7,9 @@ use rel_io::{
     Bytes, Contents, CountTap, FolderShelf, MemShelf, MemSink, Shelf, ShelfFault, Sink, SinkFault,
     StdSink, Tap, Totals, offer,
 };
-use std::alloc::{AllocError, Global};
+use std::alloc::Global;
 use std::fs;
 use std::process::Abort;
-use std::test::Fail;
 
 /// The list of one number.
 fn one_place(alloc: Global, number: u32) -> Result<Places, Memory> {
@@ -43,7 +42,7 @@ fn compare_fetches<F: Shelf>(
     alloc: Global,
     shelf: &mut F,
     table: &[(&str, &str, u64, Result<(), ShelfFault>, &[u8])],
-) -> Result<(), AllocError> {
+) -> Result<(), Memory> {
     for (case, name, most, answer, bytes) in table {
         let mut into = b"to: ".to_vec(alloc)?;
         assert_eq!(rt; shelf.fetch(name, *most, &mut into), *answer, "{case}");
@@ -59,7 +58,7 @@ fn compare_fetches<F: Shelf>(
 #[test]
 fn a_shelf_in_memory_gives_its_files_and_fails_where_it_is_told_to(
     rt: HostRuntime,
-) -> Result<(), Fail> {
+) -> Result<(), Memory> {
     let failing = one_place(rt.alloc(), 3)?;
     let mut shelf = MemShelf::new(two_files(rt.alloc())?, failing);
     compare_fetches(
@@ -100,15 +99,19 @@ fn a_shelf_in_memory_gives_its_files_and_fails_where_it_is_told_to(
 #[test]
 fn a_sink_in_memory_takes_pieces_and_fails_where_it_is_told_to(
     rt: HostRuntime,
-) -> Result<(), Fail> {
+) -> Result<(), Memory> {
     let failing = one_place(rt.alloc(), 3)?;
     let mut sink = MemSink::new(rt.alloc(), 2, failing);
-    assert_eq!(rt; sink.write(b"abc"), Ok(2));
-    assert_eq!(rt; offer(&mut sink, b"cdef"), Err(SinkFault::Failed));
-    assert_eq!(rt; sink.taken(), b"abcd".as_slice());
-    assert_eq!(rt; offer(&mut sink, b"efg"), Ok(()));
-    assert_eq!(rt; offer(&mut sink, b""), Ok(()));
-    assert_eq!(rt; sink.taken(), b"abcdefg".as_slice());
+    let table = [
+        ("two writes", "abc", Ok(()), "abc"),
+        ("the third write", "defg", Err(SinkFault::Failed), "abc"),
+        ("behind the fault", "def", Ok(()), "abcdef"),
+        ("nothing", "", Ok(()), "abcdef"),
+    ];
+    for (case, text, answer, taken) in table {
+        assert_eq!(rt; offer(&mut sink, text.as_bytes()), answer, "{case}");
+        assert_eq!(rt; sink.taken(), taken.as_bytes(), "{case}");
+    }
     Ok(())
 }
 
@@ -134,9 +137,9 @@ fn a_tap_counts_each_sum_apart_and_stops_at_the_end(rt: HostRuntime) {
 }
 
 #[test]
-fn a_folder_gives_its_files_and_tells_a_miss_from_a_fault(rt: HostRuntime) -> Result<(), Fail> {
+fn a_folder_gives_its_files_and_tells_a_miss_from_a_fault(rt: HostRuntime) -> Result<(), Memory> {
     let name = "a_file_of_a_folder_shelf";
-    fs::write(&rt, name, "alpha")?;
+    assert!(rt; fs::write(&rt, name, "alpha").is_ok());
     let long = "123456789 ".repeat(rt.alloc(), 500)?;
     let mut shelf = FolderShelf::new(&rt);
     compare_fetches(
@@ -177,12 +180,12 @@ fn a_folder_gives_its_files_and_tells_a_miss_from_a_fault(rt: HostRuntime) -> Re
             ),
         ],
     )?;
-    fs::remove_file(&rt, name)?;
+    assert!(rt; fs::remove_file(&rt, name).is_ok());
     Ok(())
 }
 
 #[test]
-fn standard_output_takes_a_piece_and_finishes(rt: HostRuntime) -> Result<(), Fail> {
+fn standard_output_takes_a_piece_and_finishes(rt: HostRuntime) -> Result<(), Memory> {
     let mut out = StdSink::buffered(rt.alloc(), rt.stdout())?;
     assert_eq!(rt; offer(&mut out, b"standard output\n"), Ok(()));
     assert_eq!(rt; out.finish(), Ok(()));
@@ -192,7 +195,9 @@ fn standard_output_takes_a_piece_and_finishes(rt: HostRuntime) -> Result<(), Fai
 }
 
 #[test]
-fn a_finish_that_cannot_hand_on_what_was_kept_back_is_a_fault(rt: HostRuntime) -> Result<(), Fail> {
+fn a_finish_that_cannot_hand_on_what_was_kept_back_is_a_fault(
+    rt: HostRuntime,
+) -> Result<(), Memory> {
     let mut room = [0; 3];
     let mut sink = StdSink::buffered(rt.alloc(), room.as_mut_slice())?;
     assert_eq!(rt; sink.write(b"abcd"), Ok(4));

@@ -2,7 +2,7 @@ use Rattle.std.proofs.Common.{◌≡◌, [], length, refl}
 use Rattle.std.proofs.lemmas.List.Elements.{All-cons, All-nil}
 use Rattle.std.proofs.lemmas.List.Sorted.{All-permutation}
 use Rattle.myrial_ast.specs.Combinations.{Row}
-use Rattle.language_tests.proofs.groups.partial_rows_are_merged.Goals as goal
+use Rattle.language_tests.proofs.groups.count_of_merged.Goals as goal
 
 pub merge-requires : goal.merge-requires
 merge-requires g c =
