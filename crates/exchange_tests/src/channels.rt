@@ -9,6 +9,7 @@ use exchange_channels::{
 use rel_base::{Memory, Row, Rows};
 use rel_io::{CountTap, Tap, Totals};
 use std::alloc::Global;
+use std::process::Abort;
 use std::sync::Wait;
 use std::thread;
 use std::thread::Threads;
@@ -135,29 +136,51 @@ fn close_one_cell(
     Ok(close(keep, outs, ins))
 }
 
+/// Sends and takes in one thread, one end after another: what the cell took.
+fn exchange_in_turn<R: Wait>(
+    rt: &R,
+    alloc: Global,
+    ends: OneCell,
+    first_batches: Vec<Batch>,
+    second_batches: Vec<Batch>,
+    tap: &mut NotingTap,
+) -> Result<Drained, Memory>
+    requires { IsWired ends.keep (ends.first ∷ ends.second ∷ []) (ends.intake ∷ [])
+        1 2 ends.keep.capacity }
+{
+    let OneCell {
+        first,
+        second,
+        intake,
+        keep,
+    } = ends;
+    let first = send_all(rt, first, first_batches);
+    let second = send_all(rt, second, second_batches);
+    let (taken, drained) = intake.drain(rt, alloc, tap);
+    close_one_cell(alloc, keep, first, second, taken)?;
+    drained
+}
+
+/// Compares what a tap was told of three batches.
+fn compare_calls(rt: &impl Abort, tap: &NotingTap) {
+    assert_eq!(rt; tap.calls.as_slice(), [2, 1, 3].as_slice());
+    assert_eq!(rt; tap.totals().got, 6);
+}
+
 /// In one thread: the cell tells its tap one batch after another.
 #[test]
 fn a_cell_takes_what_was_sent_and_tells_it_batch_by_batch(rt: HostRuntime) -> Result<(), Memory> {
     let alloc = rt.alloc();
     let first_batches = batches(alloc, &[2, 1])?;
     let second_batches = batches(alloc, &[3])?;
-    let OneCell {
-        first,
-        second,
-        intake,
-        keep,
-    } = one_cell(alloc, 8)?;
-    let first = send_all(&rt, first, first_batches);
-    let second = send_all(&rt, second, second_batches);
+    let ends = one_cell(alloc, 8)?;
     let mut tap = NotingTap {
         counts: CountTap::new(),
         calls: Vec::new(alloc),
     };
-    let (taken, drained) = intake.drain(&rt, alloc, &mut tap);
+    let drained = exchange_in_turn(&rt, alloc, ends, first_batches, second_batches, &mut tap);
     assert_eq!(rt; drained.map(|batches| batches.len()), Ok(3));
-    assert_eq!(rt; tap.calls.as_slice(), [2, 1, 3].as_slice());
-    assert_eq!(rt; tap.totals().got, 6);
-    assert!(rt; close_one_cell(alloc, keep, first, second, taken).is_ok());
+    compare_calls(&rt, &tap);
     Ok(())
 }
 

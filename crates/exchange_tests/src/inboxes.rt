@@ -2,6 +2,7 @@
 use rel_base::Memory;
 use shuffle_core::{Event, Events, Inbox, Post, Stepped, run};
 use std::alloc::Global;
+use std::process::Abort;
 
 fn post(sender: u32, label: Option<u64>) -> Post {
     Post { sender, label }
@@ -22,13 +23,20 @@ fn steps() -> [(&'static str, Event, Stepped); 8] {
     ]
 }
 
+/// Compares the posts that were got.
+fn compare_got(rt: &impl Abort, inbox: &Inbox) {
+    let wanted = [post(0, Some(7)), post(0, None)];
+    assert_eq!(rt; inbox.got(), wanted.as_slice());
+    assert_eq!(rt; inbox.waiting(), [].as_slice());
+}
+
 #[test]
 fn each_event_has_its_answer(rt: HostRuntime) -> Result<(), Memory> {
     let mut inbox = Inbox::new(rt.alloc(), 2, 1)?;
     for (name, event, answer) in steps() {
         assert_eq!(rt; inbox.step(event), Ok(answer), "{name}");
     }
-    assert_eq!(rt; inbox.got(), [post(0, Some(7)), post(0, None)].as_slice());
+    compare_got(&rt, &inbox);
     Ok(())
 }
 
@@ -47,7 +55,6 @@ fn events_of(alloc: Global) -> Result<Events, Memory> {
 fn a_run_takes_every_event(rt: HostRuntime) -> Result<(), Memory> {
     let events = events_of(rt.alloc())?;
     let inbox = run(rt.alloc(), 2, 1, &events)?;
-    assert_eq!(rt; inbox.got(), [post(0, Some(7)), post(0, None)].as_slice());
-    assert_eq!(rt; inbox.waiting(), [].as_slice());
+    compare_got(&rt, &inbox);
     Ok(())
 }

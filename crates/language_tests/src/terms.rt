@@ -3,6 +3,7 @@ use expr_eval::{EvalFault, Overflow, SideBySide, all_hold, emitted, eval, holds,
 use myrial_ast::{BinOp, Scalar, Scalars};
 use rel_base::{Memory, Row, Text, Value};
 use std::alloc::Global;
+use std::process::Abort;
 
 /// A row of one value.
 fn row_of(alloc: Global, value: Value) -> Result<Row, Memory> {
@@ -34,22 +35,28 @@ fn emits_of_rows_side_by_side(rt: HostRuntime) -> Result<(), Memory> {
     Ok(())
 }
 
-/// The first column and 1.
-fn one_more(alloc: Global) -> Result<Scalar, Memory> {
+/// The first column and 1, as the one term of a list.
+fn one_more(alloc: Global) -> Result<Scalars, Memory> {
     let one = Scalar::Lit(Value::Int(1));
-    Scalar::binary(alloc, BinOp::Add, Scalar::At(0), one)
+    let mut terms = Scalars::new(alloc);
+    terms.push(Scalar::binary(alloc, BinOp::Add, Scalar::At(0), one)?)?;
+    Ok(terms)
+}
+
+/// Sees that each term overflows on a row, and that all of them do as tests.
+fn compare_overflows(rt: &impl Abort, alloc: Global, terms: &Scalars, row: &Row) {
+    for term in terms.as_slice() {
+        assert_eq!(rt; eval(alloc, term, row).err(), Some(EvalFault::Overflow));
+        assert_eq!(rt; holds(term, row), Err(Overflow));
+    }
+    assert_eq!(rt; all_hold(terms.as_slice(), row), Err(Overflow));
+    assert_eq!(rt; plain_hold(&[], row), true);
 }
 
 #[test]
 fn sums_past_64_bits_overflow(rt: HostRuntime) -> Result<(), Memory> {
-    let sum = one_more(rt.alloc())?;
+    let terms = one_more(rt.alloc())?;
     let row = row_of(rt.alloc(), Value::Int(i64::MAX))?;
-    assert_eq!(rt;
-        eval(rt.alloc(), &sum, &row).err(),
-        Some(EvalFault::Overflow)
-    );
-    assert_eq!(rt; holds(&sum, &row), Err(Overflow));
-    assert_eq!(rt; all_hold(&[sum], &row), Err(Overflow));
-    assert_eq!(rt; plain_hold(&[], &row), true);
+    compare_overflows(&rt, rt.alloc(), &terms, &row);
     Ok(())
 }

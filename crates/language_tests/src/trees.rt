@@ -22,10 +22,19 @@ fn both(alloc: Global) -> Result<Expr, Memory> {
     Expr::binary(alloc, BinOp::And, left, compared(alloc)?)
 }
 
+/// A copy of it.
+fn copy_of_both(alloc: Global) -> Result<Expr, Memory> {
+    both(alloc)?.copy(alloc)
+}
+
+fn is_and(expression: &Expr) -> bool {
+    matches!(expression, Expr::Bin(BinOp::And, _, _))
+}
+
 #[test]
 fn an_expression_is_copied(rt: HostRuntime) -> Result<(), Memory> {
-    let copy = both(rt.alloc())?.copy(rt.alloc())?;
-    assert!(rt; matches!(copy, Expr::Bin(BinOp::And, _, _)));
+    let copy = copy_of_both(rt.alloc())?;
+    assert!(rt; is_and(&copy));
     Ok(())
 }
 
@@ -35,9 +44,18 @@ fn assignment(alloc: Global) -> Result<Stmt, Memory> {
     Ok(Stmt::Assign(Text::of(alloc, "A")?, RelExpr::Copy(source)))
 }
 
+/// A copy of it.
+fn copy_of_assignment(alloc: Global) -> Result<Stmt, Memory> {
+    assignment(alloc)?.copy(alloc)
+}
+
+fn is_assignment(statement: &Stmt) -> bool {
+    matches!(statement, Stmt::Assign(_, _))
+}
+
 #[test]
 fn a_statement_is_copied(rt: HostRuntime) -> Result<(), Memory> {
-    let copy = assignment(rt.alloc())?.copy(rt.alloc())?;
-    assert!(rt; matches!(copy, Stmt::Assign(_, RelExpr::Copy(Operand::Named(_)))));
+    let copy = copy_of_assignment(rt.alloc())?;
+    assert!(rt; is_assignment(&copy));
     Ok(())
 }

@@ -4,7 +4,7 @@ ghost use Rattle.std.specs.Prelude.{◌≡◌, false, IfOk, nat_eq};
 ghost use Rattle.std.specs.Cmp.Lexicographic.{pointwise};
 ghost use Rattle.rel_io.specs.InMemory.{HasDistinctNames};
 
-use myria_top::{fresh_taps, run_words};
+use myria_top::{Outcome, fresh_taps, run_words};
 use rel_base::{Memory, Places, Text};
 use rel_io::{Bytes, Contents, MemShelf, MemSink};
 use std::alloc::Global;
@@ -117,6 +117,19 @@ fn outside_of(
     })
 }
 
+/// Compares what a run answered and wrote.
+fn compare_answer(
+    rt: &impl Abort,
+    name: &str,
+    outcome: &Outcome,
+    outside: &Outside,
+    wanted: Wanted<'_>,
+) {
+    assert_eq!(rt; outcome.status(), wanted.0, "{name}");
+    assert_eq!(rt; outside.out.taken(), wanted.1.as_bytes(), "{name}");
+    assert_eq!(rt; outside.err.taken(), wanted.2.as_bytes(), "{name}");
+}
+
 /// Runs the words over two files, and compares what comes out.
 fn compare_run<R: Abort + Threads + Wait + Sync>(
     rt: &R,
@@ -137,9 +150,7 @@ fn compare_run<R: Abort + Threads + Wait + Sync>(
         &mut outside.err,
         &mut taps,
     );
-    assert_eq!(rt; outcome.status(), wanted.0, "{name}");
-    assert_eq!(rt; outside.out.taken(), wanted.1.as_bytes(), "{name}");
-    assert_eq!(rt; outside.err.taken(), wanted.2.as_bytes(), "{name}");
+    compare_answer(rt, name, &outcome, &outside, wanted);
     Ok(())
 }
 
