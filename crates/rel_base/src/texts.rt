@@ -4,8 +4,8 @@ ghost use Rattle.std.specs.Ordering.{nat_cmp};
 ghost use Rattle.std.specs.Cmp.Lexicographic.{pointwise, slice_cmp, nat_list_eq_equiv, nat_list_cmp_total, texts_ties, texts_po};
 ghost use Rattle.std.specs.Cmp.{partial_equiv_from_equiv};
 
+use crate::short_texts::ShortText;
 use crate::{Duplicate, Memory};
-use arrayvec::ArrayString;
 use std::alloc::Global;
 use std::cmp::Ordering;
 use std::fmt;
@@ -14,7 +14,7 @@ use std::marker::Model;
 
 /// UTF-8 text, which contracts see as its bytes. It is ordered by its bytes.
 ///
-/// The text stands behind one pointer, so that a `Value` has 16 bytes. A short one takes one allocation.
+/// The text stands behind one pointer, so that a `Value` has 16 bytes. A short one takes one allocation, of 24 bytes.
 #[derive(Drop)]
 pub struct Text {
     boxed: Box<Letters>,
@@ -24,9 +24,9 @@ pub struct Text {
 #[derive(Drop)]
 pub enum Letters {
     /// In the value itself.
-    Short(ArrayString<23>),
+    Short(ShortText),
     /// In memory of their own.
-    Long(String),
+    Long(Box<String>),
 }
 
 impl Model for Text {
@@ -43,9 +43,9 @@ impl Text {
     pub fn of(alloc: Global, s: &str) -> Result<Text, Memory>
         ensures { IfOk result (λ made. made ≡ s.now) }
     {
-        let letters = match ArrayString::from(s) {
-            Ok(short) => Letters::Short(short),
-            Err(_) => Letters::Long(String::from_str(alloc, s)?),
+        let letters = match ShortText::of(s) {
+            Some(short) => Letters::Short(short),
+            None => Letters::Long(Box::new(alloc, String::from_str(alloc, s)?)?),
         };
         let boxed = Box::new(alloc, letters)?;
         Ok(Text { boxed })

@@ -6,5 +6,5 @@ use Rattle.rel_base.specs.declared.texts.Letters.TheVariants.{Short, Long}
 
 -- the bytes, wherever they stand
 abbrev pub bytes_in : Letters → List ℕ
-bytes_in (Short short) = short.bytes
-bytes_in (Long long) = string_bytes long
+bytes_in (Short short) = short
+bytes_in (Long long) = string_bytes long.value
