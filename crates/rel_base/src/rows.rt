@@ -109,6 +109,7 @@ impl Rows {
     }
 
     /// Adds a row at the end. After `Memory` the list is as it was, and the row is let go.
+    #[inline(always)]
     pub fn push(&mut self, row: Row) -> Result<(), Memory>
         requires { length self.old < 2 ^ 32 - 1 }
         ensures ok { OnOk result (self.new ≡ self.old ++ row ∷ []) }

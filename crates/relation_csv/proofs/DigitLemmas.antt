@@ -1,5 +1,6 @@
 -- Digits read one by one, and the number of a field that has nothing else.
 use Rattle.std.proofs.Common.{◌≡◌, ◌∙◌, ℕ, zero, suc, ◌+◌, ◌-◌, ◌*◌, ◌^◌, ◌<◌, ◌≤◌, pos, true, Some, List, [], ◌∷◌, ◌++◌, length, take, refl, sym, ap, arith, length-take}
+use Rattle.std.specs.Char.{digit_value}
 use Rattle.std.specs.Int.{IsInRange}
 use Rattle.std.specs.Str.{all_ascii_digits}
 use Rattle.std.specs.Str.Parse.{digits_value, digits_value_after}
@@ -27,7 +28,7 @@ all_ascii_digits-push (b ∷ bytes) c all digit =
 digits_value-push : (n : ℕ) (bytes : List ℕ) (c : ℕ) → IsInRange 48 57 c
     → digits_value_after 10 n (bytes ++ c ∷ []) ≡ 10 * digits_value_after 10 n bytes + (c - 48)
 digits_value-push n [] c digit = omega (arith, digit_value_digit c digit)
-digits_value-push n (b ∷ bytes) c digit = digits_value-push _ bytes c digit
+digits_value-push n (b ∷ bytes) c digit = digits_value-push (n * 10 + digit_value b) bytes c digit
 
 -- a digit more
 pub AreDigitsOf-push : (bytes : List ℕ) (number c : ℕ) → AreDigitsOf bytes number → IsInRange 48 57 c
@@ -53,6 +54,7 @@ int_of_field-digits (c ∷ rest) number are some few =
     rw (
       ne_eqb c 45 (λ e. omega arith),
       ne_eqb c 43 (λ e. omega arith),
+      ne_eqb (length (c ∷ rest)) 0 (λ e. omega arith),
       are.digits,
       lt-ltb _ _ small,
       are.is_number,
