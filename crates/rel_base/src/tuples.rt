@@ -30,6 +30,7 @@ impl Model for Row {
 
 impl Row {
     /// A row without values, which takes no memory until its fourth value comes.
+    #[inline(always)]
     pub fn new(alloc: Global) -> Row
         ensures { result ≡ [] }
     {
@@ -69,6 +70,7 @@ impl Row {
     }
 
     /// Adds a value at the end. After `Memory` the row is as it was, and the value is let go.
+    #[inline(always)]
     pub fn push(&mut self, value: Value) -> Result<(), Memory>
         requires { length self.old < 2 ^ 32 - 1 }
         ensures ok { OnOk result (self.new ≡ self.old ++ value ∷ []) }
