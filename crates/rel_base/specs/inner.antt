@@ -5,3 +5,4 @@ pub mod Starts
 pub mod Fronts
 pub mod Beginnings
 pub mod Letters
+pub mod PlacesLeft

@@ -4,7 +4,7 @@ ghost use Rattle.rel_base.specs.Picks.{items_at, every_nth};
 ghost use Rattle.rel_base.specs.inner.Strides.{stepped};
 
 use crate::blocks::Block;
-use crate::row_iter::StretchIter;
+use crate::row_iter::{PlaceIter, StretchIter};
 use crate::{Duplicate, Memory, Row};
 use std::alloc::Global;
 use std::marker::Model;
@@ -142,7 +142,17 @@ impl Stretch {
     pub fn iter(&self) -> StretchIter<'_>
         ensures { result ≡ self.now }
     {
-        StretchIter::of(self)
+        let places = match &self.selection {
+            Selection::Every { start, step, len } => PlaceIter::Every {
+                next: *start,
+                step: *step,
+                len: *len,
+            },
+            Selection::At { places } => PlaceIter::At {
+                places: places.as_slice(),
+            },
+        };
+        StretchIter::of(self.block.as_slice(), places)
     }
 }
 
