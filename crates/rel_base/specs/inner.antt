@@ -6,3 +6,4 @@ pub mod Fronts
 pub mod Beginnings
 pub mod Letters
 pub mod PlacesLeft
+pub mod RowValues
