@@ -11,6 +11,7 @@ use std::cmp::Ordering;
 use std::fmt;
 use std::hash::{Hash, Hasher};
 use std::marker::Model;
+use std::mem::size_of;
 
 /// UTF-8 text, which contracts see as its bytes. It is ordered by its bytes.
 ///
@@ -28,6 +29,9 @@ pub enum Letters {
     /// In memory of their own.
     Long(Box<String>),
 }
+
+// A piece of memory of 24 bytes is the least that `malloc` gives.
+const _: () = prove!(size_of::<Letters>() == 24);
 
 impl Model for Text {
     ghost use Rattle.std.specs.Prelude.{List, ℕ};

@@ -8,6 +8,7 @@ use std::alloc::Global;
 use std::cmp::Ordering;
 use std::fmt;
 use std::marker::Model;
+use std::mem::size_of;
 
 /// A row of a relation: a list of at most 4,294,967,295 values, ordered column by column as std compares lists.
 ///
@@ -17,6 +18,8 @@ pub struct Row {
     values: Values,
     alloc: Global,
 }
+
+const _: () = prove!(size_of::<Row>() == 56);
 
 impl Model for Row {
     ghost use Rattle.std.specs.Prelude.{List, ◌^◌, ◌<◌, length};
