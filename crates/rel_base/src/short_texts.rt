@@ -1,5 +1,5 @@
 //! Short texts, which need no memory of their own.
-ghost use Rattle.std.specs.Prelude.{◌≡◌, IfSome};
+ghost use Rattle.std.specs.Prelude.{◌≡◌, ◌≤◌, [], length};
 
 use std::marker::Model;
 use std::str;
@@ -22,20 +22,29 @@ impl Model for ShortText {
 }
 
 impl ShortText {
-    /// The same text; `None` where it has more bytes.
-    pub fn of(s: &str) -> Option<ShortText>
-        ensures { IfSome result (λ made. made ≡ s.now) }
+    /// The most bytes that it holds.
+    pub const MOST: usize = 22;
+
+    /// The empty text.
+    #[inline(always)]
+    pub fn new() -> ShortText
+        ensures { result ≡ [] }
     {
-        let mut bytes = [0; 22];
-        let len = s.len();
-        if len > bytes.len() {
-            return None;
+        ShortText {
+            len: 0,
+            bytes: [0; 22],
         }
-        bytes[..len].copy_from_slice(s.as_bytes());
-        Some(ShortText {
-            len: len as u8,
-            bytes,
-        })
+    }
+
+    /// Writes a text over this one, where it stands.
+    #[inline(always)]
+    pub fn set(&mut self, s: &str)
+        requires { length s.now ≤ 22 }
+        ensures { self.new ≡ s.now }
+    {
+        let len = s.len();
+        self.bytes[..len].copy_from_slice(s.as_bytes());
+        self.len = len as u8;
     }
 
     /// The text.

@@ -1,5 +1,5 @@
 //! Text: names and string values.
-ghost use Rattle.std.specs.Prelude.{◌≡◌, IfOk, Some, nat_eq, refl};
+ghost use Rattle.std.specs.Prelude.{◌≡◌, ◌≤◌, length, IfOk, Some, nat_eq, refl};
 ghost use Rattle.std.specs.Ordering.{nat_cmp};
 ghost use Rattle.std.specs.Cmp.Lexicographic.{pointwise, slice_cmp, nat_list_eq_equiv, nat_list_cmp_total, texts_ties, texts_po};
 ghost use Rattle.std.specs.Cmp.{partial_equiv_from_equiv};
@@ -33,6 +33,23 @@ pub enum Letters {
 // A piece of memory of 24 bytes is the least that `malloc` gives.
 const _: () = prove!(size_of::<Letters>() == 24);
 
+impl Letters {
+    ghost use Rattle.rel_base.specs.inner.Letters.{IsShort, bytes_in};
+
+    /// Writes a short text over another one, where it stands.
+    #[inline(always)]
+    fn set_short(&mut self, s: &str)
+        requires short { IsShort self.old }
+        requires room { length s.now ≤ 22 }
+        ensures { bytes_in self.new ≡ s.now }
+    {
+        match self {
+            Letters::Short(short) => short.set(s),
+            Letters::Long(_) => unreachable!(),
+        }
+    }
+}
+
 impl Model for Text {
     ghost use Rattle.std.specs.Prelude.{List, ℕ};
     ghost use Rattle.rel_base.specs.inner.Letters.{bytes_in};
@@ -47,11 +64,13 @@ impl Text {
     pub fn of(alloc: Global, s: &str) -> Result<Text, Memory>
         ensures { IfOk result (λ made. made ≡ s.now) }
     {
-        let letters = match ShortText::of(s) {
-            Some(short) => Letters::Short(short),
-            None => Letters::Long(Box::new(alloc, String::from_str(alloc, s)?)?),
-        };
-        let boxed = Box::new(alloc, letters)?;
+        if s.len() > ShortText::MOST {
+            let long = Box::new(alloc, String::from_str(alloc, s)?)?;
+            let boxed = Box::new(alloc, Letters::Long(long))?;
+            return Ok(Text { boxed });
+        }
+        let mut boxed = Box::new(alloc, Letters::Short(ShortText::new()))?;
+        boxed.set_short(s);
         Ok(Text { boxed })
     }
 
