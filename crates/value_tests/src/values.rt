@@ -37,8 +37,8 @@ fn texts_short_and_long_are_copied_and_compared(rt: HostRuntime) -> Result<(), M
         "",
         "10",
         "9",
-        "librust-aaaaaaaaaaaaaaa",
-        "librust-aaaaaaaaaaaaaaab",
+        "librust-aaaaaaaaaaaaaa",
+        "librust-aaaaaaaaaaaaaab",
         "é",
     ];
     for i in 1..ascending.len() {
@@ -180,6 +180,15 @@ fn rows_are_picked_by_their_places(rt: HostRuntime) -> Result<(), Memory> {
     let rows = shared_rows_of(alloc, &[7, 1])?;
     assert!(rt; rows.len() == 2);
     assert_eq!(rt; rows.at_places(alloc, &[1, 0, 1])?.len(), 3);
+    Ok(())
+}
+
+#[test]
+fn a_range_is_cut_out_of_rows(rt: HostRuntime) -> Result<(), Memory> {
+    let alloc = rt.alloc();
+    let rows = shared_rows_of(alloc, &[7, 1, 5, 3, 9])?;
+    assert!(rt; rows.len() == 5);
+    assert_eq!(rt; rows.slice(alloc, 1, 4)?, rows_of(alloc, &[1, 5, 3])?);
     Ok(())
 }
 
