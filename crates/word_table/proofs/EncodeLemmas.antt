@@ -1,5 +1,5 @@
 -- The words of parts, one after another, cut into the parts' tables; and what a sort leaves of occurrences.
-use Rattle.std.proofs.Common.{◌≡◌, ℕ, suc, ◌+◌, ◌*◌, ◌<◌, ◌≤◌, true, false, List, [], ◌∷◌, ◌++◌, length, get_or, take, drop, map, refl, ap, ◌∙◌, sym, subst, All, arith, inl, inr, length-append, append-nil, drop-cons}
+use Rattle.std.proofs.Common.{◌≡◌, ℕ, suc, ◌+◌, ◌*◌, ◌<◌, ◌≤◌, false, List, [], ◌∷◌, ◌++◌, length, get_or, take, drop, map, refl, ap, ◌∙◌, sym, All, arith, inl, inr, length-append, append-nil, drop-cons}
 use Rattle.std.specs.Prelude.{IsSorted}
 use Rattle.std.specs.List.{flat_map}
 use Rattle.std.specs.declared.cmp.Ordering.{Ordering}
@@ -14,7 +14,7 @@ use Rattle.rel_base.specs.declared.values.Value.{Value}
 use Rattle.word_table.specs.WordTables.{WordTable, cut_into}
 use Rattle.word_table.specs.Words.{text_order, word_of}
 use Rattle.word_table.specs.Encodings.{AreWide, AreTablesOf}
-use Rattle.word_table.specs.declared.occurrences.Occurrence.{Occurrence}
+use Rattle.word_table.specs.declared.numbering.Occurrence.{Occurrence}
 use Rattle.word_table.specs.inner.Gathered.{values_of_rows, values_in, Rise}
 use Rattle.word_table.proofs.TableLemmas.{cut_into-flat_map, length-flat_map_wide}
 

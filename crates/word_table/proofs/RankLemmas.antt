@@ -1,24 +1,23 @@
 -- Ranks of sorted occurrences: how they are found one after another, and that they are the words of the strings.
-use Rattle.std.proofs.Common.{◌≡◌, ◌≢◌, ℕ, zero, suc, ◌+◌, ◌-◌, ◌<◌, ◌≤◌, true, false, List, [], ◌∷◌, ◌++◌, length, get_or, map, refl, ap, ◌∙◌, sym, subst, All, arith, inl, inr, length-append, get_or-set_other, get_or-set_same}
-use Rattle.std.specs.Prelude.{Contains, IsPermutation, IsSorted}
+use Rattle.std.proofs.Common.{◌≡◌, ◌≢◌, ℕ, zero, suc, ◌+◌, ◌-◌, ◌<◌, ◌≤◌, true, false, List, [], ◌∷◌, ◌++◌, length, get_or, take, map, refl, ap, ◌∙◌, sym, subst, All, arith, inl, inr, length-append, get_or-set_other, get_or-set_same}
+use Rattle.std.specs.Prelude.{Contains, AllPairs, IsPermutation}
 use Rattle.std.specs.List.{flat_map}
 use Rattle.std.specs.declared.cmp.Ordering.{Ordering}
 use Rattle.std.specs.declared.cmp.Ordering.TheVariants.{Less, Equal, Greater}
 use Rattle.std.specs.Ordering.{is_lt, ordering_reverse}
 use Rattle.std.proofs.lemmas.Bool.{cases_lt, cases_eq}
 use Rattle.std.proofs.lemmas.Cmp.{nat_list_cmp_total}
-use Rattle.std.proofs.lemmas.List.{get_or_append_left, get_or-append-add, get_or_default, get_or-map, length-map, ext_get_or, length-set}
+use Rattle.std.proofs.lemmas.List.{get_or_append_left, get_or-append-add, get_or_default, get_or-map, get_or-take, length-map, length-take-le, ext_get_or, length-set}
 use Rattle.std.proofs.lemmas.List.Concat.{flat_map-append, flat_map-cons}
-use Rattle.std.proofs.lemmas.List.Elements.{Contains-append_cases}
+use Rattle.std.proofs.lemmas.List.Elements.{Contains-append_cases, Contains-get_or}
 use Rattle.std.proofs.lemmas.List.Quantifiers.{all_pairs_push}
 use Rattle.std.proofs.lemmas.List.Sorted.{All-permutation, Contains-permutation}
 use Rattle.std.proofs.Math.ListN.{set}
 use Rattle.rel_base.specs.declared.values.Value.{Value}
 use Rattle.rel_base.specs.declared.values.Value.TheVariants as variant
 use Rattle.word_table.specs.Words.{text_order, strings_of_value, strings_of_rows, strings_in, IsAscending, IsDictionaryOf, rank, word_of, HasWord}
-use Rattle.word_table.specs.declared.occurrences.Occurrence.{Occurrence}
-use Rattle.word_table.specs.inner.Gathered.{value_at, StandsAt, IsGathered, values_of_rows, values_in, Rise, IsLast, IsRanked}
-use Rattle.word_table.proofs.BuildLemmas.{Contains-flat_map}
+use Rattle.word_table.specs.declared.numbering.Occurrence.{Occurrence}
+use Rattle.word_table.specs.inner.Gathered.{value_at, StandsAt, IsNumber, AreNumbered, IsGathered, values_of_rows, values_in, Rise, IsLast, IsRanked, HasRanks}
 use Rattle.word_table.proofs.WordLemmas.{same_text, rank_at}
 
 pub IsRanked-none : (found : List Occurrence) (words : List ℕ) → IsRanked found 0 [] words words
@@ -185,42 +184,125 @@ strings_of_values parts = sym (flat_map-flat_map values_of_rows strings_of_value
     inside (x ∷ l) =
         flat_map-cons (λ y. flat_map strings_of_value (values_of_rows y)) x l ∙ (λ i. rows x i ++ inside l i) ∙ sym (flat_map-cons strings_of_rows x l)
 
-module _ (parts : List (List (List Value))) (words : List ℕ) (found sorted : List Occurrence) (gathered : IsGathered (values_in parts) words found) (moved : IsPermutation found sorted) (strings : List (List ℕ)) (new : List ℕ) (ranks : IsRanked sorted (length sorted) strings words new) where
-  stand : All (StandsAt (values_in parts)) sorted
-  stand = All-permutation (StandsAt (values_in parts)) found sorted moved gathered.stand
+-- ---- ranks in place of numbers
+
+pub HasRanks-none : (ranks words : List ℕ) → HasRanks [] ranks words words
+HasRanks-none ranks words = record {
+  long = refl;
+  ranked = λ k d h. absurd (omega arith);
+  others = λ p none. refl;
+}
+
+-- a place has not been written before
+pub kept-before : (places : List ℕ) (count : ℕ) (ranks old mid : List ℕ) → AllPairs (λ p q. p < q) places → count < length places → HasRanks (take count places) ranks old mid
+    → get_or mid (get_or places count 0) 0 ≡ get_or old (get_or places count 0) 0
+kept-before places count ranks old mid up low had =
+    had.others (get_or places count 0)
+    (λ k d h e.
+    let less : k < count = let short = length-take-le count places (omega arith) in omega arith in
+    let own : get_or (take count places) k d ≡ get_or places k 0 = get_or-take count places k d less ∙ get_or_default places k d 0 (omega arith) in
+    let below : get_or places k 0 < get_or places count 0 = up k count 0 less low in
+    let bad : get_or places k 0 ≡ get_or places count 0 = sym own ∙ e in
+    omega arith)
+
+-- one place more
+pub HasRanks-more : (places : List ℕ) (count : ℕ) (q : ℕ) (ranks old mid new : List ℕ) → AllPairs (λ p q. p < q) places → count < length places → q ≡ get_or places count q → q < length old
+    → new ≡ set mid q (get_or ranks (get_or mid q 0) 0) → HasRanks (take count places) ranks old mid → HasRanks (take (count + 1) places) ranks old new
+HasRanks-more places count q ranks old mid new up low at within written had = record {
+  long = ap length written ∙ length-set mid q (get_or ranks (get_or mid q 0) 0) ∙ had.long;
+  ranked = λ k d h. elim (cases_lt k count) [
+    | inl less ↦
+        let front : get_or (take (count + 1) places) k d ≡ get_or (take count places) k d = get_or-take (count + 1) places k d (omega arith) ∙ sym (get_or-take count places k d less) in
+        let own : get_or (take count places) k d ≡ get_or places k q = get_or-take count places k d less ∙ get_or_default places k d q (omega arith) in
+        let below : get_or places k q < get_or places count q = up k count q less low in
+        let other : get_or (take (count + 1) places) k d ≢ q = λ (same : get_or (take (count + 1) places) k d ≡ q). let e : get_or places k q ≡ q = sym own ∙ sym front ∙ same in omega arith in
+        ap (λ (ws : List ℕ). get_or ws (get_or (take (count + 1) places) k d) 0) written ∙ get_or-set_other mid q (get_or (take (count + 1) places) k d) (get_or ranks (get_or mid q 0) 0) 0 other
+        ∙ ap (λ n. get_or mid n 0) front ∙ had.ranked k d (omega (arith, short)) ∙ ap (λ n. get_or ranks (get_or old n 0) 0) (sym front)
+    | inr end ↦
+        let last : k ≡ count = omega (arith, long) in
+        let here : get_or (take (count + 1) places) k d ≡ q = get_or-take (count + 1) places k d (omega arith) ∙ get_or_default places k d q (omega arith) ∙ ap (λ n. get_or places n q) last ∙ sym at in
+        ap (λ n. get_or new n 0) here ∙ ap (λ (ws : List ℕ). get_or ws q 0) written ∙ get_or-set_same mid q (get_or ranks (get_or mid q 0) 0) 0 (let l = had.long in omega arith)
+        ∙ ap (λ n. get_or ranks n 0) before ∙ ap (λ n. get_or ranks (get_or old n 0) 0) (sym here)
+  ];
+  others = λ p none.
+      let other : p ≢ q = λ (same : p ≡ q). none count q (omega (arith, long)) (get_or-take (count + 1) places count q (omega arith) ∙ sym at ∙ sym same) in
+      ap (λ (ws : List ℕ). get_or ws p 0) written ∙ get_or-set_other mid q p (get_or ranks (get_or mid q 0) 0) 0 other
+      ∙ had.others p (λ k d h e. none k d (omega (arith, long, short)) (get_or-take (count + 1) places k d (omega (arith, short)) ∙ sym (get_or-take count places k d (omega (arith, short))) ∙ e));
+}
+  where
+    short : length (take count places) ≡ count
+    short = length-take-le count places (omega arith)
+
+    long : length (take (count + 1) places) ≡ count + 1
+    long = length-take-le (count + 1) places (omega arith)
+
+    -- the place has not been written before
+    before : get_or mid q 0 ≡ get_or old q 0
+    before =
+        had.others q
+        (λ k d h e.
+        let less : k < count = omega (arith, short) in
+        let own : get_or (take count places) k d ≡ get_or places k q = get_or-take count places k d less ∙ get_or_default places k d q (omega arith) in
+        let below : get_or places k q < get_or places count q = up k count q less low in
+        let bad : get_or places k q ≡ q = sym own ∙ e in
+        omega arith)
+
+-- occurrences as values: each stands at its number
+abbrev pub texts_of : List Occurrence → List Value
+texts_of found = map (λ (o : Occurrence). variant.Str o.string) found
+
+pub stand-numbered : (found : List Occurrence) → AreNumbered found → All (StandsAt (texts_of found)) found
+stand-numbered found numbered k d h =
+    let place = numbered k d h in
+    record {
+      within = omega (arith, length-map found (λ (o : Occurrence). variant.Str o.string));
+      is = ap (value_at (texts_of found)) place ∙ get_or-map (λ (o : Occurrence). variant.Str o.string) found k d (variant.Bool false) h;
+    }
+
+module _ (parts : List (List (List Value))) (words places : List ℕ) (found sorted : List Occurrence) (gathered : IsGathered (values_in parts) words places found) (moved : IsPermutation found sorted)
+    (strings : List (List ℕ)) (zeros ranks : List ℕ) (ranked : IsRanked sorted (length sorted) strings zeros ranks) (new : List ℕ) (put : HasRanks places ranks words new) where
+  stand : All (StandsAt (texts_of found)) sorted
+  stand = All-permutation (StandsAt (texts_of found)) found sorted moved (stand-numbered found gathered.numbered)
+
+  -- a number's rank is the place of its string
+  rank_of_number : (s : List ℕ) (n : ℕ) (d : List ℕ) → IsNumber found s n → (get_or ranks n 0 < length strings) × (get_or strings (get_or ranks n 0) d ≡ s)
+  rank_of_number s n d is =
+      let none : Occurrence = record { string = []; place = 0 } in
+      let low = is.within in
+      let o : Occurrence = get_or found n none in
+      let there = Contains-permutation found sorted o moved (Contains-get_or found n none low) in
+      let at : get_or sorted there.0 o ≡ o = there.2 in
+      let rank = ranked.ranked (texts_of found) stand there.0 o d there.1 in
+      let place : (get_or sorted there.0 o).place ≡ n = ap (λ (x : Occurrence). x.place) at ∙ gathered.numbered n none low in
+      let string : (get_or sorted there.0 o).string ≡ s = ap (λ (x : Occurrence). x.string) at ∙ is.string none in
+      (subst (λ m. get_or ranks m 0 < length strings) place rank.0, ap (λ m. get_or strings (get_or ranks m 0) d) (sym place) ∙ rank.1 ∙ string)
 
   -- a string's word is its place among the strings
   word_of_string : (p : ℕ) (s : List ℕ) → p < length (values_in parts) → value_at (values_in parts) p ≡ variant.Str s → (get_or new p 0 < length strings) × (get_or strings (get_or new p 0) s ≡ s)
   word_of_string p s h is =
-      let o : Occurrence = record { string = s; place = p } in
-      let there = Contains-permutation found sorted o moved (gathered.whole p s h is) in
-      let at : get_or sorted there.0 o ≡ o = there.2 in
-      let rank = ranks.ranked (values_in parts) stand there.0 o s there.1 in
-      let place : (get_or sorted there.0 o).place ≡ p = ap (λ (x : Occurrence). x.place) at in
-      let string : (get_or sorted there.0 o).string ≡ s = ap (λ (x : Occurrence). x.string) at in
-      (subst (λ n. get_or new n 0 < length strings) place rank.0, ap (λ n. get_or strings (get_or new n 0) s) (sym place) ∙ rank.1 ∙ string)
+      let number = gathered.strings p s h is in
+      let there : (k : ℕ) × (k < length places) × (get_or places k p ≡ p) = number.0 in
+      let word : get_or new p 0 ≡ get_or ranks (get_or words p 0) 0 =
+      ap (λ n. get_or new n 0) (sym there.2) ∙ put.ranked there.0 p there.1 ∙ ap (λ n. get_or ranks (get_or words n 0) 0) there.2 in
+      let rank = rank_of_number s (get_or words p 0) s number.1 in
+      (subst (λ n. n < length strings) (sym word) rank.0, ap (λ n. get_or strings n s) word ∙ rank.1)
 
   pub ranked-dictionary : IsDictionaryOf parts strings
   ranked-dictionary = record {
-    ascending = ranks.ascending;
+    ascending = ranked.ascending;
     whole = λ s. (
       (λ (in_strings : Contains strings s). subst (λ l. Contains l s) (sym (strings_of_values parts)) (from_strings s in_strings)),
       (λ (in_parts : Contains (strings_in parts) s). to_strings s (subst (λ l. Contains l s) (strings_of_values parts) in_parts)),
     );
   }
     where
-      values : List Value
-      values = values_in parts
-
       from_strings : (s : List ℕ) → Contains strings s → Contains (flat_map strings_of_value (values_in parts)) s
       from_strings s held =
           let none : Occurrence = record { string = []; place = 0 } in
-          let from = ranks.earlier held.0 s none held.1 in
-          let o : Occurrence = get_or sorted from.0 none in
-          let at : StandsAt (values_in parts) o = stand from.0 none from.1 in
-          let string : s ≡ o.string = sym held.2 ∙ from.2 in
-          Contains-flat_map strings_of_value (values_in parts) o.place (variant.Bool false) s at.within
-          (subst (λ v. Contains (strings_of_value v) s) (sym at.is) (0, omega arith, sym string))
+          let from = ranked.earlier held.0 s none held.1 in
+          let all : All (λ (o : Occurrence). Contains (flat_map strings_of_value (values_in parts)) o.string) sorted =
+          All-permutation (λ (o : Occurrence). Contains (flat_map strings_of_value (values_in parts)) o.string) found sorted moved gathered.from_values in
+          subst (Contains (flat_map strings_of_value (values_in parts))) (sym from.2 ∙ held.2) (all from.0 none from.1)
 
       to_strings : (s : List ℕ) → Contains (flat_map strings_of_value (values_in parts)) s → Contains strings s
       to_strings s held =
@@ -233,13 +315,13 @@ module _ (parts : List (List (List Value))) (words : List ℕ) (found sorted : L
   plain : (p : ℕ) → p < length (values_in parts) → strings_of_value (value_at (values_in parts) p) ≡ [] → HasWord strings (value_at (values_in parts) p) × (get_or new p 0 ≡ word_of strings (value_at (values_in parts) p))
   plain p h none =
       let own = gathered.plain strings p h none in
-      let nowhere : (j : ℕ) (o : Occurrence) → j < length sorted → (get_or sorted j o).place ≢ p =
-      λ j o low. λ (e : (get_or sorted j o).place ≡ p).
-      let at : StandsAt (values_in parts) (get_or sorted j o) = stand j o low in
-      let is : value_at (values_in parts) p ≡ variant.Str (get_or sorted j o).string = ap (value_at (values_in parts)) (sym e) ∙ at.is in
-      let some : (get_or sorted j o).string ∷ [] ≡ [] = sym (ap strings_of_value is) ∙ none in
+      let nowhere : (k d : ℕ) → k < length places → get_or places k d ≢ p =
+      λ k d low. λ (e : get_or places k d ≡ p).
+      let at = (gathered.at_strings k d low).string in
+      let is : value_at (values_in parts) p ≡ variant.Str at.0 = ap (value_at (values_in parts)) (sym e) ∙ at.1 in
+      let some : at.0 ∷ [] ≡ [] = sym (ap strings_of_value is) ∙ none in
       absurd (cc) in
-      (own.0, ranks.others p nowhere ∙ own.1)
+      (own.0, put.others p nowhere ∙ own.1)
 
   -- each value has its word
   pub ranked-word : (p : ℕ) → p < length (values_in parts) → HasWord strings (value_at (values_in parts) p) × (get_or new p 0 ≡ word_of strings (value_at (values_in parts) p))
@@ -250,12 +332,12 @@ module _ (parts : List (List (List Value))) (words : List ℕ) (found sorted : L
       by (variant.Bool b) is = plain p h (ap strings_of_value is)
       by (variant.Str s) is =
           let word = word_of_string p s h is in
-          let rank : rank strings s ≡ get_or new p 0 = rank_at strings s (get_or new p 0) ranks.ascending word.0 word.1 in
+          let rank : rank strings s ≡ get_or new p 0 = rank_at strings s (get_or new p 0) ranked.ascending word.0 word.1 in
           (subst (HasWord strings) (sym is) (get_or new p 0, word.0, word.1), sym rank ∙ ap (word_of strings) (sym is))
 
   pub ranked-words : new ≡ map (word_of strings) (values_in parts)
   ranked-words =
-      let long : length new ≡ length (values_in parts) = ranks.long ∙ gathered.long in
+      let long : length new ≡ length (values_in parts) = put.long ∙ gathered.long in
       ext_get_or 0 new (map (word_of strings) (values_in parts)) (long ∙ sym (length-map (values_in parts) (word_of strings)))
       (λ p h. let there : p < length (values_in parts) = rw (← long) h in
       (ranked-word p there).1 ∙ sym (get_or-map (word_of strings) (values_in parts) p (variant.Bool false) 0 there))

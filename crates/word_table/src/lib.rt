@@ -18,6 +18,7 @@ mod encoding;
 mod entries;
 mod gathering;
 mod keyed;
+mod numbering;
 mod occurrences;
 mod ranking;
 mod tables;

@@ -1,11 +1,11 @@
-//! The ranks of strings that are sorted together with the places of their words.
-ghost use Rattle.std.specs.Prelude.{◌<◌, ◌↔◌, All, IfOk, IsTrue, length};
-ghost use Rattle.word_table.specs.declared.occurrences.Occurrence.{Occurrence as Found};
-ghost use Rattle.word_table.specs.inner.Gathered.{Rise, IsLast, IsRanked};
+//! The ranks of strings that are sorted together with their numbers.
+ghost use Rattle.std.specs.Prelude.{◌<◌, ◌↔◌, All, AllPairs, IfOk, IsTrue, length, slice_index};
+ghost use Rattle.word_table.specs.declared.numbering.Occurrence.{Occurrence as Found};
+ghost use Rattle.word_table.specs.inner.Gathered.{Rise, IsLast, IsRanked, HasRanks};
 
 use crate::entries::Entry;
 use crate::keyed::Keyed;
-use crate::occurrences::Occurrence;
+use crate::numbering::Occurrence;
 use rel_base::Memory;
 use std::alloc::Global;
 
@@ -37,5 +37,18 @@ fn is_last(entries: &[Entry], string: &Keyed<'_>) -> bool
     match entries.last() {
         Some(entry) => entry.compare(string).is_eq(),
         None => false,
+    }
+}
+
+/// Puts at each of the places the rank of the string whose number stands there.
+pub(crate) fn put_ranks(words: &mut Vec<u64>, places: &[u64], ranks: &[u64])
+    requires within { All (λ q. q < length words.old.items) places.now }
+    requires ascending { AllPairs (λ p q. p < q) places.now }
+    requires numbers { All (λ q. slice_index words.old.items q < length ranks.now) places.now }
+    ensures { HasRanks places.now ranks.now words.old.items words.new.items }
+{
+    for place in places {
+        let number = words[*place as usize];
+        words[*place as usize] = ranks[number as usize];
     }
 }

@@ -1,6 +1,6 @@
 use Rattle.std.proofs.Common.{◌≡◌, ◌+◌, ◌-◌, ◌<◌, true, refl, ◌++◌, ◌∷◌, [], length, get_or, ap, ◌∙◌, sym, subst, arith}
 use Rattle.std.proofs.Math.ListN.{set}
-use Rattle.word_table.specs.declared.occurrences.Occurrence.{Occurrence}
+use Rattle.word_table.specs.declared.numbering.Occurrence.{Occurrence}
 use Rattle.word_table.specs.inner.Gathered.{IsLast, IsRanked}
 use Rattle.word_table.proofs.RankLemmas.{IsRanked-again, IsRanked-next}
 use Rattle.word_table.proofs.ranking.ranked.Goals as goal

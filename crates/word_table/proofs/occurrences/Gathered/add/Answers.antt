@@ -6,11 +6,10 @@ use mir.Val.{to_z, of_z, bool_byte}
 use Rattle.rel_base.specs.declared.values.Value.TheVariants as variant
 use Rattle.word_table.specs.Words.{strings_of_value, int_word, bool_word, word_of, HasWord}
 use Rattle.word_table.specs.declared.occurrences.Gathered.{Gathered}
-use Rattle.word_table.specs.declared.occurrences.Occurrence.{Occurrence}
-use Rattle.word_table.specs.inner.Gathered.{IsGathered}
+use Rattle.word_table.specs.inner.Gathered.{AddsString, IsGathered}
 use Rattle.word_table.proofs.GatherLemmas.{IsGathered-plain, IsGathered-string}
 use Rattle.word_table.proofs.occurrences.Gathered.add.Goals as goal
-use Rattle.word_table.proofs.occurrences.Gathered.add.Goals.{in-Int, in-Bool, in-Str+in_ok-push-in-Str}
+use Rattle.word_table.proofs.occurrences.Gathered.add.Goals.{in-Int, in-Bool, in-Str+in_ok-push-in-Str+in_ok-word-in-Str}
 
 -- the byte of a truth value is its word
 byte_is : (b : Bool) → bool_byte b ≡ bool_word b
@@ -21,30 +20,32 @@ pub returns : goal.returns
 returns c done had =
     let v = c.args.value.now in
     let words = c.args.self.now.words.items in
-    let strings = c.args.self.now.strings.items in
-    let now = λ (g : Gathered). IsGathered (done ++ v ∷ []) (g.words.items ++ c.match-value.word ∷ []) g.strings.items in
-    let pushed = λ (before : IsGathered (done ++ v ∷ []) (c.match-value.self.words.items ++ c.match-value.word ∷ []) c.match-value.self.strings.items).
-    subst (λ (ws : List ℕ). IsGathered (done ++ v ∷ []) ws c.match-value.self.strings.items) (sym c.in_ok-push.ensures.items) before in
+    let places = c.args.self.now.places.items in
+    let found = c.args.self.now.strings.found.items in
+    let now = λ (g : Gathered). IsGathered (done ++ v ∷ []) (g.words.items ++ c.match-value.word ∷ []) g.places.items g.strings.found.items in
+    let pushed = λ (before : IsGathered (done ++ v ∷ []) (c.match-value.self.words.items ++ c.match-value.word ∷ []) c.match-value.self.places.items c.match-value.self.strings.found.items).
+    subst (λ (ws : List ℕ). IsGathered (done ++ v ∷ []) ws c.match-value.self.places.items c.match-value.self.strings.found.items) (sym c.in_ok-push.ensures.items) before in
     elim c.match-value.branch [
       | in-Int w ↦
           let is : v ≡ variant.Int w.in-Int.number = w.in-Int.is in
           let fits : FitsSigned w64 w.in-Int.number = search rules in
           let back : to_z w64 (of_z w64 w.in-Int.number) ≡ w.in-Int.number = to_z-of_z w64 w.in-Int.number fits in
-          let has = IsGathered-plain done v words c.match-value.word strings had (ap strings_of_value is)
+          let has = IsGathered-plain done v words places c.match-value.word found had (ap strings_of_value is)
           (λ all. (subst (HasWord all) (sym is) fits, w.word-is ∙ w.word_of_int-word.ensures ∙ ap int_word back ∙ ap (word_of all) (sym is))) in
           pushed (subst now (sym w.self-is) has)
       | in-Bool w ↦
           let is : v ≡ variant.Bool w.in-Bool.truth = w.in-Bool.is in
-          let has = IsGathered-plain done v words c.match-value.word strings had (ap strings_of_value is)
+          let has = IsGathered-plain done v words places c.match-value.word found had (ap strings_of_value is)
           (λ all. (subst (HasWord all) (sym is) tt, w.word-is ∙ w.from-word.ensures ∙ byte_is w.in-Bool.truth ∙ ap (word_of all) (sym is))) in
           pushed (subst now (sym w.self-is) has)
-      | in-Str+in_ok-push-in-Str w ↦
+      | in-Str+in_ok-push-in-Str+in_ok-word-in-Str w ↦
           let s = w.in-Str.text in
-          let has = IsGathered-string done v words c.match-value.word strings had s w.in-Str.is in
-          let string : w.of-string.result ≡ s = w.of-string.ensures ∙ w.as_str.ensures in
-          let place : w.len-place.result ≡ length words = omega (arith, w.len-place.ensures, c.args.self.now.words.ok.0) in
-          let added : w.push.new.self.items ≡ strings ++ record { string = s; place = length words } ∷ [] =
-          w.in_ok-push-in-Str.ensures.items ∙ (λ i. strings ++ record { string = string i; place = place i } ∷ []) in
-          let here = subst (λ (found : List Occurrence). IsGathered (done ++ v ∷ []) (words ++ c.match-value.word ∷ []) found) (sym added) has in
+          let more = w.number_of.new.self.found.items in
+          let added : AddsString found more s c.match-value.word =
+          subst (AddsString found more s) (sym w.word-is) (subst (λ t. AddsString found more t w.in_ok-word-in-Str.word) w.as_str.ensures w.in_ok-word-in-Str.ensures) in
+          let has = IsGathered-string done v words places c.match-value.word found had s w.in-Str.is more added in
+          let place : w.len.result ≡ length words = omega (arith, w.len.ensures, c.args.self.now.words.ok.0) in
+          let behind : w.push.new.self.items ≡ places ++ length words ∷ [] = w.in_ok-push-in-Str.ensures.items ∙ (λ i. places ++ place i ∷ []) in
+          let here = subst (λ (ps : List ℕ). IsGathered (done ++ v ∷ []) (words ++ c.match-value.word ∷ []) ps more) (sym behind) has in
           pushed (subst now (sym w.self-is) here)
     ]
