@@ -1,17 +1,20 @@
 -- The row of a group, column by column, and the groups that a run is taken from.
-use Rattle.std.proofs.Common.{◌≡◌, ℕ, ◌+◌, true, false, List, [], ◌∷◌, ◌++◌, length, map, take, drop, refl, sym, ◌∙◌, ap, subst, append_assoc}
-use Rattle.std.specs.Prelude.{◌&&◌, IsPermutation, IsSorted}
+use Rattle.std.proofs.Common.{◌≡◌, ℕ, ◌+◌, true, false, List, [], ◌∷◌, ◌++◌, length, map, take, drop, refl, sym, ◌∙◌, ap, subst, append_assoc, arith}
+use Rattle.std.specs.Prelude.{◌&&◌, ◌<◌, ◌^◌, IsSorted, Some, Result, OnOk, IfOk, IfErr}
 use Rattle.std.specs.List.{enumerate_from, list_all}
-use Rattle.std.proofs.lemmas.List.{drop-drop, drop-map, take-map, map-id}
+use Rattle.std.proofs.lemmas.List.{drop-map, map-id}
 use Rattle.std.proofs.lemmas.List.Folds.{list_all-map}
-use Rattle.std.proofs.lemmas.List.Sorted.{IsPermutation-map, IsPermutation-trans}
+use Rattle.std.proofs.lemmas.List.Sorted.{IsPermutation-map, All-permutation, length_permutation}
+use Rattle.std.proofs.lemmas.Result.{IfOk-weaker, IfErr-weaker, on_ok_weaker}
 use Rattle.rel_base.specs.Bags.{SameBag}
 use Rattle.myrial_ast.specs.Partials.{whole_sums, partial_kinds}
 use Rattle.bag_laws.proofs.GroupPermutations.{groups-same}
 use Rattle.rel_base.specs.Values.{row_order}
 use Rattle.myrial_ast.specs.Scalars.{value_at}
 use Rattle.myrial_ast.specs.Combinations.{Row, Rows}
-use Rattle.myrial_ast.specs.Groups.{Kinds, cell, group_row, groups}
+use Rattle.rel_base.specs.declared.values.Value.TheVariants as value
+use Rattle.myrial_ast.specs.declared.operators.AggOp.TheVariants as agg
+use Rattle.myrial_ast.specs.Groups.{Kinds, cell, total, group_row, groups}
 use Rattle.bag_laws.specs.PartialLaws.{AreGrouped}
 use Rattle.bag_laws.proofs.PartialLemmas.{places-key}
 use Rattle.aggregate_ops.specs.declared.faults.AggFault.{AggFault}
@@ -20,8 +23,6 @@ use Rattle.aggregate_ops.specs.declared.forms.Form.{Form}
 use Rattle.aggregate_ops.specs.declared.forms.Form.TheVariants.{Whole, Split, Merged}
 use Rattle.aggregate_ops.specs.Columns.{column, cells, key_places, key_at, Overflows}
 use Rattle.aggregate_ops.specs.Forms.{grouped_kinds, formed, form_fits, added_in, merged_fits, results, results_fit}
-use Rattle.aggregate_ops.specs.declared.reading.GroupedRow.{GroupedRow}
-use Rattle.aggregate_ops.specs.inner.Reading.{row_of, rows_of}
 use Rattle.aggregate_ops.specs.inner.Runs.{IsRun}
 use Rattle.aggregate_ops.proofs.RunLemmas.{groups-step, sorted-drop}
 use Rattle.aggregate_ops.proofs.BagLemmas.{All-drop}
@@ -35,6 +36,11 @@ cells-from (kind ∷ kinds) place rows = ap (λ (row : Row). cell kind (column r
 -- the cells are the row of the group
 pub cells_row : (kinds : Kinds) (rows : Rows) → cells 0 kinds rows ≡ group_row kinds rows
 cells_row kinds rows = cells-from kinds 0 rows
+
+-- a sum, also of no rows
+pub sum_cell : (rows : Rows) (place : ℕ) → cell (Some agg.Sum) (column rows place) ≡ value.Int (total (column rows place))
+sum_cell [] place = refl
+sum_cell (row ∷ rows) place = refl
 
 -- what is made of the first run, and of the rows behind it
 pub record StepsOver (form : Form) (kinds : Kinds) (rows : Rows) (n : ℕ) : Type 0 where
@@ -87,39 +93,13 @@ pub one-overflows : (form : Form) (kinds : Kinds) (places : List ℕ) (rows made
 one-overflows form kinds places rows made left n is l r fails =
     sym l.fit_is ∙ (steps-over form kinds places left n is l.width l.ascending r).fit_is ∙ ap (λ b. b && results_fit form kinds (drop n left)) fails
 
--- the same, where the rows are read
-pub one-more-at : (form : Form) (kinds : Kinds) (places : List ℕ) (ordered : List GroupedRow) (made : Rows) (done n : ℕ) (row : Row)
-    → places ≡ key_places (grouped_kinds form kinds) → LeftOver form kinds places (rows_of ordered) made (rows_of (drop done ordered))
-    → IsRun (map (key_at places) (rows_of (drop done ordered))) n
-    → row ≡ formed form kinds (group_row (grouped_kinds form kinds) (rows_of (take n (drop done ordered))))
-    → form_fits form kinds (group_row (grouped_kinds form kinds) (rows_of (take n (drop done ordered)))) ≡ true
-    → LeftOver form kinds places (rows_of ordered) (made ++ row ∷ []) (rows_of (drop (done + n) ordered))
-one-more-at form kinds places ordered made done n row is l r row_is fits =
-    let run : rows_of (take n (drop done ordered)) ≡ take n (rows_of (drop done ordered)) = sym (take-map row_of n (drop done ordered)) in
-    let left : drop n (rows_of (drop done ordered)) ≡ rows_of (drop (done + n) ordered) = drop-map row_of n (drop done ordered) ∙ ap rows_of (drop-drop n done ordered) in
-    subst (λ (left : Rows). LeftOver form kinds places (rows_of ordered) (made ++ row ∷ []) left) left
-    (one-more form kinds places (rows_of ordered) made (rows_of (drop done ordered)) n row is l r
-    (row_is ∙ ap (λ rows. formed form kinds (group_row (grouped_kinds form kinds) rows)) run)
-    (sym (ap (λ rows. form_fits form kinds (group_row (grouped_kinds form kinds) rows)) run) ∙ fits))
-
-pub one-overflows-at : (form : Form) (kinds : Kinds) (places : List ℕ) (ordered : List GroupedRow) (made : Rows) (done n : ℕ) (given : AggFault)
-    → places ≡ key_places (grouped_kinds form kinds) → LeftOver form kinds places (rows_of ordered) made (rows_of (drop done ordered))
-    → IsRun (map (key_at places) (rows_of (drop done ordered))) n
-    → Overflows given (form_fits form kinds (group_row (grouped_kinds form kinds) (rows_of (take n (drop done ordered)))))
-    → Overflows given (results_fit form kinds (rows_of ordered))
-one-overflows-at form kinds places ordered made done n fault.Memory is l r fails = tt
-one-overflows-at form kinds places ordered made done n fault.AggregateOverflow is l r fails =
-    let run : rows_of (take n (drop done ordered)) ≡ take n (rows_of (drop done ordered)) = sym (take-map row_of n (drop done ordered)) in
-    one-overflows form kinds places (rows_of ordered) made (rows_of (drop done ordered)) n is l r
-    (sym (ap (λ rows. form_fits form kinds (group_row (grouped_kinds form kinds) rows)) run) ∙ fails)
-
--- rows that are read, and then brought into order
-pub read-same : (rows : Rows) (read given ordered last : List GroupedRow) → SameBag rows (rows_of read) → given ≡ read → IsPermutation given ordered → last ≡ ordered
-    → SameBag rows (rows_of last)
-read-same rows read given ordered last same is moved is_last =
-    let from : IsPermutation read ordered = subst (λ (xs : List GroupedRow). IsPermutation xs ordered) is moved in
-    IsPermutation-trans rows (rows_of read) (rows_of last) same
-    (IsPermutation-map row_of read last (subst (λ (xs : List GroupedRow). IsPermutation read xs) (sym is_last) from))
+-- the same, of the fault that is told
+pub one-overflows-as : (form : Form) (kinds : Kinds) (places : List ℕ) (rows made left : Rows) (n : ℕ) (given : AggFault)
+    → places ≡ key_places (grouped_kinds form kinds) → LeftOver form kinds places rows made left → IsRun (map (key_at places) left) n
+    → Overflows given (form_fits form kinds (group_row (grouped_kinds form kinds) (take n left)))
+    → Overflows given (results_fit form kinds rows)
+one-overflows-as form kinds places rows made left n fault.Memory is l r fails = tt
+one-overflows-as form kinds places rows made left n fault.AggregateOverflow is l r fails = one-overflows form kinds places rows made left n is l r fails
 
 -- the order of the rows changes no result but in its order
 pub results-same : (form : Form) (kinds : Kinds) (rows others : Rows) → SameBag rows others → SameBag (results form kinds rows) (results form kinds others)
@@ -131,6 +111,28 @@ pub results_fit-same : (form : Form) (kinds : Kinds) (rows others : Rows) → Sa
 results_fit-same form kinds rows others h =
     list_all-same (form_fits form kinds) (groups (grouped_kinds form kinds) rows) (groups (grouped_kinds form kinds) others)
     (groups-same (grouped_kinds form kinds) rows others h)
+
+-- what is told of the results of rows is told of them in another order too
+module _ (form : Form) (kinds : Kinds) (rows others : Rows) (same : SameBag rows others) where
+  pub bag-as : (made : Result Rows AggFault) → IfOk made (λ made. made ≡ results form kinds others) → IfOk made (λ made. SameBag (results form kinds rows) made)
+  bag-as made =
+      IfOk-weaker made (λ made. made ≡ results form kinds others) (λ made. SameBag (results form kinds rows) made)
+      (λ made e. rw e (results-same form kinds rows others same))
+
+  pub fits-as : (made : Result Rows AggFault) → OnOk made (results_fit form kinds others ≡ true) → OnOk made (results_fit form kinds rows ≡ true)
+  fits-as made = on_ok_weaker made (λ e. results_fit-same form kinds rows others same ∙ e)
+
+  pub fault-as : (made : Result Rows AggFault) → IfErr made (λ given. Overflows given (results_fit form kinds others))
+      → IfErr made (λ given. Overflows given (results_fit form kinds rows))
+  fault-as made =
+      IfErr-weaker made (λ given. Overflows given (results_fit form kinds others)) (λ given. Overflows given (results_fit form kinds rows))
+      (λ given e. rw (results_fit-same form kinds rows others same) e)
+
+  pub width-as : AreGrouped (grouped_kinds form kinds) rows → AreGrouped (grouped_kinds form kinds) others
+  width-as width = All-permutation (λ row. length row ≡ length (grouped_kinds form kinds)) rows others same width
+
+  pub few-as : length rows < 2 ^ 32 → length others < 2 ^ 32
+  few-as few = omega (arith, length_permutation rows others same, few)
 
 -- the rows of groups are made of themselves
 pub results_whole : (kinds : Kinds) (rows : Rows) → results Whole kinds rows ≡ groups kinds rows

@@ -4,3 +4,4 @@ pub mod CellLemmas
 pub mod BagLemmas
 pub mod StepLemmas
 pub mod FitLemmas
+pub mod ReadLemmas

@@ -4,7 +4,7 @@ use Rattle.std.specs.Prelude.{IsPermutation, ◌&&◌, ◌||◌}
 use Rattle.std.specs.List.{list_all, list_any}
 use Rattle.std.proofs.lemmas.List.Sorted.{list_any-IsPermutation}
 use Rattle.std.proofs.lemmas.List.{get_or-map, length-map, length-drop}
-use Rattle.myrial_ast.specs.Combinations.{Row}
+use Rattle.myrial_ast.specs.Combinations.{Row, Rows}
 use Rattle.myrial_ast.specs.Bags.{same_row}
 use Rattle.bag_laws.proofs.PartialLemmas.{tied}
 use Rattle.aggregate_ops.specs.Columns.{key_at}
@@ -14,33 +14,33 @@ module _ {X : Type 0} (row : X → Row) (rows : List X) where
   pub row-item : (k : ℕ) (one : X) → k < length rows → one ≡ get_or rows k one → get_or (map row rows) k [] ≡ row one
   row-item k one low is = get_or-map row rows k one [] low ∙ ap row (sym is)
 
-  -- its key
-  pub key-item : (places : List ℕ) (k : ℕ) (one : X) → k < length rows → one ≡ get_or rows k one
-      → get_or (map (key_at places) (map row rows)) k [] ≡ key_at places (row one)
-  key-item places k one low is =
-      get_or-map (key_at places) (map row rows) k [] [] (omega (arith, low, length-map rows row)) ∙ ap (key_at places) (row-item k one low is)
-
   -- a row that is the first one
   pub row-same : (k : ℕ) (first one : X) → k < length rows → 0 < length rows → first ≡ get_or rows 0 first → one ≡ get_or rows k one
       → same_row (row first) (row one) ≡ true → get_or (map row rows) k [] ≡ get_or (map row rows) 0 []
   row-same k first one low some is at same = row-item k one low at ∙ sym (tied (row first) (row one) same) ∙ sym (row-item 0 first some is)
 
-  -- a key that is the first one
-  pub key-same : (places : List ℕ) (k : ℕ) (first one : X) → k < length rows → 0 < length rows → first ≡ get_or rows 0 first → one ≡ get_or rows k one
-      → same_row (key_at places (row first)) (key_at places (row one)) ≡ true
-      → get_or (map (key_at places) (map row rows)) k [] ≡ get_or (map (key_at places) (map row rows)) 0 []
-  key-same places k first one low some is at same =
-      key-item places k one low at ∙ sym (tied (key_at places (row first)) (key_at places (row one)) same) ∙ sym (key-item places 0 first some is)
-
-  -- a row or a key that isn't
+  -- a row that isn't
   pub row-other : (k : ℕ) (first one : X) → k < length rows → 0 < length rows → first ≡ get_or rows 0 first → one ≡ get_or rows k one
       → same_row (row first) (row one) ≡ false → same_row (get_or (map row rows) 0 []) (get_or (map row rows) k []) ≡ false
   row-other k first one low some is at other = (λ i. same_row (row-item 0 first some is i) (row-item k one low at i)) ∙ other
 
-  pub key-other : (places : List ℕ) (k : ℕ) (first one : X) → k < length rows → 0 < length rows → first ≡ get_or rows 0 first → one ≡ get_or rows k one
-      → same_row (key_at places (row first)) (key_at places (row one)) ≡ false
-      → same_row (get_or (map (key_at places) (map row rows)) 0 []) (get_or (map (key_at places) (map row rows)) k []) ≡ false
-  key-other places k first one low some is at other = (λ i. same_row (key-item places 0 first some is i) (key-item places k one low at i)) ∙ other
+module _ (places : List ℕ) (rows : Rows) where
+  -- the key of a row at a place
+  pub key-item : (k : ℕ) (one : Row) (d : Row) → k < length rows → one ≡ get_or rows k [] → get_or (map (key_at places) rows) k d ≡ key_at places one
+  key-item k one d low is = get_or-map (key_at places) rows k [] d low ∙ ap (key_at places) (sym is)
+
+  -- a key that is the first one
+  pub key-same : (k : ℕ) (first one : Row) → k < length rows → 0 < length rows → first ≡ get_or rows 0 [] → one ≡ get_or rows k []
+      → same_row (key_at places first) (key_at places one) ≡ true
+      → get_or (map (key_at places) rows) k [] ≡ get_or (map (key_at places) rows) 0 []
+  key-same k first one low some is at same =
+      key-item k one [] low at ∙ sym (tied (key_at places first) (key_at places one) same) ∙ sym (key-item 0 first [] some is)
+
+  -- a key that isn't
+  pub key-other : (k : ℕ) (first one : Row) → k < length rows → 0 < length rows → first ≡ get_or rows 0 [] → one ≡ get_or rows k []
+      → same_row (key_at places first) (key_at places one) ≡ false
+      → same_row (get_or (map (key_at places) rows) 0 []) (get_or (map (key_at places) rows) k []) ≡ false
+  key-other k first one low some is at other = (λ i. same_row (key-item 0 first [] some is i) (key-item k one [] low at i)) ∙ other
 
 -- what a slice from a place on has
 pub behind : {X : Type 0} (k : ℕ) (xs : List X) → take (length xs - k) (drop k xs) ≡ drop k xs

@@ -9,12 +9,11 @@ use Rattle.rel_base.specs.Values.{row_order}
 use Rattle.rel_base.specs.ValueLaws.{row_order_total}
 use Rattle.myrial_ast.specs.Combinations.{Row}
 use Rattle.aggregate_ops.specs.Columns.{key_at}
-use Rattle.aggregate_ops.specs.inner.Reading.{row_of}
 use Rattle.aggregate_ops.specs.declared.keys.KeyedRow.{KeyedRow}
 
 -- the values of a row at the places beside it
 abbrev pub key_in : KeyedRow → Row
-key_in r = key_at r.places.now (row_of r.row)
+key_in r = key_at r.places.now r.row.now
 
 -- how two such rows compare
 abbrev pub keyed_order : KeyedRow → KeyedRow → Ordering

@@ -5,10 +5,10 @@ ghost use Rattle.myrial_ast.specs.Scalars.{value_at};
 ghost use Rattle.myrial_ast.specs.Groups.{total, lesser, greater, cell, sum_fits};
 ghost use Rattle.algebra.specs.Trees.{kind_of_emit};
 ghost use Rattle.aggregate_ops.specs.Columns.{column, Overflows};
-ghost use Rattle.aggregate_ops.specs.inner.Reading.{row_of, rows_of};
+ghost use Rattle.aggregate_ops.specs.inner.Reading.{row_of, rows_of, value_of};
 
 use crate::AggFault;
-use crate::reading::GroupedRow;
+use crate::reading::{GroupedRow, GroupedRows, ReadValue};
 use algebra::EmitKind;
 use myrial_ast::AggOp;
 use rel_base::Value;
@@ -38,54 +38,44 @@ fn with_number(sum: i128, row: &GroupedRow<'_>, place: usize) -> i128
 }
 
 /// The exact sum of the numbers in a column.
-pub fn total(run: &[GroupedRow<'_>], place: usize) -> i128
-    requires { length run.now < 2 ^ 32 }
-    ensures value { result ≡ total (column (rows_of run.now) place) }
+pub fn total(run: GroupedRows<'_>, place: usize) -> i128
+    requires { length (rows_of run) < 2 ^ 32 }
+    ensures value { result ≡ total (column (rows_of run.entry) place) }
     ensures low { neg_ℤ (pos (2 ^ 95)) ≤ℤ result }
     ensures high { result ≤ℤ pos (2 ^ 95) }
 {
     let mut sum: i128 = 0;
-    for row in run {
-        sum = with_number(sum, row, place);
+    for i in 0..run.len() {
+        sum = with_number(sum, &run.get(i), place);
     }
     sum
 }
 
-/// A row with the least value in a column of these rows, of which there is a first.
-fn least<'a>(first: GroupedRow<'a>, rest: &[GroupedRow<'a>], place: usize) -> GroupedRow<'a>
-    ensures { value_at (row_of result) place
-        ≡ fold lesser (value_at (row_of first.entry) place)
-        (column (rows_of rest.entry.now) place) }
+/// The least value in a column of these rows, of which there is a first.
+fn least<'a>(first: GroupedRow<'a>, rest: GroupedRows<'a>, place: usize) -> ReadValue<'a>
+    ensures { value_of result
+        ≡ fold lesser (value_at (row_of first.entry) place) (column (rows_of rest.entry) place) }
 {
-    let mut best = first;
-    for row in rest {
-        if row
-            .read(place)
-            .value()
-            .cmp(best.read(place).value())
-            .is_lt()
-        {
-            best = *row;
+    let mut best = first.read(place);
+    for i in 0..rest.len() {
+        let value = rest.get(i).read(place);
+        if value.value().cmp(best.value()).is_lt() {
+            best = value;
         }
     }
     best
 }
 
-/// A row with the greatest value in a column of these rows, of which there is a first.
-fn greatest<'a>(first: GroupedRow<'a>, rest: &[GroupedRow<'a>], place: usize) -> GroupedRow<'a>
-    ensures { value_at (row_of result) place
-        ≡ fold greater (value_at (row_of first.entry) place)
-        (column (rows_of rest.entry.now) place) }
+/// The greatest value in a column of these rows, of which there is a first.
+fn greatest<'a>(first: GroupedRow<'a>, rest: GroupedRows<'a>, place: usize) -> ReadValue<'a>
+    ensures { value_of result
+        ≡ fold greater (value_at (row_of first.entry) place) (column (rows_of rest.entry) place) }
 {
-    let mut best = first;
-    for row in rest {
-        if row
-            .read(place)
-            .value()
-            .cmp(best.read(place).value())
-            .is_gt()
-        {
-            best = *row;
+    let mut best = first.read(place);
+    for i in 0..rest.len() {
+        let value = rest.get(i).read(place);
+        if value.value().cmp(best.value()).is_gt() {
+            best = value;
         }
     }
     best
@@ -108,21 +98,21 @@ pub fn cell(
     alloc: Global,
     kind: EmitKind,
     place: usize,
-    run: &[GroupedRow<'_>],
+    run: GroupedRows<'_>,
 ) -> Result<Value, AggFault>
-    requires { length run.now < 2 ^ 32 }
+    requires { length (rows_of run) < 2 ^ 32 }
     ensures value { IfOk result (λ made. made
-        ≡ cell (kind_of_emit kind) (column (rows_of run.now) place)) }
+        ≡ cell (kind_of_emit kind) (column (rows_of run.entry) place)) }
     ensures fits { OnOk result
-        (sum_fits (kind_of_emit kind) (cell (kind_of_emit kind) (column (rows_of run.now) place))
+        (sum_fits (kind_of_emit kind) (cell (kind_of_emit kind) (column (rows_of run.entry) place))
         ≡ true) }
     ensures fault { IfErr result (λ fault. Overflows fault
-        (sum_fits (kind_of_emit kind)
-        (cell (kind_of_emit kind) (column (rows_of run.now) place)))) }
+        (sum_fits (kind_of_emit kind) (cell (kind_of_emit kind) (column (rows_of run.entry) place)))) }
 {
-    let [first, rest @ ..] = run else {
+    if run.len() == 0 {
         return Ok(Value::Int(0));
-    };
+    }
+    let (first, rest) = (run.get(0), run.behind(1));
     match kind {
         EmitKind::Key => Ok(first.read(place).into_value(alloc)?),
         EmitKind::Agg(AggOp::CountAll) => Ok(Value::Int(run.len() as i64)),
@@ -131,9 +121,7 @@ pub fn cell(
             Ok(number) => Ok(Value::Int(number)),
             Err(fault) => Err(fault),
         },
-        EmitKind::Agg(AggOp::Min) => Ok(least(*first, rest, place).read(place).into_value(alloc)?),
-        EmitKind::Agg(AggOp::Max) => {
-            Ok(greatest(*first, rest, place).read(place).into_value(alloc)?)
-        }
+        EmitKind::Agg(AggOp::Min) => Ok(least(first, rest, place).into_value(alloc)?),
+        EmitKind::Agg(AggOp::Max) => Ok(greatest(first, rest, place).into_value(alloc)?),
     }
 }

@@ -8,11 +8,11 @@ ghost use Rattle.algebra.specs.Trees.{kind_of_emit};
 ghost use Rattle.aggregate_ops.specs.Columns.{cells, column, Overflows};
 ghost use Rattle.aggregate_ops.specs.Forms.{formed, form_fits, grouped_kinds, sums_in, added_in};
 ghost use Rattle.aggregate_ops.specs.inner.Reading.{rows_of};
-ghost use Rattle.aggregate_ops.specs.inner.MergedCells.{added_kind, merged_cells};
+ghost use Rattle.aggregate_ops.specs.inner.MergedCells.{added_kind, merged_cells, whole_sum};
 
 use crate::AggFault;
 use crate::columns::{cell, total, whole};
-use crate::reading::GroupedRow;
+use crate::reading::GroupedRows;
 use algebra::{EmitKind, EmitKinds};
 use myrial_ast::AggOp;
 use rel_base::{Memory, Row, Value};
@@ -44,19 +44,19 @@ fn put_cells(
     alloc: Global,
     kinds: &[EmitKind],
     place: usize,
-    run: &[GroupedRow<'_>],
+    run: GroupedRows<'_>,
     into: &mut Row,
 ) -> Result<(), AggFault>
-    requires few { length run.now < 2 ^ 32 }
+    requires few { length (rows_of run) < 2 ^ 32 }
     requires columns { place + length kinds.now < 2 ^ 64 }
     ensures ok { OnOk result (into.new
-        ≡ into.old ++ cells place (map kind_of_emit kinds.now) (rows_of run.now)) }
+        ≡ into.old ++ cells place (map kind_of_emit kinds.now) (rows_of run.entry)) }
     ensures fits { OnOk result
         (sums_in (map kind_of_emit kinds.now)
-        (cells place (map kind_of_emit kinds.now) (rows_of run.now)) ≡ true) }
+        (cells place (map kind_of_emit kinds.now) (rows_of run.entry)) ≡ true) }
     ensures fault { IfErr result (λ fault. Overflows fault
         (sums_in (map kind_of_emit kinds.now)
-        (cells place (map kind_of_emit kinds.now) (rows_of run.now)))) }
+        (cells place (map kind_of_emit kinds.now) (rows_of run.entry)))) }
 {
     match kinds {
         [] => Ok(()),
@@ -88,14 +88,14 @@ fn put_partials(
     alloc: Global,
     kinds: &[EmitKind],
     place: usize,
-    run: &[GroupedRow<'_>],
+    run: GroupedRows<'_>,
     into: &mut Row,
 ) -> Result<(), Memory>
-    requires few { length run.now < 2 ^ 32 }
+    requires few { length (rows_of run) < 2 ^ 32 }
     requires columns { place + length kinds.now < 2 ^ 64 }
     ensures { OnOk result (into.new
         ≡ into.old ++ split_sums (map kind_of_emit kinds.now)
-        (cells place (map kind_of_emit kinds.now) (rows_of run.now))) }
+        (cells place (map kind_of_emit kinds.now) (rows_of run.entry))) }
 {
     match kinds {
         [] => Ok(()),
@@ -129,29 +129,42 @@ fn merged_sum(high: i128, low: i128) -> Result<i64, AggFault>
     whole(high * (1 << 62) + low)
 }
 
+/// The sum whose two columns stand from a place on, where it lies in 64 bits.
+#[tactic(auto, using(crate::proofs::CellLemmas::sum_cell))]
+fn whole_sum(run: GroupedRows<'_>, place: usize) -> Result<i64, AggFault>
+    requires few { length (rows_of run) < 2 ^ 32 }
+    requires column { place + 1 < 2 ^ 64 }
+    ensures value { IfOk result (λ sum. sum ≡ whole_sum (rows_of run.entry) place) }
+    ensures fits { OnOk result (in_64_bits (whole_sum (rows_of run.entry) place) ≡ true) }
+    ensures fault { IfErr result (λ fault. Overflows fault
+        (in_64_bits (whole_sum (rows_of run.entry) place))) }
+{
+    merged_sum(total(run, place), total(run, place + 1))
+}
+
 /// Adds the value of merged partial rows in each column, which they have from a place on.
 fn put_merged(
     alloc: Global,
     kinds: &[EmitKind],
     place: usize,
-    run: &[GroupedRow<'_>],
+    run: GroupedRows<'_>,
     into: &mut Row,
 ) -> Result<(), AggFault>
-    requires few { length run.now < 2 ^ 32 }
+    requires few { length (rows_of run) < 2 ^ 32 }
     requires columns { place + 2 * length kinds.now < 2 ^ 64 }
     ensures ok { OnOk result (into.new
-        ≡ into.old ++ merged_cells place (map kind_of_emit kinds.now) (rows_of run.now)) }
+        ≡ into.old ++ merged_cells place (map kind_of_emit kinds.now) (rows_of run.entry)) }
     ensures fits { OnOk result
         (added_in (map kind_of_emit kinds.now)
-        (merged_cells place (map kind_of_emit kinds.now) (rows_of run.now)) ≡ true) }
+        (merged_cells place (map kind_of_emit kinds.now) (rows_of run.entry)) ≡ true) }
     ensures fault { IfErr result (λ fault. Overflows fault
         (added_in (map kind_of_emit kinds.now)
-        (merged_cells place (map kind_of_emit kinds.now) (rows_of run.now)))) }
+        (merged_cells place (map kind_of_emit kinds.now) (rows_of run.entry)))) }
 {
     match kinds {
         [] => Ok(()),
         [EmitKind::Agg(AggOp::Sum), kinds @ ..] => {
-            match merged_sum(total(run, place), total(run, place + 1)) {
+            match whole_sum(run, place) {
                 Ok(sum) => put(into, Value::Int(sum))?,
                 Err(fault) => return Err(fault),
             }
@@ -185,19 +198,19 @@ impl Form {
         self,
         alloc: Global,
         kinds: &EmitKinds,
-        run: &[GroupedRow<'_>],
+        run: GroupedRows<'_>,
     ) -> Result<Row, AggFault>
-        requires { length run.now < 2 ^ 32 }
+        requires { length (rows_of run) < 2 ^ 32 }
         ensures row { IfOk result (λ row. row
             ≡ formed self (map kind_of_emit kinds.now)
-            (group_row (grouped_kinds self (map kind_of_emit kinds.now)) (rows_of run.now))) }
+            (group_row (grouped_kinds self (map kind_of_emit kinds.now)) (rows_of run.entry))) }
         ensures fits { OnOk result
             (form_fits self (map kind_of_emit kinds.now)
-            (group_row (grouped_kinds self (map kind_of_emit kinds.now)) (rows_of run.now))
+            (group_row (grouped_kinds self (map kind_of_emit kinds.now)) (rows_of run.entry))
             ≡ true) }
         ensures fault { IfErr result (λ fault. Overflows fault
             (form_fits self (map kind_of_emit kinds.now)
-            (group_row (grouped_kinds self (map kind_of_emit kinds.now)) (rows_of run.now)))) }
+            (group_row (grouped_kinds self (map kind_of_emit kinds.now)) (rows_of run.entry)))) }
     {
         let mut row = Row::new(alloc);
         match self {

@@ -12,10 +12,10 @@ ghost use Rattle.aggregate_ops.specs.Forms.{grouped_kinds, results, results_fit}
 
 use crate::AggFault;
 use crate::forms::{Form, added};
-use crate::keys::in_order_of_keys;
-use crate::packing::{grouped_rows, packed_columns};
-use crate::reading::GroupedRow;
-use crate::runs::run_length;
+use crate::keys::rows_by_key;
+use crate::packing::{packed_columns, sorted_words};
+use crate::reading::GroupedRows;
+use crate::runs::{are_in_order, run_length};
 use algebra::{EmitKind, EmitKinds};
 use myrial_ast::AggOp;
 use rel_base::{Memory, Places, Rows};
@@ -93,26 +93,26 @@ fn rows_of_runs(
     form: Form,
     kinds: &EmitKinds,
     places: &[u32],
-    ordered: &[GroupedRow<'_>],
+    ordered: GroupedRows<'_>,
 ) -> Result<Rows, AggFault>
     requires places { places.now ≡ key_places (grouped_kinds form (map kind_of_emit kinds.now)) }
     requires width { AreGrouped (grouped_kinds form (map kind_of_emit kinds.now))
-        (rows_of ordered.now) }
-    requires ascending { IsSorted row_order (map (key_at places.now) (rows_of ordered.now)) }
-    requires few { length ordered.now < 2 ^ 32 }
+        (rows_of ordered) }
+    requires ascending { IsSorted row_order (map (key_at places.now) (rows_of ordered)) }
+    requires few { length (rows_of ordered) < 2 ^ 32 }
     ensures rows { IfOk result (λ made. made
-        ≡ results form (map kind_of_emit kinds.now) (rows_of ordered.now)) }
-    ensures fits { OnOk result (results_fit form (map kind_of_emit kinds.now) (rows_of ordered.now)
+        ≡ results form (map kind_of_emit kinds.now) (rows_of ordered.entry)) }
+    ensures fits { OnOk result (results_fit form (map kind_of_emit kinds.now) (rows_of ordered.entry)
         ≡ true) }
     ensures fault { IfErr result (λ fault. Overflows fault
-        (results_fit form (map kind_of_emit kinds.now) (rows_of ordered.now))) }
+        (results_fit form (map kind_of_emit kinds.now) (rows_of ordered.entry))) }
 {
     let mut made = Rows::new(alloc);
     let mut done = 0;
     while done < ordered.len() {
-        let left = &ordered[done..];
+        let left = ordered.behind(done);
         let count = run_length(places, left);
-        match form.row(alloc, kinds, &left[..count]) {
+        match form.row(alloc, kinds, left.front(count)) {
             Ok(row) => made.push(row)?,
             Err(fault) => return Err(fault),
         }
@@ -133,9 +133,15 @@ pub fn grouped(alloc: Global, form: Form, rows: &Rows, kinds: &EmitKinds) -> Res
 {
     let places = places_for(alloc, form, kinds)?;
     let columns = packed_columns(alloc, rows, places.as_slice())?;
-    let read = grouped_rows(alloc, rows, &columns)?;
-    let ordered = in_order_of_keys(alloc, &read, places.as_slice())?;
-    rows_of_runs(alloc, form, kinds, places.as_slice(), &ordered)
+    if let Some(words) = sorted_words(alloc, rows, &columns)? {
+        let packed = GroupedRows::packed(&words, &columns);
+        if are_in_order(places.as_slice(), packed) {
+            return rows_of_runs(alloc, form, kinds, places.as_slice(), packed);
+        }
+    }
+    let lent = rows_by_key(alloc, rows, places.as_slice())?;
+    let ordered = GroupedRows::lent(&lent);
+    rows_of_runs(alloc, form, kinds, places.as_slice(), ordered)
 }
 
 /// A row for each group of the rows, in the order of their keys: what rows are grouped by, and the aggregates of the rest.

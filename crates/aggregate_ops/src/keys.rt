@@ -1,12 +1,12 @@
 //! Rows in the order of their keys.
-ghost use Rattle.std.specs.Prelude.{◌≡◌, ◌<◌, ◌^◌, List, map, length, All, OnOk, IfOk, IsPermutation, IsSorted};
+ghost use Rattle.std.specs.Prelude.{◌≡◌, map, All, IfOk, IsPermutation, IsSorted};
 ghost use Rattle.rel_base.specs.Values.{value_order, row_order};
 ghost use Rattle.myrial_ast.specs.Scalars.{value_at};
-ghost use Rattle.aggregate_ops.specs.Columns.{key_at};
-ghost use Rattle.aggregate_ops.specs.inner.Reading.{row_of, rows_of};
+ghost use Rattle.aggregate_ops.specs.Columns.{rows_in, key_at};
+ghost use Rattle.aggregate_ops.specs.inner.Reading.{row_of};
 
 use crate::reading::GroupedRow;
-use rel_base::Memory;
+use rel_base::{Memory, Row, Rows};
 use std::alloc::Global;
 use std::cmp::Ordering;
 
@@ -49,7 +49,7 @@ fn order_in(row: &GroupedRow<'_>, place: u32, other: &GroupedRow<'_>, other_plac
 /// A row with the places by which it is compared.
 #[derive(Drop)]
 pub struct KeyedRow<'a> {
-    row: GroupedRow<'a>,
+    row: &'a Row,
     places: &'a [u32],
 }
 
@@ -101,29 +101,35 @@ impl Ord for KeyedRow<'_> {
     ghost matches_eq = { λ r s. refl };
 
     fn cmp(&self, other: &Self) -> Ordering {
-        order_at(&self.row, self.places, &other.row, other.places)
+        let row = GroupedRow::Lent(self.row);
+        order_at(
+            &row,
+            self.places,
+            &GroupedRow::Lent(other.row),
+            other.places,
+        )
     }
 }
 
 /// Each row with the places.
 fn keyed_rows<'a>(
     alloc: Global,
-    rows: &[GroupedRow<'a>],
+    rows: &'a Rows,
     places: &'a [u32],
 ) -> Result<Vec<KeyedRow<'a>>, Memory>
-    ensures rows { IfOk result (λ made. map (λ e. e.row) made.items ≡ rows.entry.now) }
-    ensures places { IfOk result (λ made. All (λ e. e.places.now ≡ places.now) made.items) }
+    ensures rows { IfOk result (λ made. map (λ e. e.row.now) made.items ≡ rows.entry.now) }
+    ensures places { IfOk result (λ made. All (λ e. e.places.now ≡ places.entry.now) made.items) }
 {
-    let mut keyed = Vec::with_capacity(alloc, rows.len())?;
+    let mut keyed = Vec::with_capacity(alloc, rows.len() as usize)?;
     for row in rows {
-        keyed.push(KeyedRow { row: *row, places })?;
+        keyed.push(KeyedRow { row, places })?;
     }
     Ok(keyed)
 }
 
 /// The rows without the places.
-fn bare_rows<'a>(alloc: Global, keyed: &[KeyedRow<'a>]) -> Result<Vec<GroupedRow<'a>>, Memory>
-    ensures { IfOk result (λ made. made.items ≡ map (λ e. e.row) keyed.entry.now) }
+fn bare_rows<'a>(alloc: Global, keyed: &[KeyedRow<'a>]) -> Result<Vec<&'a Row>, Memory>
+    ensures { IfOk result (λ made. rows_in made.items ≡ map (λ e. e.row.now) keyed.entry.now) }
 {
     let mut rows = Vec::with_capacity(alloc, keyed.len())?;
     for item in keyed {
@@ -132,15 +138,15 @@ fn bare_rows<'a>(alloc: Global, keyed: &[KeyedRow<'a>]) -> Result<Vec<GroupedRow
     Ok(rows)
 }
 
-/// The rows in the order of their values at these places.
-pub fn in_order_of_keys<'a>(
+/// The rows in the order of their values at these places. None is copied.
+pub fn rows_by_key<'a>(
     alloc: Global,
-    rows: &[GroupedRow<'a>],
+    rows: &'a Rows,
     places: &'a [u32],
-) -> Result<Vec<GroupedRow<'a>>, Memory>
-    ensures same { IfOk result (λ made. IsPermutation rows.entry.now made.items) }
+) -> Result<Vec<&'a Row>, Memory>
+    ensures same { IfOk result (λ made. IsPermutation rows.entry.now (rows_in made.items)) }
     ensures ascending { IfOk result (λ made. IsSorted row_order
-        (map (key_at places.now) (rows_of made.items))) }
+        (map (key_at places.entry.now) (rows_in made.items))) }
 {
     let mut keyed = keyed_rows(alloc, rows, places)?;
     keyed.sort_unstable();

@@ -3,29 +3,20 @@
 //!
 //! How columns are chosen decides about speed alone: a word is taken only where it gives the values of its row back.
 ghost use Rattle.std.specs.Prelude.{◌≡◌, ◌<◌, ◌^◌, IsTrue, IfOk, OnOk, IfSome, IsPermutation, map, length};
-ghost use Rattle.aggregate_ops.specs.inner.Reading.{unpacked_row, rows_of};
+ghost use Rattle.aggregate_ops.specs.inner.Reading.{unpacked_row};
 
 use crate::packed_columns::PackedColumn;
-use crate::reading::GroupedRow;
-use crate::spans::{Span, spans_of};
+use crate::spans::{ScannedColumn, scanned_columns};
 use rel_base::{Memory, Row, Rows, Value};
 use std::alloc::Global;
 
-/// Whether two columns have the same value in each row.
-fn are_same(rows: &Rows, place: usize, other: usize) -> bool {
-    for row in rows {
-        if row.as_slice().get(place) != row.as_slice().get(other) {
-            return false;
-        }
-    }
-    true
-}
-
 /// One of these places whose column has the same values.
-fn twin_of(rows: &Rows, spans: &[Span], places: &[usize], place: usize) -> Option<usize> {
+fn twin_of(columns: &[ScannedColumn], places: &[usize], place: usize) -> Option<usize> {
+    let column = columns.get(place)?;
     for other in places {
-        if spans.get(*other) == spans.get(place) && are_same(rows, *other, place) {
-            return Some(*other);
+        match columns.get(*other) {
+            Some(known) if known.twin == column.twin => return Some(*other),
+            _ => {}
         }
     }
     None
@@ -51,15 +42,17 @@ pub fn packed_columns(
     rows: &Rows,
     keys: &[u32],
 ) -> Result<Vec<PackedColumn>, Memory> {
-    let spans = spans_of(alloc, rows)?;
-    let places = keys_first(alloc, keys, spans.len())?;
-    let mut columns = Vec::from_elem(alloc, PackedColumn::none(), spans.len())?;
+    let scanned = scanned_columns(alloc, rows)?;
+    let places = keys_first(alloc, keys, scanned.len())?;
+    let mut columns = Vec::from_elem(alloc, PackedColumn::none(), scanned.len())?;
     let mut left = 64;
     for i in 0..places.len() {
         let place = places[i];
-        let column = match twin_of(rows, &spans, &places[..i], place) {
+        let column = match twin_of(&scanned, &places[..i], place) {
             Some(twin) => columns.get(twin).copied(),
-            None => spans.get(place).and_then(|span| span.column(left)),
+            None => scanned
+                .get(place)
+                .and_then(|column| column.span.column(left)),
         };
         let (Some(column), Some(old)) = (column, columns.get_mut(place)) else {
             return Ok(Vec::new(alloc));
@@ -118,48 +111,21 @@ fn words_of(
     Ok(Some(words))
 }
 
-/// The rows that are packed in the words.
-fn packed_rows<'a>(
+/// The words of the rows in ascending order, where each gives its row's values back.
+pub fn sorted_words(
     alloc: Global,
-    words: &[u64],
-    columns: &'a [PackedColumn],
-) -> Result<Vec<GroupedRow<'a>>, Memory>
-    ensures { IfOk result (λ made. rows_of made.items
-        ≡ map (unpacked_row columns.entry.now) words.now) }
-{
-    let mut rows = Vec::with_capacity(alloc, words.len())?;
-    for word in words {
-        rows.push(GroupedRow::Packed(*word, columns))?;
-    }
-    Ok(rows)
-}
-
-/// The rows, each lent.
-fn lent_rows<'a>(alloc: Global, rows: &'a Rows) -> Result<Vec<GroupedRow<'a>>, Memory>
-    ensures rows { IfOk result (λ made. rows_of made.items ≡ rows.entry.now) }
-    ensures few { OnOk result (length rows.entry.now < 2 ^ 32) }
-{
-    let mut lent = Vec::with_capacity(alloc, rows.len() as usize)?;
-    for row in rows {
-        lent.push(GroupedRow::Lent(row))?;
-    }
-    Ok(lent)
-}
-
-/// The rows: in the order of their words where each is packed in one, and else as they stand.
-pub fn grouped_rows<'a>(
-    alloc: Global,
-    rows: &'a Rows,
-    columns: &'a [PackedColumn],
-) -> Result<Vec<GroupedRow<'a>>, Memory>
-    ensures same { IfOk result (λ made. IsPermutation rows.entry.now (rows_of made.items)) }
-    ensures few { OnOk result (length rows.entry.now < 2 ^ 32) }
+    rows: &Rows,
+    columns: &[PackedColumn],
+) -> Result<Option<Vec<u64>>, Memory>
+    ensures same { IfOk result (λ found. IfSome found (λ words. IsPermutation rows.now
+        (map (unpacked_row columns.now) words.items))) }
+    ensures few { OnOk result (length rows.now < 2 ^ 32) }
 {
     match words_of(alloc, rows, columns)? {
         Some(mut words) => {
             words.sort_unstable();
-            packed_rows(alloc, &words, columns)
+            Ok(Some(words))
         }
-        None => lent_rows(alloc, rows),
+        None => Ok(None),
     }
 }

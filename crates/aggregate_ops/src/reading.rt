@@ -1,7 +1,8 @@
 //! The rows of groups as they are read: lent, or packed in words.
-ghost use Rattle.std.specs.Prelude.{◌≡◌, IfOk};
+ghost use Rattle.std.specs.Prelude.{◌≡◌, ◌<◌, ◌≤◌, [], map, length, take, drop, slice_index_or, IfOk};
 ghost use Rattle.myrial_ast.specs.Scalars.{value_at};
-ghost use Rattle.aggregate_ops.specs.inner.Reading.{row_of, value_of};
+ghost use Rattle.aggregate_ops.specs.Columns.{rows_in};
+ghost use Rattle.aggregate_ops.specs.inner.Reading.{row_of, rows_of, unpacked_row, value_of};
 
 use crate::packed_columns::PackedColumn;
 use rel_base::{Duplicate, Memory, Row, Value};
@@ -61,6 +62,90 @@ impl<'a> GroupedRow<'a> {
                 Some(column) => ReadValue::Made(column.value(word)),
                 None => ReadValue::Made(Value::Int(0)),
             },
+        }
+    }
+}
+
+/// Rows that are grouped: some that are lent, and behind them some that are packed in words.
+#[derive(Clone, Copy)]
+pub struct GroupedRows<'a> {
+    lent: &'a [&'a Row],
+    words: &'a [u64],
+    columns: &'a [PackedColumn],
+}
+
+impl<'a> GroupedRows<'a> {
+    /// Rows that are lent.
+    pub fn lent(rows: &'a [&'a Row]) -> GroupedRows<'a>
+        ensures { rows_of result ≡ rows_in rows.entry.now }
+    {
+        GroupedRows {
+            lent: rows,
+            words: &[],
+            columns: &[],
+        }
+    }
+
+    /// Rows all of whose values are told by words, in these columns.
+    pub fn packed(words: &'a [u64], columns: &'a [PackedColumn]) -> GroupedRows<'a>
+        ensures { rows_of result ≡ map (unpacked_row columns.entry.now) words.entry.now }
+    {
+        GroupedRows {
+            lent: &[],
+            words,
+            columns,
+        }
+    }
+
+    /// The number of rows.
+    pub fn len(self) -> usize
+        ensures { result ≡ length (rows_of self.entry) }
+    {
+        self.lent.len() + self.words.len()
+    }
+
+    /// Row number `i`, from 0.
+    pub fn get(self, i: usize) -> GroupedRow<'a>
+        requires { i < length (rows_of self) }
+        ensures { row_of result ≡ slice_index_or (rows_of self.entry) i [] }
+    {
+        let lent = self.lent.len();
+        if i < lent {
+            GroupedRow::Lent(self.lent[i])
+        } else {
+            GroupedRow::Packed(self.words[i - lent], self.columns)
+        }
+    }
+
+    /// So many rows at the front.
+    pub fn front(self, count: usize) -> GroupedRows<'a>
+        requires { count ≤ length (rows_of self) }
+        ensures { rows_of result ≡ take count (rows_of self.entry) }
+    {
+        let lent = self.lent.len();
+        if count <= lent {
+            GroupedRows::lent(&self.lent[..count])
+        } else {
+            GroupedRows {
+                words: &self.words[..count - lent],
+                ..self
+            }
+        }
+    }
+
+    /// The rows behind so many.
+    pub fn behind(self, count: usize) -> GroupedRows<'a>
+        requires { count ≤ length (rows_of self) }
+        ensures { rows_of result ≡ drop count (rows_of self.entry) }
+    {
+        let lent = self.lent.len();
+        if count <= lent {
+            GroupedRows {
+                lent: &self.lent[count..],
+                ..self
+            }
+        } else {
+            GroupedRows::packed(&self.words[count - lent..], self.columns)
         }
     }
 }

@@ -1,4 +1,4 @@
-//! What the values of columns are, so that they may be packed.
+//! What the columns of rows have, so that they may be packed.
 use crate::packed_columns::PackedColumn;
 use rel_base::{Memory, Rows, Value};
 use std::alloc::Global;
@@ -43,19 +43,60 @@ impl Span {
     }
 }
 
-/// What the columns of the rows have, up to the first row that has a value that can't be packed.
-pub fn spans_of(alloc: Global, rows: &Rows) -> Result<Vec<Span>, Memory> {
+/// A column of rows.
+#[derive(Clone, Copy)]
+pub struct ScannedColumn {
+    /// What its values are.
+    pub span: Span,
+    /// The place of a column that has the same value in each row; where none before it is known to, its own.
+    pub twin: usize,
+}
+
+/// The first place of the value at a place.
+fn first_place(values: &[Value], place: usize) -> usize {
+    for (other, value) in values.iter().enumerate() {
+        if values.get(place) == Some(value) {
+            return other;
+        }
+    }
+    place
+}
+
+/// The columns of rows of which this is the first, as long as none is scanned.
+fn columns_of(alloc: Global, first: &[Value]) -> Result<Vec<ScannedColumn>, Memory> {
+    let mut columns = Vec::with_capacity(alloc, first.len())?;
+    for place in 0..first.len() {
+        columns.push(ScannedColumn {
+            span: Span::Nothing,
+            twin: first_place(first, place),
+        })?;
+    }
+    Ok(columns)
+}
+
+/// Scans one row more, and says whether each column may still be packed.
+fn scan(columns: &mut [ScannedColumn], values: &[Value]) -> bool {
+    let mut may_pack = true;
+    for (place, (column, value)) in columns.iter_mut().zip(values).enumerate() {
+        column.span = column.span.with(value);
+        may_pack &= column.span != Span::Others;
+        if column.twin != place && values.get(column.twin) != Some(value) {
+            column.twin = place;
+        }
+    }
+    may_pack
+}
+
+/// The columns of the rows; none where one has a value that can't be packed.
+pub fn scanned_columns(alloc: Global, rows: &Rows) -> Result<Vec<ScannedColumn>, Memory> {
     if rows.is_empty() {
         return Ok(Vec::new(alloc));
     }
-    let mut spans = Vec::from_elem(alloc, Span::Nothing, rows.get(0).len() as usize)?;
+    let mut columns = columns_of(alloc, rows.get(0).as_slice())?;
     for row in rows {
-        for (span, value) in spans.iter_mut().zip(row.as_slice()) {
-            *span = span.with(value);
-        }
-        if spans.contains(&Span::Others) {
-            break;
+        if !scan(&mut columns, row.as_slice()) {
+            return Ok(Vec::new(alloc));
         }
     }
-    Ok(spans)
+    Ok(columns)
 }

@@ -2,16 +2,18 @@
 --
 --   unpacked_row columns word     the row that is packed in a word
 --   row_of row                    the row that is lent, or packed
---   rows_of rows                  these rows
+--   rows_of rows                  the rows that are lent, and those that are packed
 --   value_of value                the value that is lent, or was made
-use Rattle.std.specs.Prelude.{ℕ, List, map}
+use Rattle.std.specs.Prelude.{ℕ, List, ◌++◌, map}
 use Rattle.rel_base.specs.declared.values.Value.{Value}
 use Rattle.myrial_ast.specs.Combinations.{Row, Rows}
 use Rattle.aggregate_ops.specs.declared.packed_columns.PackedColumn.{PackedColumn}
 use Rattle.aggregate_ops.specs.declared.reading.GroupedRow.{GroupedRow}
 use Rattle.aggregate_ops.specs.declared.reading.GroupedRow.TheVariants as row
+use Rattle.aggregate_ops.specs.declared.reading.GroupedRows.{GroupedRows}
 use Rattle.aggregate_ops.specs.declared.reading.ReadValue.{ReadValue}
 use Rattle.aggregate_ops.specs.declared.reading.ReadValue.TheVariants as read
+use Rattle.aggregate_ops.specs.Columns.{rows_in}
 use Rattle.aggregate_ops.specs.inner.Words.{unpacked}
 
 -- the row that is packed in a word
@@ -23,9 +25,9 @@ abbrev pub row_of : GroupedRow → Row
 row_of (row.Lent r) = r.now
 row_of (row.Packed word columns) = unpacked_row columns.now word
 
--- these rows
-abbrev pub rows_of : List GroupedRow → Rows
-rows_of rows = map row_of rows
+-- the rows that are lent, and those that are packed
+abbrev pub rows_of : GroupedRows → Rows
+rows_of rows = rows_in rows.lent.now ++ map (unpacked_row rows.columns.now) rows.words.now
 
 -- the value that is lent, or was made
 abbrev pub value_of : ReadValue → Value

@@ -4,8 +4,8 @@ use Rattle.aggregate_ops.specs.Columns.{column}
 use Rattle.aggregate_ops.specs.inner.Reading.{rows_of}
 use Rattle.aggregate_ops.proofs.columns.total.Given as goal
 
-abbrev pub invariant-loop-row : goal.invariant-loop-row
-invariant-loop-row l =
-    (l.sum ≡ total (column (rows_of (take l.row-index l.run)) l.place))
-    × (neg_ℤ (pos (l.row-index * 2 ^ 63)) ≤ℤ l.sum)
-    × (l.sum ≤ℤ pos (l.row-index * 2 ^ 63))
+abbrev pub invariant-loop-i : goal.invariant-loop-i
+invariant-loop-i l =
+    (l.sum ≡ total (column (take l.i (rows_of l.run)) l.place))
+    × (neg_ℤ (pos (l.i * 2 ^ 63)) ≤ℤ l.sum)
+    × (l.sum ≤ℤ pos (l.i * 2 ^ 63))

@@ -1,45 +1,87 @@
-use Rattle.std.proofs.Common.{◌≡◌, ◌∙◌, ◌<◌, ◌^◌, true, length, map, arith}
-use Rattle.std.proofs.lemmas.List.{length-map}
-use Rattle.std.proofs.lemmas.List.Sorted.{All-permutation, length_permutation}
-use Rattle.std.proofs.lemmas.Result.{IfOk-weaker, IfErr-weaker, on_ok_weaker}
+use Rattle.std.proofs.Common.{◌≡◌, ◌∙◌, ap, map, length}
 use Rattle.rel_base.specs.Bags.{SameBag}
 use Rattle.algebra.specs.Trees.{kind_of_emit}
-use Rattle.aggregate_ops.specs.Columns.{Overflows}
-use Rattle.aggregate_ops.specs.Forms.{grouped_kinds, results, results_fit}
-use Rattle.aggregate_ops.specs.inner.Reading.{row_of, rows_of}
-use Rattle.aggregate_ops.proofs.CellLemmas.{read-same, results-same, results_fit-same}
+use Rattle.aggregate_ops.specs.Columns.{rows_in}
+use Rattle.aggregate_ops.specs.inner.Reading.{unpacked_row, rows_of}
+use Rattle.aggregate_ops.proofs.CellLemmas.{bag-as, fits-as, fault-as, width-as, few-as}
 use Rattle.aggregate_ops.proofs.grouping.grouped.Goals as goal
 
 pub rows_of_runs-requires-clause-width : goal.rows_of_runs-requires-clause-width
 rows_of_runs-requires-clause-width c =
-    let same = read-same c.args.rows.now _ _ _ _ c.in_ok-read.ensures.same c.deref-2.ensures.value c.in_ok-ordered.ensures.same c.deref-3.ensures.value in
-    All-permutation (λ row. length row ≡ length (grouped_kinds c.args.form (map kind_of_emit c.args.kinds.now))) _ _ same c.requires
+    let columns = c.in_ok-columns.columns.items in
+    let words = c.in-Some.words.items in
+    let at : rows_of c.packed-packed.result ≡ map (unpacked_row columns) words =
+    c.packed-packed.ensures ∙ (λ i. map (unpacked_row (c.deref-in-Some-2.ensures.value i)) (c.deref-in-Some.ensures.value i)) in
+    let given : SameBag c.args.rows.now (map (unpacked_row columns) words) = rw (c.in-Some.is, c.deref.ensures.value) at c.in_ok-words.ensures.same in
+    let same : SameBag c.args.rows.now (rows_of c.packed-packed.result) = rw at given in
+    width-as c.args.form (map kind_of_emit c.args.kinds.now) c.args.rows.now (rows_of c.packed-packed.result) same c.requires
 
 pub rows_of_runs-requires-clause-few : goal.rows_of_runs-requires-clause-few
 rows_of_runs-requires-clause-few c =
-    let same = read-same c.args.rows.now _ _ _ _ c.in_ok-read.ensures.same c.deref-2.ensures.value c.in_ok-ordered.ensures.same c.deref-3.ensures.value in
-    let few : length c.args.rows.now < 2 ^ 32 = c.in_ok-read.ensures.few in
-    omega (arith, length_permutation c.args.rows.now (rows_of c.deref-3.result.now) same, length-map c.deref-3.result.now row_of, few)
+    let columns = c.in_ok-columns.columns.items in
+    let words = c.in-Some.words.items in
+    let at : rows_of c.packed-packed.result ≡ map (unpacked_row columns) words =
+    c.packed-packed.ensures ∙ (λ i. map (unpacked_row (c.deref-in-Some-2.ensures.value i)) (c.deref-in-Some.ensures.value i)) in
+    let given : SameBag c.args.rows.now (map (unpacked_row columns) words) = rw (c.in-Some.is, c.deref.ensures.value) at c.in_ok-words.ensures.same in
+    let same : SameBag c.args.rows.now (rows_of c.packed-packed.result) = rw at given in
+    few-as c.args.form (map kind_of_emit c.args.kinds.now) c.args.rows.now (rows_of c.packed-packed.result) same c.in_ok-words.ensures.few
+
+pub returns-then-are_in_order-clause-bag : goal.returns-then-are_in_order-clause-bag
+returns-then-are_in_order-clause-bag c =
+    let columns = c.in_ok-columns.columns.items in
+    let words = c.in-Some.words.items in
+    let at : rows_of c.packed-packed.result ≡ map (unpacked_row columns) words =
+    c.packed-packed.ensures ∙ (λ i. map (unpacked_row (c.deref-in-Some-2.ensures.value i)) (c.deref-in-Some.ensures.value i)) in
+    let given : SameBag c.args.rows.now (map (unpacked_row columns) words) = rw (c.in-Some.is, c.deref.ensures.value) at c.in_ok-words.ensures.same in
+    let same : SameBag c.args.rows.now (rows_of c.packed-packed.result) = rw at given in
+    bag-as c.args.form (map kind_of_emit c.args.kinds.now) c.args.rows.now (rows_of c.packed-packed.result) same c.rows_of_runs.result c.rows_of_runs.ensures.rows
+
+pub returns-then-are_in_order-clause-fits : goal.returns-then-are_in_order-clause-fits
+returns-then-are_in_order-clause-fits c =
+    let columns = c.in_ok-columns.columns.items in
+    let words = c.in-Some.words.items in
+    let at : rows_of c.packed-packed.result ≡ map (unpacked_row columns) words =
+    c.packed-packed.ensures ∙ (λ i. map (unpacked_row (c.deref-in-Some-2.ensures.value i)) (c.deref-in-Some.ensures.value i)) in
+    let given : SameBag c.args.rows.now (map (unpacked_row columns) words) = rw (c.in-Some.is, c.deref.ensures.value) at c.in_ok-words.ensures.same in
+    let same : SameBag c.args.rows.now (rows_of c.packed-packed.result) = rw at given in
+    fits-as c.args.form (map kind_of_emit c.args.kinds.now) c.args.rows.now (rows_of c.packed-packed.result) same c.rows_of_runs.result c.rows_of_runs.ensures.fits
+
+pub returns-then-are_in_order-clause-fault : goal.returns-then-are_in_order-clause-fault
+returns-then-are_in_order-clause-fault c =
+    let columns = c.in_ok-columns.columns.items in
+    let words = c.in-Some.words.items in
+    let at : rows_of c.packed-packed.result ≡ map (unpacked_row columns) words =
+    c.packed-packed.ensures ∙ (λ i. map (unpacked_row (c.deref-in-Some-2.ensures.value i)) (c.deref-in-Some.ensures.value i)) in
+    let given : SameBag c.args.rows.now (map (unpacked_row columns) words) = rw (c.in-Some.is, c.deref.ensures.value) at c.in_ok-words.ensures.same in
+    let same : SameBag c.args.rows.now (rows_of c.packed-packed.result) = rw at given in
+    fault-as c.args.form (map kind_of_emit c.args.kinds.now) c.args.rows.now (rows_of c.packed-packed.result) same c.rows_of_runs.result c.rows_of_runs.ensures.fault
+
+pub rows_of_runs-requires-2-clause-width : goal.rows_of_runs-requires-2-clause-width
+rows_of_runs-requires-2-clause-width c =
+    let at : rows_of c.lent-ordered.result ≡ rows_in c.in_ok-lent.lent.items = c.lent-ordered.ensures ∙ ap rows_in c.deref-2.ensures.value in
+    let same : SameBag c.args.rows.now (rows_of c.lent-ordered.result) = rw at c.in_ok-lent.ensures.same in
+    width-as c.args.form (map kind_of_emit c.args.kinds.now) c.args.rows.now (rows_of c.lent-ordered.result) same c.requires
+
+pub rows_of_runs-requires-2-clause-few : goal.rows_of_runs-requires-2-clause-few
+rows_of_runs-requires-2-clause-few c =
+    let at : rows_of c.lent-ordered.result ≡ rows_in c.in_ok-lent.lent.items = c.lent-ordered.ensures ∙ ap rows_in c.deref-2.ensures.value in
+    let same : SameBag c.args.rows.now (rows_of c.lent-ordered.result) = rw at c.in_ok-lent.ensures.same in
+    few-as c.args.form (map kind_of_emit c.args.kinds.now) c.args.rows.now (rows_of c.lent-ordered.result) same c.in_ok-words.ensures.few
 
 pub returns-clause-bag : goal.returns-clause-bag
 returns-clause-bag c =
-    let rows = rows_of c.deref-3.result.now in
-    let same : SameBag c.args.rows.now rows = read-same c.args.rows.now _ _ _ _ c.in_ok-read.ensures.same c.deref-2.ensures.value c.in_ok-ordered.ensures.same c.deref-3.ensures.value in
-    let kinds = map kind_of_emit c.args.kinds.now in
-    IfOk-weaker c.rows_of_runs.result (λ made. made ≡ results c.args.form kinds rows) (λ made. SameBag (results c.args.form kinds c.args.rows.now) made)
-    (λ made e. rw e (results-same c.args.form kinds c.args.rows.now rows same)) c.rows_of_runs.ensures.rows
+    let at : rows_of c.lent-ordered.result ≡ rows_in c.in_ok-lent.lent.items = c.lent-ordered.ensures ∙ ap rows_in c.deref-2.ensures.value in
+    let same : SameBag c.args.rows.now (rows_of c.lent-ordered.result) = rw at c.in_ok-lent.ensures.same in
+    bag-as c.args.form (map kind_of_emit c.args.kinds.now) c.args.rows.now (rows_of c.lent-ordered.result) same c.rows_of_runs-2.result c.rows_of_runs-2.ensures.rows
 
 pub returns-clause-fits : goal.returns-clause-fits
 returns-clause-fits c =
-    let rows = rows_of c.deref-3.result.now in
-    let same : SameBag c.args.rows.now rows = read-same c.args.rows.now _ _ _ _ c.in_ok-read.ensures.same c.deref-2.ensures.value c.in_ok-ordered.ensures.same c.deref-3.ensures.value in
-    on_ok_weaker c.rows_of_runs.result (λ e. results_fit-same c.args.form (map kind_of_emit c.args.kinds.now) c.args.rows.now rows same ∙ e) c.rows_of_runs.ensures.fits
+    let at : rows_of c.lent-ordered.result ≡ rows_in c.in_ok-lent.lent.items = c.lent-ordered.ensures ∙ ap rows_in c.deref-2.ensures.value in
+    let same : SameBag c.args.rows.now (rows_of c.lent-ordered.result) = rw at c.in_ok-lent.ensures.same in
+    fits-as c.args.form (map kind_of_emit c.args.kinds.now) c.args.rows.now (rows_of c.lent-ordered.result) same c.rows_of_runs-2.result c.rows_of_runs-2.ensures.fits
 
 pub returns-clause-fault : goal.returns-clause-fault
 returns-clause-fault c =
-    let rows = rows_of c.deref-3.result.now in
-    let same : SameBag c.args.rows.now rows = read-same c.args.rows.now _ _ _ _ c.in_ok-read.ensures.same c.deref-2.ensures.value c.in_ok-ordered.ensures.same c.deref-3.ensures.value in
-    let kinds = map kind_of_emit c.args.kinds.now in
-    IfErr-weaker c.rows_of_runs.result (λ given. Overflows given (results_fit c.args.form kinds rows))
-    (λ given. Overflows given (results_fit c.args.form kinds c.args.rows.now))
-    (λ given e. rw (results_fit-same c.args.form kinds c.args.rows.now rows same) e) c.rows_of_runs.ensures.fault
+    let at : rows_of c.lent-ordered.result ≡ rows_in c.in_ok-lent.lent.items = c.lent-ordered.ensures ∙ ap rows_in c.deref-2.ensures.value in
+    let same : SameBag c.args.rows.now (rows_of c.lent-ordered.result) = rw at c.in_ok-lent.ensures.same in
+    fault-as c.args.form (map kind_of_emit c.args.kinds.now) c.args.rows.now (rows_of c.lent-ordered.result) same c.rows_of_runs-2.result c.rows_of_runs-2.ensures.fault

@@ -11,8 +11,8 @@ use Rattle.aggregate_ops.proofs.grouping.rows_of_runs.Given as goal
 
 abbrev pub invariant-loop-done : goal.invariant-loop-done
 invariant-loop-done l =
-    (l.done ≤ length l.ordered) × (length l.made ≤ l.done)
-    × LeftOver l.form (map kind_of_emit l.kinds) l.places (rows_of l.ordered) l.made (rows_of (drop l.done l.ordered))
+    (l.done ≤ length (rows_of l.ordered)) × (length l.made ≤ l.done)
+    × LeftOver l.form (map kind_of_emit l.kinds) l.places (rows_of l.ordered) l.made (drop l.done (rows_of l.ordered))
 
 abbrev pub decreases-loop-done : goal.decreases-loop-done
-decreases-loop-done l = length l.initial.ordered - l.done
+decreases-loop-done l = length (rows_of l.initial.ordered) - l.done

@@ -10,15 +10,15 @@ loop-count-preserved c = (
   omega arith,
   omega arith,
   below_more _ _ c.loop-count.invariant.2
-      (key-same row_of c.args.rows.now c.args.places.now c.loop-count.count c.index-rows-0.result c.index-rows-count.result c.loop-count-test.true c.requires
-      c.index-rows-0.is c.index-rows-count.is (search rules)),
+      (key-same c.args.places.now (rows_of c.args.rows) c.loop-count.count (row_of c.get-first.result) (row_of c.get.result) (omega arith) c.requires
+      c.get-first.ensures c.get.ensures (search rules)),
 )
 
 pub returns-else-is_eq : goal.returns-else-is_eq
 returns-else-is_eq c = record {
   some = c.loop-count.invariant.0;
-  within = omega (arith, length-map c.args.rows.now row_of, length-map (rows_of c.args.rows.now) (key_at c.args.places.now));
+  within = omega (arith, length-map (rows_of c.args.rows) (key_at c.args.places.now));
   same = c.loop-count.invariant.2;
-  next = λ low. key-other row_of c.args.rows.now c.args.places.now c.loop-count.count c.index-rows-0.result c.index-rows-count.result c.loop-count-test.true c.requires
-      c.index-rows-0.is c.index-rows-count.is (search rules);
+  next = λ low. key-other c.args.places.now (rows_of c.args.rows) c.loop-count.count (row_of c.get-first.result) (row_of c.get.result) (omega arith) c.requires
+      c.get-first.ensures c.get.ensures (search rules);
 }
