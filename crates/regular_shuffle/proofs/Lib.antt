@@ -1,0 +1,8 @@
+-- Laws of what the crate promises, and worked cases.
+pub mod MovingLemmas
+pub mod SpreadLemmas
+pub mod StayingLemmas
+pub mod TapLemmas
+pub mod ColumnLemmas
+pub mod BroadcastLemmas
+pub mod WorkedRows

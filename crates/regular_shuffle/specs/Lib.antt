@@ -1,0 +1,4 @@
+-- The words of this crate.
+pub mod KeySpreads
+pub mod BroadcastJoins
+pub mod inner
