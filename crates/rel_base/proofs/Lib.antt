@@ -4,6 +4,7 @@ pub mod KeyLemmas
 pub mod SortKeyLemmas
 pub mod WorkedRows
 pub mod PickLemmas
+pub mod RangeLemmas
 pub mod SortLemmas
 pub mod StartLemmas
 pub mod StrideLemmas

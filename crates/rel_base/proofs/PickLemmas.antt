@@ -65,7 +65,7 @@ module _ {X : Type 0} where
   some_item [] p low = absurd (omega arith)
   some_item (x ∷ xs) p low = (get_or (x ∷ xs) p x, one_item (x ∷ xs) p x low)
 
-  rest_within : (xs : List X) (p : ℕ) (ps : List ℕ) → All (λ q. q < length xs) (p ∷ ps) → All (λ q. q < length xs) ps
+  pub rest_within : (xs : List X) (p : ℕ) (ps : List ℕ) → All (λ q. q < length xs) (p ∷ ps) → All (λ q. q < length xs) ps
   rest_within xs p ps within k d low = within (suc k) d (omega arith)
 
   pub length-items_at : (xs : List X) (ps : List ℕ) → All (λ p. p < length xs) ps → length (items_at xs ps) ≡ length ps

@@ -5,3 +5,5 @@ pub mod Starts
 pub mod Fronts
 pub mod Beginnings
 pub mod Letters
+pub mod PlacesLeft
+pub mod RowValues

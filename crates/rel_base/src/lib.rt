@@ -1,7 +1,6 @@
 //! Values, rows, relations and keys: the data that every other crate speaks of.
 //!
-//! Stands on std, on `smallvec`, which keeps short rows inline, and on `arrayvec`, which does so with short texts. Nothing
-//! here reads, writes or waits.
+//! Stands on std alone. Nothing here reads, writes or waits.
 //!
 //! Promises: values and rows are ordered by `value_order` and `row_order`; a copy equals its original; a relation's
 //! rows always have its columns' types. A list is seen by contracts as the list of its items, and `Steps` as the number
@@ -24,8 +23,10 @@ mod list;
 mod names;
 mod relations;
 mod row_iter;
+mod row_values;
 mod rows;
 mod shared_rows;
+mod short_texts;
 mod sort_keys;
 mod stretches;
 #[cfg(test)]

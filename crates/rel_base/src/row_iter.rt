@@ -1,5 +1,6 @@
 //! Rows one by one.
-ghost use Rattle.std.specs.Prelude.{◌≡◌, ◌++◌, ◌<◌, length, All};
+ghost use Rattle.std.specs.Prelude.{◌≡◌, ◌++◌, ◌^◌, ◌<◌, [], length, All, IfNone};
+ghost use Rattle.std.specs.Option.{option_to_list};
 ghost use Rattle.std.specs.Iterator.{YieldsFirstRef, item_count};
 ghost use Rattle.rel_base.specs.Picks.{joined};
 
@@ -7,30 +8,76 @@ use crate::Row;
 use crate::stretches::Stretch;
 use std::marker::Model;
 
+/// The places of a stretch that are left.
+#[derive(Drop)]
+pub enum PlaceIter<'a> {
+    /// So many places, a step apart.
+    Every { next: u32, step: u32, len: u32 },
+    /// These places.
+    At { places: &'a [u32] },
+}
+
+impl<'a> PlaceIter<'a> {
+    ghost use Rattle.rel_base.specs.inner.PlacesLeft.{places_left};
+
+    /// Takes the first place; `None` where none is left.
+    #[inline(always)]
+    fn take_first(&mut self) -> Option<u32>
+        requires { All (λ p. p < 2 ^ 32) (places_left self.old) }
+        ensures places { places_left self.old ≡ option_to_list result ++ places_left self.new }
+        ensures none { IfNone result (places_left self.old ≡ []) }
+    {
+        match self {
+            PlaceIter::Every { next, step, len } => {
+                if *len == 0 {
+                    return None;
+                }
+                let place = *next;
+                // Behind the last place the sum may be too large, and no place is read then.
+                *next = place.wrapping_add(*step);
+                *len -= 1;
+                Some(place)
+            }
+            PlaceIter::At { places } => {
+                let (place, rest) = places.split_first()?;
+                *places = rest;
+                Some(*place)
+            }
+        }
+    }
+}
+
 /// The rows of a stretch that are left.
 #[derive(Drop)]
 pub struct StretchIter<'a> {
-    stretch: &'a Stretch,
-    at: u32,
+    rows: &'a [Row],
+    places: PlaceIter<'a>,
 }
 
 impl<'a> Model for StretchIter<'a> {
-    ghost use Rattle.std.specs.Prelude.{List, ◌≤◌, length, drop};
+    ghost use Rattle.std.specs.Prelude.{List, ◌^◌, ◌<◌, length, All};
     ghost use Rattle.rel_base.specs.declared.values.Value.{Value as Datum};
+    ghost use Rattle.rel_base.specs.Picks.{items_at};
+    ghost use Rattle.rel_base.specs.inner.PlacesLeft.{places_left};
 
     ghost Value = { List (List Datum) };
 
-    ghost view = { λ w. drop w.at w.stretch.now };
+    ghost view = { λ w. items_at w.rows.now (places_left w.places) };
 
-    ghost invariant = { λ w. w.at ≤ length w.stretch.now };
+    ghost invariant = { λ w. All (λ p. p < length w.rows.now) (places_left w.places) × (length w.rows.now < 2 ^ 32) };
 }
 
 impl<'a> StretchIter<'a> {
-    /// All rows of a stretch.
-    pub fn of(stretch: &'a Stretch) -> StretchIter<'a>
-        ensures { result ≡ stretch.now }
+    ghost use Rattle.rel_base.specs.Picks.{items_at};
+    ghost use Rattle.rel_base.specs.inner.PlacesLeft.{places_left};
+
+    /// The rows of a block at these places.
+    pub fn of(rows: &'a [Row], places: PlaceIter<'a>) -> StretchIter<'a>
+        requires within { All (λ p. p < length rows.now) (places_left places) }
+        requires room { length rows.now < 2 ^ 32 }
+        ensures { result ≡ items_at rows.now (places_left places.entry) }
     {
-        StretchIter { stretch, at: 0 }
+        StretchIter { rows, places }
     }
 }
 
@@ -42,12 +89,8 @@ impl<'a> Iterator for StretchIter<'a> {
     ghost remaining = { item_count (λ left. left) };
 
     fn next(&mut self) -> Option<&'a Row> {
-        if self.at == self.stretch.len() {
-            return None;
-        }
-        let row = self.stretch.get(self.at);
-        self.at += 1;
-        Some(row)
+        let place = self.places.take_first()?;
+        Some(&self.rows[place as usize])
     }
 }
 

@@ -1,5 +1,5 @@
 //! Rows that are shared, not copied.
-ghost use Rattle.std.specs.Prelude.{◌≡◌, ℕ, ◌+◌, ◌-◌, ◌*◌, ◌^◌, ◌<◌, ◌≤◌, ◌==◌, ◌↔◌, [], ◌∷◌, ◌++◌, length, take, map, IsSome, IfOk, IfSome, OnOk, OnErr, All, slice_index_or};
+ghost use Rattle.std.specs.Prelude.{◌≡◌, ℕ, ◌+◌, ◌-◌, ◌*◌, ◌^◌, ◌<◌, ◌≤◌, ◌==◌, ◌↔◌, [], ◌∷◌, ◌++◌, length, take, map, IsSome, IfOk, IfSome, OnOk, OnErr, All, slice_index_or, slice_range};
 ghost use Rattle.std.specs.Option.{option_to_list};
 ghost use Rattle.rel_base.specs.Bags.{IsSortedPermutation};
 ghost use Rattle.rel_base.specs.inner.Beginnings.{BeginsWith};
@@ -109,6 +109,7 @@ impl Rows {
     }
 
     /// Adds a row at the end. After `Memory` the list is as it was, and the row is let go.
+    #[inline(always)]
     pub fn push(&mut self, row: Row) -> Result<(), Memory>
         requires { length self.old < 2 ^ 32 - 1 }
         ensures ok { OnOk result (self.new ≡ self.old ++ row ∷ []) }
@@ -175,6 +176,26 @@ impl Rows {
         })
     }
 
+    /// The rows from number `from` up to but not with number `to`, counted from 0. They are a view: each stretch takes
+    /// memory for itself alone, or four bytes a row where its rows don't stand a step apart. No row that is shared is copied.
+    pub fn slice(&self, alloc: Global, from: u32, to: u32) -> Result<Rows, Memory>
+        requires order { from ≤ to }
+        requires within { to ≤ length self.now }
+        ensures { IfOk result (λ made. made ≡ slice_range self.now from to) }
+    {
+        let mut picked = SharedRows::new(alloc);
+        let mut reached = from;
+        while reached < to {
+            let run = self.run_between(alloc, reached, to)?;
+            reached += run.len();
+            picked.push(run)?;
+        }
+        Ok(Rows {
+            shared: picked,
+            own: Vec::new(alloc),
+        })
+    }
+
     /// The rows whose number, from 0, leaves the remainder `start` by the step. Where these are all rows of one block, they
     /// are a view, which takes no memory for each row. No row that is shared is copied.
     pub fn every_nth(&self, alloc: Global, step: u32, start: u32) -> Result<Rows, Memory>
@@ -228,6 +249,25 @@ impl Rows {
         }
         let count = run_length(places, first, self.own.len() as u32);
         let copies = copies_at(alloc, self.own.as_slice(), first, &places[..count])?;
+        let block = Block::of(alloc, copies)?;
+        Ok(Stretch::whole(block))
+    }
+
+    /// The rows from number `from` on, as many before number `to` as stand in one stretch.
+    fn run_between(&self, alloc: Global, from: u32, to: u32) -> Result<Stretch, Memory>
+        requires order { from < to }
+        requires within { to ≤ length self.now }
+        ensures run { IfOk result (λ run. run ≡ items_at self.now (stepped from 1 (length run))) }
+        ensures some { IfOk result (λ run. 0 < length run) }
+        ensures bound { IfOk result (λ run. from + length run ≤ to) }
+    {
+        let first = self.shared.len();
+        if from < first {
+            let run = self.shared.run_between(alloc, from, to)?;
+            return Ok(run);
+        }
+        let own = &self.own[(from - first) as usize..(to - first) as usize];
+        let copies = copies_of(alloc, own)?;
         let block = Block::of(alloc, copies)?;
         Ok(Stretch::whole(block))
     }

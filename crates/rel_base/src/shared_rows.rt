@@ -2,6 +2,7 @@
 ghost use Rattle.std.specs.Prelude.{◌≡◌, ◌+◌, ◌-◌, ◌^◌, ◌<◌, ◌≤◌, ◌++◌, [], length, take, map, IfOk, IfErr, OnOk, OnErr, All, slice_index_or};
 ghost use Rattle.rel_base.specs.Picks.{items_at, joined};
 ghost use Rattle.rel_base.specs.inner.Starts.{AreStarts};
+ghost use Rattle.rel_base.specs.inner.Strides.{stepped};
 
 use crate::blocks::Block;
 use crate::list::copies_of;
@@ -148,6 +149,25 @@ impl SharedRows {
         let start = starts[k];
         let count = run_length(places, start, stretch.len());
         let run = stretch.at_numbers(alloc, start, &places[..count])?;
+        Ok(run)
+    }
+
+    /// The rows from number `from` on, as many before number `to` as stand in one stretch.
+    pub fn run_between(&self, alloc: Global, from: u32, to: u32) -> Result<Stretch, Memory>
+        requires order { from < to }
+        requires first { from < length self.now }
+        ensures run { IfOk result (λ run. run ≡ items_at self.now (stepped from 1 (length run))) }
+        ensures some { IfOk result (λ run. 0 < length run) }
+        ensures bound { IfOk result (λ run. from + length run ≤ to) }
+        ensures within { IfOk result (λ run. from + length run ≤ length self.now) }
+    {
+        let stretches = self.stretches.as_slice();
+        let starts = self.starts.as_slice();
+        let k = stretch_of(stretches, starts, from);
+        let stretch = &stretches[k];
+        let start = starts[k];
+        let end = stretch.len().min(to - start);
+        let run = stretch.slice(alloc, from - start, end)?;
         Ok(run)
     }
 

@@ -1,9 +1,10 @@
 //! Rows of one shared block, by their places in it.
 ghost use Rattle.std.specs.Prelude.{◌≡◌, ℕ, ◌+◌, ◌-◌, ◌*◌, ◌^◌, ◌<◌, ◌≤◌, length, map, IfOk, IfSome, All, slice_index_or};
 ghost use Rattle.rel_base.specs.Picks.{items_at, every_nth};
+ghost use Rattle.rel_base.specs.inner.Strides.{stepped};
 
 use crate::blocks::Block;
-use crate::row_iter::StretchIter;
+use crate::row_iter::{PlaceIter, StretchIter};
 use crate::{Duplicate, Memory, Row};
 use std::alloc::Global;
 use std::marker::Model;
@@ -114,6 +115,17 @@ impl Stretch {
         })
     }
 
+    /// The rows from number `from` up to but not with number `to`. No row is copied.
+    pub fn slice(&self, alloc: Global, from: u32, to: u32) -> Result<Stretch, Memory>
+        requires order { from < to }
+        requires within { to ≤ length self.now }
+        ensures { IfOk result (λ made. made ≡ items_at self.now (stepped from 1 (to - from))) }
+    {
+        let block = self.block.copy(alloc)?;
+        let selection = self.selection.slice(alloc, block.len(), from, to)?;
+        Ok(Stretch { block, selection })
+    }
+
     /// A copy of each row.
     pub fn copied_rows(&self, alloc: Global) -> Result<Vec<Row>, Memory>
         ensures { IfOk result (λ made. made.items ≡ self.now) }
@@ -130,7 +142,17 @@ impl Stretch {
     pub fn iter(&self) -> StretchIter<'_>
         ensures { result ≡ self.now }
     {
-        StretchIter::of(self)
+        let places = match &self.selection {
+            Selection::Every { start, step, len } => PlaceIter::Every {
+                next: *start,
+                step: *step,
+                len: *len,
+            },
+            Selection::At { places } => PlaceIter::At {
+                places: places.as_slice(),
+            },
+        };
+        StretchIter::of(self.block.as_slice(), places)
     }
 }
 
@@ -165,6 +187,31 @@ impl Selection {
                 places_by_step(alloc, *start, *step, first, numbers)
             }
             Selection::At { places } => places_among(alloc, places.as_slice(), first, numbers),
+        }
+    }
+}
+
+impl Selection {
+    ghost use Rattle.rel_base.specs.inner.Selections.{places_of};
+
+    /// The places, in a block of this length, from number `from` up to but not with number `to`.
+    fn slice(&self, alloc: Global, len: u32, from: u32, to: u32) -> Result<Selection, Memory>
+        requires order { from < to }
+        requires within { to ≤ length (places_of self.now) }
+        requires places { All (λ p. p < len) (places_of self.now) }
+        ensures { IfOk result (λ made. places_of made
+            ≡ map (λ n. slice_index_or (places_of self.now) n 0) (stepped from 1 (to - from))) }
+    {
+        match self {
+            Selection::Every { start, step, .. } => Ok(Selection::Every {
+                start: *start + *step * from,
+                step: *step,
+                len: to - from,
+            }),
+            Selection::At { places } => {
+                let places = Vec::from_slice(alloc, &places[from as usize..to as usize])?;
+                Ok(Selection::At { places })
+            }
         }
     }
 }

@@ -38,8 +38,8 @@ fn texts_short_and_long_are_copied_and_compared(rt: HostRuntime) -> Result<(), F
         "",
         "10",
         "9",
-        "librust-aaaaaaaaaaaaaaa",
-        "librust-aaaaaaaaaaaaaaab",
+        "librust-aaaaaaaaaaaaaa",
+        "librust-aaaaaaaaaaaaaab",
         "é",
     ];
     for i in 0..ascending.len() {
@@ -158,6 +158,16 @@ fn views_and_places_pick_rows(rt: HostRuntime) -> Result<(), Fail> {
     assert_eq!(rt; rows.every_nth(alloc, 2, 1)?.len(), 2);
     if rows.len() == 5 {
         assert_eq!(rt; rows.at_places(alloc, &[4, 0, 4])?.len(), 3);
+    }
+    Ok(())
+}
+
+#[test]
+fn a_range_is_cut_out_of_rows(rt: HostRuntime) -> Result<(), Fail> {
+    let alloc = rt.alloc();
+    let rows = shared_rows_of(alloc, &[7, 1, 5, 3, 9])?;
+    if rows.len() == 5 {
+        assert_eq!(rt; rows.slice(alloc, 1, 4)?, rows_of(alloc, &[1, 5, 3])?);
     }
     Ok(())
 }

@@ -1,20 +1,21 @@
 //! Text: names and string values.
-ghost use Rattle.std.specs.Prelude.{◌≡◌, IfOk, Some, nat_eq, refl};
+ghost use Rattle.std.specs.Prelude.{◌≡◌, ◌≤◌, length, IfOk, Some, nat_eq, refl};
 ghost use Rattle.std.specs.Ordering.{nat_cmp};
 ghost use Rattle.std.specs.Cmp.Lexicographic.{pointwise, slice_cmp, nat_list_eq_equiv, nat_list_cmp_total, texts_ties, texts_po};
 ghost use Rattle.std.specs.Cmp.{partial_equiv_from_equiv};
 
+use crate::short_texts::ShortText;
 use crate::{Duplicate, Memory};
-use arrayvec::ArrayString;
 use std::alloc::Global;
 use std::cmp::Ordering;
 use std::fmt;
 use std::hash::{Hash, Hasher};
 use std::marker::Model;
+use std::mem::size_of;
 
 /// UTF-8 text, which contracts see as its bytes. It is ordered by its bytes.
 ///
-/// The text stands behind one pointer, so that a `Value` has 16 bytes. A short one takes one allocation.
+/// The text stands behind one pointer, so that a `Value` has 16 bytes. A short one takes one allocation, of 24 bytes.
 #[derive(Drop)]
 pub struct Text {
     boxed: Box<Letters>,
@@ -24,9 +25,29 @@ pub struct Text {
 #[derive(Drop)]
 pub enum Letters {
     /// In the value itself.
-    Short(ArrayString<23>),
+    Short(ShortText),
     /// In memory of their own.
-    Long(String),
+    Long(Box<String>),
+}
+
+// A piece of memory of 24 bytes is the least that `malloc` gives.
+const _: () = prove!(size_of::<Letters>() == 24);
+
+impl Letters {
+    ghost use Rattle.rel_base.specs.inner.Letters.{IsShort, bytes_in};
+
+    /// Writes a short text over another one, where it stands.
+    #[inline(always)]
+    fn set_short(&mut self, s: &str)
+        requires short { IsShort self.old }
+        requires room { length s.now ≤ 22 }
+        ensures { bytes_in self.new ≡ s.now }
+    {
+        match self {
+            Letters::Short(short) => short.set(s),
+            Letters::Long(_) => unreachable!(),
+        }
+    }
 }
 
 impl Model for Text {
@@ -43,11 +64,13 @@ impl Text {
     pub fn of(alloc: Global, s: &str) -> Result<Text, Memory>
         ensures { IfOk result (λ made. made ≡ s.now) }
     {
-        let letters = match ArrayString::from(s) {
-            Ok(short) => Letters::Short(short),
-            Err(_) => Letters::Long(String::from_str(alloc, s)?),
-        };
-        let boxed = Box::new(alloc, letters)?;
+        if s.len() > ShortText::MOST {
+            let long = Box::new(alloc, String::from_str(alloc, s)?)?;
+            let boxed = Box::new(alloc, Letters::Long(long))?;
+            return Ok(Text { boxed });
+        }
+        let mut boxed = Box::new(alloc, Letters::Short(ShortText::new()))?;
+        boxed.set_short(s);
         Ok(Text { boxed })
     }
 

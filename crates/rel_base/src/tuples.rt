@@ -2,39 +2,46 @@
 ghost use Rattle.std.specs.Prelude.{◌≡◌, ℕ, ◌+◌, ◌-◌, ◌^◌, ◌<◌, ◌≤◌, ◌↔◌, ◌==◌, [], ◌∷◌, ◌++◌, length, IsSome, IfOk, OnOk, OnErr, slice_index_or};
 ghost use Rattle.std.specs.Option.{option_to_list};
 
+use crate::row_values::Values;
 use crate::{Duplicate, Memory, Value};
-use smallvec::SmallVec;
 use std::alloc::Global;
 use std::cmp::Ordering;
 use std::fmt;
 use std::marker::Model;
+use std::mem::size_of;
 
 /// A row of a relation: a list of at most 4,294,967,295 values, ordered column by column as std compares lists.
 ///
-/// Up to three values stand in the row itself, so that such a row has one cache line and takes no memory of its own.
+/// Up to three values stand in the row itself, so that such a row has 56 bytes and takes no memory of its own.
 #[derive(Drop)]
 pub struct Row {
-    values: SmallVec<Value, 3>,
+    values: Values,
+    alloc: Global,
 }
+
+const _: () = prove!(size_of::<Row>() == 56);
 
 impl Model for Row {
     ghost use Rattle.std.specs.Prelude.{List, ◌^◌, ◌<◌, length};
     ghost use Rattle.rel_base.specs.declared.values.Value.{Value as Datum};
+    ghost use Rattle.rel_base.specs.inner.RowValues.{HasPlaces, values_in};
 
     ghost Value = { List Datum };
 
-    ghost view = { λ r. r.values.items };
+    ghost view = { λ r. values_in r.values };
 
-    ghost invariant = { λ r. length r.values.items < 2 ^ 32 };
+    ghost invariant = { λ r. HasPlaces r.values × (length (values_in r.values) < 2 ^ 32) };
 }
 
 impl Row {
     /// A row without values, which takes no memory until its fourth value comes.
+    #[inline(always)]
     pub fn new(alloc: Global) -> Row
         ensures { result ≡ [] }
     {
         Row {
-            values: SmallVec::new(alloc),
+            values: Values::new(),
+            alloc,
         }
     }
 
@@ -42,14 +49,14 @@ impl Row {
     pub fn len(&self) -> u32
         ensures { result ≡ length self.now }
     {
-        self.values.len() as u32
+        self.values.as_slice().len() as u32
     }
 
     /// Whether there is no value.
     pub fn is_empty(&self) -> bool
         ensures { result ≡ (length self.now == 0) }
     {
-        self.values.is_empty()
+        self.values.as_slice().is_empty()
     }
 
     /// The value of column `i`, from 0.
@@ -69,13 +76,13 @@ impl Row {
     }
 
     /// Adds a value at the end. After `Memory` the row is as it was, and the value is let go.
+    #[inline(always)]
     pub fn push(&mut self, value: Value) -> Result<(), Memory>
         requires { length self.old < 2 ^ 32 - 1 }
         ensures ok { OnOk result (self.new ≡ self.old ++ value ∷ []) }
         ensures err { OnErr result (self.new ≡ self.old) }
     {
-        self.values.push(value)?;
-        Ok(())
+        self.values.push(self.alloc, value)
     }
 
     /// Takes the last value; `None` where the row is empty.
@@ -89,21 +96,13 @@ impl Row {
 
 impl Duplicate for Row {
     fn copy(&self, alloc: Global) -> Result<Row, Memory> {
-        let values = copies_of(alloc, self.as_slice())?;
-        Ok(Row { values })
+        let mut row = Row::new(alloc);
+        for value in self.as_slice() {
+            let copy = value.copy(alloc)?;
+            row.push(copy)?;
+        }
+        Ok(row)
     }
-}
-
-/// The values' copies, in order.
-fn copies_of(alloc: Global, values: &[Value]) -> Result<SmallVec<Value, 3>, Memory>
-    ensures { IfOk result (λ made. made.items ≡ values.now) }
-{
-    let mut copies = SmallVec::with_capacity(alloc, values.len())?;
-    for value in values {
-        let copy = value.copy(alloc)?;
-        copies.push(copy)?;
-    }
-    Ok(copies)
 }
 
 impl PartialEq for Row {

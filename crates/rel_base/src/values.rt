@@ -2,6 +2,7 @@
 use crate::{Duplicate, Memory, Text};
 use std::alloc::Global;
 use std::cmp::Ordering;
+use std::mem::size_of;
 
 /// The type of a column.
 #[derive(Clone, Copy, Debug, PartialEq, Eq)]
@@ -27,6 +28,8 @@ pub enum Value {
     /// A truth value.
     Bool(bool),
 }
+
+const _: () = prove!(size_of::<Value>() == 16);
 
 /// The value that fills the unused places of a short row: the number 0.
 impl Default for Value {
