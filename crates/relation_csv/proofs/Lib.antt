@@ -14,6 +14,8 @@ pub mod RelationLemmas
 pub mod TypeLemmas
 pub mod TextLemmas
 pub mod DecimalLemmas
+pub mod DigitLemmas
 pub mod MarkLemmas
+pub mod NearLemmas
 pub mod RoundTripLemmas
 pub mod WorkedRows

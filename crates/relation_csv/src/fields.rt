@@ -1,5 +1,5 @@
 //! Fields: reads the columns of a header and the values of a row.
-ghost use Rattle.std.specs.Prelude.{◌≡◌, ◌≤◌, true};
+ghost use Rattle.std.specs.Prelude.{◌≡◌, ◌≤◌, true, IfSome, Some};
 ghost use Rattle.rel_base.specs.Limits.{most_rows};
 ghost use Rattle.csv.specs.Records.{fields_of};
 ghost use Rattle.relation_csv.specs.Fields.{bool_of_field, column_of_field, int_of_field, type_of_name, value_of_field};
@@ -113,14 +113,48 @@ pub(crate) fn value_of(
 }
 
 /// The number that an int field writes.
+#[inline(always)]
 fn int_of(field: &str) -> Option<i64>
     ensures { result ≡ int_of_field field.now }
 {
-    field.parse::<i64>().ok()
+    match short_number(field.as_bytes()) {
+        Some(number) => Some(number),
+        None => field.parse::<i64>().ok(),
+    }
+}
+
+/// The number that a field of at most 18 digits writes; `None` where it has more bytes or others.
+#[inline(always)]
+fn short_number(digits: &[u8]) -> Option<i64>
+    ensures { IfSome result (λ number. int_of_field digits.now ≡ Some number) }
+{
+    if digits.is_empty() || digits.len() > 18 {
+        return None;
+    }
+    let mut number = 0u64;
+    for digit in digits {
+        if !digit.is_ascii_digit() {
+            return None;
+        }
+        number = 10 * number + (*digit - b'0') as u64;
+    }
+    Some(number as i64)
 }
 
 /// The truth value that a boolean field writes, in any case.
+#[inline(always)]
 fn bool_of(field: &str) -> Option<bool>
+    ensures { result ≡ bool_of_field field.now }
+{
+    match field {
+        "true" => Some(true),
+        "false" => Some(false),
+        _ => bool_in_any_case(field),
+    }
+}
+
+/// The truth value that a boolean field writes, in any case.
+fn bool_in_any_case(field: &str) -> Option<bool>
     ensures { result ≡ bool_of_field field.now }
 {
     if field.eq_ignore_ascii_case("true") {

@@ -10,11 +10,12 @@ ghost use Rattle.csv.specs.Reading.{is_bom, strip_bom};
 ghost use Rattle.csv.specs.Writing.{default_writer, needs_byte};
 ghost use Rattle.csv.specs.declared.parser.State.TheVariants as state;
 ghost use Rattle.relation_csv.specs.Files.{records_of_bytes, rows_of_records};
-ghost use Rattle.relation_csv.specs.inner.PlainLines.{BeginsWithField, BeginsWithRow, IsLine};
+ghost use Rattle.relation_csv.specs.inner.PlainLines.{AddsRow, BeginsWithField, IsLine};
 ghost use Rattle.relation_csv.specs.inner.RecordsLeft.{records_after};
 
 use crate::RelFault;
 use crate::fields::value_of;
+use memchr::memchr2;
 use rel_base::{MOST_ROWS, Memory, Row, Rows, Schema};
 use std::alloc::Global;
 use std::str;
@@ -103,14 +104,12 @@ fn rows_of_lines(alloc: Global, schema: &Schema, text: &str) -> Result<Option<Ro
             rows.freeze(alloc)?;
             return Ok(Some(rows));
         }
-        let nth = rows.len() + 1;
-        if nth > MOST_ROWS {
+        if rows.len() >= MOST_ROWS {
             return Ok(None);
         }
-        let Some((row, rest)) = row_of_line(alloc, schema, nth, line)? else {
+        let Some(rest) = push_row_of(alloc, schema, line, &mut rows)? else {
             return Ok(None);
         };
-        rows.push(row)?;
         left = rest;
     }
 }
@@ -136,18 +135,20 @@ fn line_of(text: &str) -> Option<&str>
     Some(left)
 }
 
-/// The row that record number `nth` writes, with which a text begins, and what stands behind the record.
+/// Adds the row of the record with which a text begins, the next one behind these rows, and gives what stands behind the
+/// record.
 #[inline(always)]
-fn row_of_line<'a>(
+fn push_row_of<'a>(
     alloc: Global,
     schema: &Schema,
-    nth: u32,
     line: &'a str,
-) -> Result<Option<(Row, &'a str)>, Memory>
-    requires { nth ≤ most_rows }
-    ensures { IfOk result (λ found. IfSome found (λ (row, rest).
-        BeginsWithRow schema.now nth line.now row rest.now)) }
+    rows: &mut Rows,
+) -> Result<Option<&'a str>, Memory>
+    requires { length rows.old < most_rows }
+    ensures { IfOk result (λ found. IfSome found (λ rest.
+        AddsRow schema.now line.now rows.old rows.new rest.now)) }
 {
+    let nth = rows.len() + 1;
     let mut row = Row::new(alloc);
     let mut left = line;
     let mut more = true;
@@ -170,7 +171,8 @@ fn row_of_line<'a>(
     if more {
         return Ok(None);
     }
-    Ok(Some((row, left)))
+    rows.push(row)?;
+    Ok(Some(left))
 }
 
 /// The first field of a text, whether another one follows it in its record, and what stands behind it.
@@ -193,9 +195,40 @@ fn first_field(text: &str) -> Option<(&str, bool, &str)>
     }
 }
 
+/// How many bytes at most are searched at once for the end of a field.
+const NEAR: usize = 32;
+
 /// How many bytes stand before the first that means something in a file.
-#[inline(never)]
+#[inline(always)]
 fn field_end(bytes: &[u8]) -> usize
+    ensures bound { result ≤ length bytes.now }
+    ensures plain { list_any (needs_byte default_writer) (take result bytes.now) ≡ false }
+{
+    match near_end(bytes) {
+        Some(end) => end,
+        None => far_end(bytes),
+    }
+}
+
+/// The same, if the field ends near by and no quote and no carriage return is near.
+#[inline(always)]
+fn near_end(bytes: &[u8]) -> Option<usize>
+    ensures bound { IfSome result (λ end. end ≤ length bytes.now) }
+    ensures plain { IfSome result (λ end. list_any (needs_byte default_writer) (take end bytes.now) ≡ false) }
+{
+    if bytes.len() < NEAR {
+        return None;
+    }
+    let near = &bytes[..NEAR];
+    if memchr2(b'"', b'\r', near).is_some() {
+        return None;
+    }
+    memchr2(b',', b'\n', near)
+}
+
+/// The same, byte by byte.
+#[inline(never)]
+fn far_end(bytes: &[u8]) -> usize
     ensures bound { result ≤ length bytes.now }
     ensures plain { list_any (needs_byte default_writer) (take result bytes.now) ≡ false }
 {

@@ -3,7 +3,8 @@
 --   IsLine text                              a record that begins with a field begins with the text, if the text has a byte
 --   BeginsWithField text field more rest     a text begins with this field, where a field may begin
 --   BeginsWithRow schema n text row rest     a text begins with a record, number n, that writes this row
-use Rattle.std.specs.Prelude.{◌≡◌, ℕ, ◌<◌, Bool, true, false, Option, Some, Ok, List, [], ◌∷◌, ◌++◌, length}
+--   AddsRow schema text rows more rest       a text begins with the record behind these rows, and its row is added to them
+use Rattle.std.specs.Prelude.{◌≡◌, ℕ, ◌<◌, Bool, true, false, Option, Some, Ok, List, [], ◌∷◌, ◌++◌, ◌+◌, length}
 use Rattle.csv.specs.Machine.{Read, next_record}
 use Rattle.csv.specs.Reading.{default_config}
 use Rattle.csv.specs.declared.parser.State.TheVariants as state
@@ -33,3 +34,8 @@ BeginsWithField text field more rest =
 abbrev pub BeginsWithRow : List Column → ℕ → List ℕ → List Value → List ℕ → Type 0
 BeginsWithRow schema nth text row rest =
     (fields : Record) × (record_from [] text ≡ record_on fields false rest) × (row_of_record schema nth fields ≡ Ok row)
+
+-- the text begins with the fields of the record behind those of these rows, and its row is added at their end
+abbrev pub AddsRow : List Column → List ℕ → List (List Value) → List (List Value) → List ℕ → Type 0
+AddsRow schema text rows more rest =
+    (row : List Value) × (more ≡ rows ++ row ∷ []) × BeginsWithRow schema (length rows + 1) text row rest

@@ -1,19 +1,19 @@
 use Rattle.std.proofs.Common.{◌≡◌, ◌+◌, ◌<◌, ap, length, get_or, arith, rules}
 use Rattle.relation_csv.proofs.PlainLemmas.{BeginsWithRow-all, HasFields-none, HasFields-push, length-row}
 use Rattle.relation_csv.proofs.ReadAsLemmas.{IsReadAs-Ok}
-use Rattle.relation_csv.proofs.plain.row_of_line.Goals as goal
+use Rattle.relation_csv.proofs.plain.push_row_of.Goals as goal
 
 pub loop-column-init : goal.loop-column-init
 loop-column-init c = record {
   text = c.utf8.line;
-  read = rw c.new-row.ensures (HasFields-none c.args.schema.now c.args.nth c.args.line.now);
+  read = rw c.new-row.ensures (HasFields-none c.args.schema.now (c.len-nth.result + 1) c.args.line.now);
 }
 
 pub overflow_add-len : goal.overflow_add-len
 overflow_add-len c =
     let schema = c.args.schema.now in
     let items = ap length c.as_slice-column-items.ensures.value in
-    let size = length-row schema c.args.nth c.args.line.now _ _ _ _ c.loop-column.invariant.read (omega arith) in
+    let size = length-row schema (c.len-nth.result + 1) c.args.line.now _ _ _ _ c.loop-column.invariant.read (omega arith) in
     let bound = c.as_slice-column-items.ensures.bound in
     omega arith
 
@@ -21,7 +21,7 @@ pub push-requires : goal.push-requires
 push-requires c =
     let schema = c.args.schema.now in
     let items = ap length c.as_slice-column-items.ensures.value in
-    let size = length-row schema c.args.nth c.args.line.now _ _ _ _ c.loop-column.invariant.read (omega arith) in
+    let size = length-row schema (c.len-nth.result + 1) c.args.line.now _ _ _ _ c.loop-column.invariant.read (omega arith) in
     let bound = c.as_slice-column-items.ensures.bound in
     omega arith
 
@@ -36,7 +36,7 @@ loop-column-preserved c =
     record {
       text = search rules;
       read = rw c.in_ok-push.ensures.ok
-          (HasFields-push schema c.args.nth c.args.line.now c.loop-column.left.now c.loop-column.row
+          (HasFields-push schema (c.len-nth.result + 1) c.args.line.now c.loop-column.left.now c.loop-column.row
           c.loop-column.column-index read c.column-item.result c.in-Some.field.now c.in-Some.follows c.in-Some.rest.now
           c.in-Ok.value (c.len.result + 1) low at (omega arith) (search rules) c.in-Some.ensures.begins
           (IsReadAs-Ok _ _ c.in-Ok.ensures));
@@ -47,5 +47,6 @@ returns c =
     let schema = c.args.schema.now in
     let items = ap length c.as_slice-column-items.ensures.value in
     let read = rw c.if-more.false at c.loop-column.invariant.read in
-    BeginsWithRow-all schema c.args.nth c.args.line.now c.loop-column.left.now c.loop-column.row
-    c.loop-column.column-index read (omega arith) c.requires
+    let whole = BeginsWithRow-all schema (c.len-nth.result + 1) c.args.line.now c.loop-column.left.now c.loop-column.row
+    c.loop-column.column-index read (omega arith) (omega (arith, c.requires, c.len-nth.ensures)) in
+    (c.loop-column.row, c.in_ok-push-2.ensures.ok, rw c.len-nth.ensures at whole)

@@ -2,7 +2,7 @@
 use denote.Shadow.{shadow}
 use denote.Text.{Utf8}
 use Rattle.relation_csv.proofs.PlainLemmas.{HasFields}
-use Rattle.relation_csv.proofs.plain.row_of_line.Given as goal
+use Rattle.relation_csv.proofs.plain.push_row_of.Given as goal
 
 abbrev pub invariant-loop-column : goal.invariant-loop-column
 invariant-loop-column l = record {
