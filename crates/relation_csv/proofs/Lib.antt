@@ -16,5 +16,6 @@ pub mod TextLemmas
 pub mod DecimalLemmas
 pub mod DigitLemmas
 pub mod MarkLemmas
+pub mod NearLemmas
 pub mod RoundTripLemmas
 pub mod WorkedRows

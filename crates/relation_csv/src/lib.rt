@@ -1,6 +1,7 @@
 //! Relations and their files: reads a CSV file as a relation, and writes a relation's header and rows as records.
 //!
-//! Stands on `rel_base` for relations, on `csv` for the records of a file and on `itoa` for the text of numbers.
+//! Stands on `rel_base` for relations, on `csv` for the records of a file, on `memchr` for the ends of fields and on `itoa` for
+//! the text of numbers.
 //!
 //! Promises: a file is read as `relation_of_bytes` says, over the list of all its records: its relation, or the fault of
 //! the first record that has one; a file without a header is read as `relation_with` says, by the same words; a header

@@ -15,6 +15,7 @@ ghost use Rattle.relation_csv.specs.inner.RecordsLeft.{records_after};
 
 use crate::RelFault;
 use crate::fields::value_of;
+use memchr::memchr2;
 use rel_base::{MOST_ROWS, Memory, Row, Rows, Schema};
 use std::alloc::Global;
 use std::str;
@@ -194,9 +195,40 @@ fn first_field(text: &str) -> Option<(&str, bool, &str)>
     }
 }
 
+/// How many bytes at most are searched at once for the end of a field.
+const NEAR: usize = 32;
+
 /// How many bytes stand before the first that means something in a file.
-#[inline(never)]
+#[inline(always)]
 fn field_end(bytes: &[u8]) -> usize
+    ensures bound { result ≤ length bytes.now }
+    ensures plain { list_any (needs_byte default_writer) (take result bytes.now) ≡ false }
+{
+    match near_end(bytes) {
+        Some(end) => end,
+        None => far_end(bytes),
+    }
+}
+
+/// The same, if the field ends near by and no quote and no carriage return is near.
+#[inline(always)]
+fn near_end(bytes: &[u8]) -> Option<usize>
+    ensures bound { IfSome result (λ end. end ≤ length bytes.now) }
+    ensures plain { IfSome result (λ end. list_any (needs_byte default_writer) (take end bytes.now) ≡ false) }
+{
+    if bytes.len() < NEAR {
+        return None;
+    }
+    let near = &bytes[..NEAR];
+    if memchr2(b'"', b'\r', near).is_some() {
+        return None;
+    }
+    memchr2(b',', b'\n', near)
+}
+
+/// The same, byte by byte.
+#[inline(never)]
+fn far_end(bytes: &[u8]) -> usize
     ensures bound { result ≤ length bytes.now }
     ensures plain { list_any (needs_byte default_writer) (take result bytes.now) ≡ false }
 {
