@@ -83,14 +83,14 @@ resolved-typed scope condition emits none =
     by (Some joined) (Some ess) t = emitting-typed scope joined (flat_map (λ columns. columns) ess) t
 
 -- a comprehension without a kind has no mismatch
-mismatch-none : (a b c d e : Bool) → first_of a b c d e ≡ None → d ≡ false
+pub mismatch-none : (a b c d e : Bool) → first_of a b c d e ≡ None → d ≡ false
 mismatch-none true b c d e f = cc
 mismatch-none false true c d e f = cc
 mismatch-none false false true d e f = cc
 mismatch-none false false false true e f = cc
 mismatch-none false false false false e f = refl
 
-typed-emits : (items : List ItemSchema) (condition : Option Tree) (emits : List EmitTree) → comprehension_kind items condition emits ≡ None
+pub typed-emits : (items : List ItemSchema) (condition : Option Tree) (emits : List EmitTree) → comprehension_kind items condition emits ≡ None
     → list_any (λ e. is_none (tree_kind (scope_of items) e)) (flat_map emitted_tree emits) ≡ false
 typed-emits items condition emits none =
     let trees = or_parts (list_any (λ e. is_none (tree_kind (scope_of items) e)) (condition_trees condition ++ flat_map emitted_tree emits))
@@ -102,7 +102,7 @@ typed-emits items condition emits none =
 
 -- ---- the columns of a shape
 
-abbrev atoms_of : List (List ColType) → List AtomTree
+abbrev pub atoms_of : List (List ColType) → List AtomTree
 atoms_of kinds = map (λ own. record { kinds = own; keeps = [] }) kinds
 
 columns-kinds : (number : ℕ) (i : ItemSchema) (from : ℕ) (cs : List Column)
@@ -111,7 +111,7 @@ columns-kinds number i from [] = refl
 columns-kinds number i from (c ∷ cs) = ap (λ ks. c.kind ∷ ks) (columns-kinds number i (from + 1) cs)
 
 -- the types of the combined row are those of the scope
-scope-kinds : (number : ℕ) (given : List MeantItem)
+pub scope-kinds : (number : ℕ) (given : List MeantItem)
     → flat_map (λ (a : AtomTree). a.kinds) (atoms_of (kinds_of_items given))
     ≡ map (λ (c : ScopeColumn). c.kind) (flat_map (λ (p : ℕ × ItemSchema). columns_of p.0 p.1) (enumerate_from number (schemas_of given)))
 scope-kinds number [] = refl

@@ -18,4 +18,6 @@ mod UsedLemmas
 mod FaultLemmas
 mod ScalarKindLemmas
 mod FormedLemmas
+mod VariableLemmas
+mod LimitLemmas
 mod WorkedRows

@@ -134,7 +134,7 @@ numbered-length number i = length-map (enumerate_from 0 i.schema) (λ (p : ℕ �
     numbers from [] = refl
     numbers from (x ∷ xs) = ap suc (numbers (from + 1) xs)
 
-scope-wide : (number : ℕ) (items : List MeantItem)
+pub scope-wide : (number : ℕ) (items : List MeantItem)
     → length (flat_map (λ (p : ℕ × ItemSchema). columns_of p.0 p.1) (enumerate_from number (schemas_of items))) ≡ sum (widths_in (kinds_of_items items))
 scope-wide number [] = refl
 scope-wide number (i ∷ items) =

@@ -1,5 +1,5 @@
 //! The laws that tie steps to scripts.
-ghost use Rattle.myrial_types.specs.Laws.{StepsAreOfTheFiles, StepsHaveTheFault};
+ghost use Rattle.myrial_types.specs.Laws.{LimitIsOfNumbers, StepsAreOfTheFiles, StepsHaveTheFault};
 ghost use Rattle.myrial_types.specs.Laws.{StepsMeanTheScript, TypedScriptsHaveMeaning};
 ghost use Rattle.myrial_types.specs.Laws.{TypedStatementsResolve};
 
@@ -26,4 +26,9 @@ pub fn steps_have_the_fault()
 /// Law: the steps of a typed script are well formed over its files.
 pub fn steps_are_of_the_files()
     ensures { StepsAreOfTheFiles }
+{}
+
+/// Law: behind the other kinds, a limit is passed exactly where a number is too large, or nothing is there.
+pub fn limit_is_of_numbers()
+    ensures { LimitIsOfNumbers }
 {}

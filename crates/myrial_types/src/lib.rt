@@ -30,7 +30,7 @@ pub use checking::check;
 pub use faults::{TypeFault, TypeKind};
 pub use fetching::fetches;
 pub use laws::{
-    steps_are_of_the_files, steps_have_the_fault, steps_mean_the_script,
+    limit_is_of_numbers, steps_are_of_the_files, steps_have_the_fault, steps_mean_the_script,
     typed_scripts_have_meaning, typed_statements_resolve,
 };
 pub use myrial_ast::LoadForm;
