@@ -1,7 +1,7 @@
 //! The terms of comprehensions.
 ghost use Rattle.std.specs.Prelude.{◌≡◌, false, true, IfOk, MatchOption, is_some, map, sum};
 ghost use Rattle.std.specs.List.{list_any};
-ghost use Rattle.myrial_ast.specs.Classes.{equalities};
+ghost use Rattle.myrial_ast.specs.Classes.{equalities, equality};
 ghost use Rattle.myrial_ast.specs.Scalars.{arithmetic_of, plain_of};
 ghost use Rattle.myrial_ast.specs.ScalarTrees.{scalar_tree_of};
 ghost use Rattle.myrial_scopes.specs.Resolutions.{emit_of, resolved_of};
@@ -19,7 +19,7 @@ ghost use Rattle.myrial_types.specs.inner.Terms.{bare_atoms};
 use crate::classes::variables;
 use crate::names::MeantItem;
 use algebra::{Atom, Atoms, ColTypes, EmitKind, EmitKinds, JoinShape, Sources, Term, is_plain};
-use myrial_ast::Scalars;
+use myrial_ast::{Scalar, Scalars};
 use myrial_scopes::{Comprehension, EmittedColumn};
 use rel_base::{Memory, Schema};
 use std::alloc::Global;
@@ -77,13 +77,21 @@ fn sources_of(alloc: Global, items: &[MeantItem]) -> Result<Sources, Memory>
     Ok(sources)
 }
 
+/// The two columns that a conjunct holds together: it is their equality as a whole. One under `or` or `not` holds nothing
+/// together.
+fn equality_of(conjunct: &Scalar) -> Option<(u32, u32)>
+    ensures { result ≡ equality (scalar_tree_of conjunct.now) }
+{
+    conjunct.equality()
+}
+
 /// The equalities of columns among conjuncts.
 fn equalities_of(alloc: Global, conjuncts: &Scalars) -> Result<Vec<(u32, u32)>, Memory>
     ensures { IfOk result (λ found. found.items ≡ equalities (map scalar_tree_of conjuncts.now)) }
 {
     let mut found = Vec::new(alloc);
     for conjunct in conjuncts.as_slice() {
-        if let Some(pair) = conjunct.equality() {
+        if let Some(pair) = equality_of(conjunct) {
             found.push(pair)?;
         }
     }

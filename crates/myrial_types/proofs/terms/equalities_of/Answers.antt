@@ -13,7 +13,7 @@ loop-conjunct-preserved c =
     let i = c.loop-conjunct.conjunct-index in
     let so_far = equalities (map scalar_tree_of (take i conjuncts)) in
     let more = equalities-more conjuncts i c.conjunct-item.result c.loop-conjunct-test.true c.conjunct-item.is in
-    elim c.match-equality.branch [
+    elim c.match-equality_of.branch [
       | in-Some+in_ok-push w ↦
           ap (λ v. v.items) w.found-is
           ∙ (w.in_ok-push.ensures.items
@@ -21,5 +21,5 @@ loop-conjunct-preserved c =
           ∙ sym (more ∙ ap (λ o. so_far ++ cons_option o []) (sym w.in-Some.ensures))))
       | in_default w ↦
           ap (λ v. v.items) w.found-is
-          ∙ (c.loop-conjunct.invariant ∙ sym (more ∙ (ap (λ o. so_far ++ cons_option o []) (sym c.equality.ensures ∙ w.in_default.is) ∙ append-nil so_far)))
+          ∙ (c.loop-conjunct.invariant ∙ sym (more ∙ (ap (λ o. so_far ++ cons_option o []) (sym c.equality_of.ensures ∙ w.in_default.is) ∙ append-nil so_far)))
     ]
