@@ -8,6 +8,7 @@ ghost use Rattle.aggregate_ops.specs.Columns.{column, Overflows};
 ghost use Rattle.aggregate_ops.specs.inner.Reading.{row_of, rows_of, value_of};
 
 use crate::AggFault;
+use crate::keys::order_of;
 use crate::reading::{GroupedRow, GroupedRows, ReadValue};
 use algebra::EmitKind;
 use myrial_ast::AggOp;
@@ -59,7 +60,7 @@ fn least<'a>(first: GroupedRow<'a>, rest: GroupedRows<'a>, place: usize) -> Read
     let mut best = first.read(place);
     for i in 0..rest.len() {
         let value = rest.get(i).read(place);
-        if value.value().cmp(best.value()).is_lt() {
+        if order_of(value.value(), best.value()).is_lt() {
             best = value;
         }
     }
@@ -74,7 +75,7 @@ fn greatest<'a>(first: GroupedRow<'a>, rest: GroupedRows<'a>, place: usize) -> R
     let mut best = first.read(place);
     for i in 0..rest.len() {
         let value = rest.get(i).read(place);
-        if value.value().cmp(best.value()).is_gt() {
+        if order_of(value.value(), best.value()).is_gt() {
             best = value;
         }
     }

@@ -6,7 +6,7 @@ ghost use Rattle.aggregate_ops.specs.Columns.{rows_in, key_at};
 ghost use Rattle.aggregate_ops.specs.inner.Reading.{row_of};
 
 use crate::reading::GroupedRow;
-use rel_base::{Memory, Row, Rows};
+use rel_base::{Memory, Row, Rows, Value};
 use std::alloc::Global;
 use std::cmp::Ordering;
 
@@ -43,7 +43,17 @@ fn order_in(row: &GroupedRow<'_>, place: u32, other: &GroupedRow<'_>, other_plac
         (value_at (row_of other.now) other_place) }
 {
     let value = row.read(place as usize);
-    value.value().cmp(other.read(other_place as usize).value())
+    order_of(value.value(), other.read(other_place as usize).value())
+}
+
+/// How two values compare. Ints, which most of them are, are compared without a call.
+pub fn order_of(value: &Value, other: &Value) -> Ordering
+    ensures { result ≡ value_order value.now other.now }
+{
+    match (value, other) {
+        (Value::Int(a), Value::Int(b)) => a.cmp(b),
+        _ => value.cmp(other),
+    }
 }
 
 /// A row with the places by which it is compared.

@@ -5,6 +5,7 @@
 ghost use Rattle.std.specs.Prelude.{◌≡◌, ◌<◌, ◌^◌, IsTrue, IfOk, OnOk, IfSome, IsPermutation, map, length};
 ghost use Rattle.aggregate_ops.specs.inner.Reading.{unpacked_row};
 
+use crate::keys::order_of;
 use crate::packed_columns::PackedColumn;
 use crate::spans::{ScannedColumn, scanned_columns};
 use rel_base::{Memory, Row, Rows, Value};
@@ -70,7 +71,7 @@ fn gives_back(word: u64, columns: &[PackedColumn], values: &[Value]) -> bool
     match (columns, values) {
         ([], []) => true,
         ([column, columns @ ..], [value, values @ ..]) => {
-            column.value(word) == *value && gives_back(word, columns, values)
+            order_of(&column.value(word), value).is_eq() && gives_back(word, columns, values)
         }
         _ => false,
     }

@@ -1,4 +1,5 @@
 //! What the columns of rows have, so that they may be packed.
+use crate::keys::order_of;
 use crate::packed_columns::PackedColumn;
 use rel_base::{Memory, Rows, Value};
 use std::alloc::Global;
@@ -80,8 +81,9 @@ fn scan(columns: &mut [ScannedColumn], values: &[Value]) -> bool {
     for (place, (column, value)) in columns.iter_mut().zip(values).enumerate() {
         column.span = column.span.with(value);
         may_pack &= column.span != Span::Others;
-        if column.twin != place && values.get(column.twin) != Some(value) {
-            column.twin = place;
+        match values.get(column.twin) {
+            Some(twin) if column.twin == place || order_of(twin, value).is_eq() => {}
+            _ => column.twin = place,
         }
     }
     may_pack
