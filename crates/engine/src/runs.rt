@@ -1,0 +1,43 @@
+//! Running a checked script at workers.
+ghost use Rattle.std.specs.Prelude.{◌≡◌, ◌≤◌, length, All, IsTrue, vec_len};
+ghost use Rattle.rel_base.specs.Limits.{most_rows, tap_count};
+ghost use Rattle.rel_base.specs.Keys.{File};
+ghost use Rattle.algebra.specs.CheckedTrees.{checked_tree_of};
+ghost use Rattle.algebra.specs.Conditions.{is_of};
+ghost use Rattle.engine.specs.Runs.{IsRun};
+
+use algebra::{Checked, PlanNotes, Settings, TrafficNotes};
+use exchange_channels::Receipts;
+use rel_base::{Files, Items, Key, RunFault, Schema, Spread};
+use rel_io::Tap;
+use std::alloc::Global;
+use std::sync::Wait;
+use std::thread::Threads;
+
+/// A relation that a script stores: its key, its columns, and its rows at each worker.
+#[derive(Drop)]
+pub struct SpreadStore {
+    /// The key.
+    pub key: Key,
+    /// The columns.
+    pub schema: Schema,
+    /// The rows, a list for each worker.
+    pub parts: Spread,
+}
+
+/// What a script stores, in the order of its stores.
+pub type SpreadStores = Items<SpreadStore>;
+
+/// What a run gives.
+#[derive(Drop)]
+pub struct Ran {
+    /// What is stored.
+    pub stored: SpreadStores,
+    /// The lines of the plan.
+    pub plan: PlanNotes,
+    /// The numbers of each exchange.
+    pub traffic: TrafficNotes,
+    /// The receipts of the exchanges: one for each, but for a `diff`, which has one for the rows of
+    /// each operand.
+    pub receipts: Receipts,
+}
