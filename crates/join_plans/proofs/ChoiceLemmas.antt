@@ -40,15 +40,15 @@ least-is-best uses sizes kept variables workers shares some long front least =
 
 -- the first number that passes is found
 pub find-first : (p : ℕ → Bool) (a n s : ℕ) → a ≤ s → s < a + n → p s ≡ true → ((k : ℕ) → a ≤ k → k < s → p k ≡ false) → find p (range_with_len a n) ≡ Some s
-find-first p a zero s from to yes before = absurd (omega arith)
-find-first p a (suc n) s from to yes before =
-    by (nat_lt a s) refl (λ less. find-first p (a + 1) n s (omega arith) (omega arith) yes (λ k low high. before k (omega arith) high))
+find-first p a zero s from to good before = absurd (omega arith)
+find-first p a (suc n) s from to good before =
+    by (nat_lt a s) refl (λ less. find-first p (a + 1) n s (omega arith) (omega arith) good (λ k low high. before k (omega arith) high))
   where
     by : (b : Bool) → nat_lt a s ≡ b → (a < s → find p (range_with_len (a + 1) n) ≡ Some s) → find p (range_with_len a (suc n)) ≡ Some s
-    by true e rest = let less = ltb-true a s e in let no = before a (omega arith) less in rw no (rest less)
+    by true e rest = let less = ltb-true a s e in let other = before a (omega arith) less in rw other (rest less)
     by false e rest =
         let same : a ≡ s = omega (arith, ltb-false a s e) in
-        let here : p a ≡ true = ap p same ∙ yes in
+        let here : p a ≡ true = ap p same ∙ good in
         rw here (ap Some same)
 
 -- no number of a list is over one that none exceeds, and some is over one that is exceeded
@@ -97,7 +97,7 @@ pub most-stays : (kept : List ℕ) (s : ℕ) → IsMostOf kept (length kept) s �
 most-stays [] s so = omega (arith, so.low)
 most-stays (size ∷ kept) s so =
     let all = size ∷ kept in
-    let yes : is_most (size ∷ kept) s ≡ true = ap not (none-over (get_or all s 0) all so.most) in
-    let no : (k : ℕ) → 0 ≤ k → k < s → is_most (size ∷ kept) k ≡ false =
+    let good : is_most (size ∷ kept) s ≡ true = ap not (none-over (get_or all s 0) all so.most) in
+    let none : (k : ℕ) → 0 ≤ k → k < s → is_most (size ∷ kept) k ≡ false =
     λ k from low. ap not (some-over (get_or all k 0) all s (omega (arith, so.low)) (so.first k low)) in
-    sym (ap (λ found. unwrap_or found 0) (find-first (is_most all) 0 (length all) s (omega arith) (omega (arith, so.low)) yes no))
+    sym (ap (λ found. unwrap_or found 0) (find-first (is_most all) 0 (length all) s (omega arith) (omega (arith, so.low)) good none))
