@@ -6,3 +6,5 @@ pub mod TapLemmas
 pub mod ColumnLemmas
 pub mod BroadcastLemmas
 pub mod WorkedRows
+pub mod VariableLemmas
+pub mod StepLemmas

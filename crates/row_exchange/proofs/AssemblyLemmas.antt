@@ -24,7 +24,7 @@ use Rattle.exchange_channels.specs.Messages.{rows_of, row_count, batches_of, row
 use Rattle.exchange_channels.proofs.PortLemmas.{map_same}
 use Rattle.exchange_channels.proofs.DeliveryLemmas.{element}
 use Rattle.row_exchange.specs.Routes.{Row, Rows, IsRouted, rows_at, rows_to, all_rows_to, pairs_from, pairs_to}
-use Rattle.row_exchange.specs.Exchanges.{IsSize, IsBatch, AreLow, with_more_sent, with_more_got, IsTold, batches_between, Shows, IsGiven, IsExchanged, IsExchange}
+use Rattle.row_exchange.specs.Exchanges.{IsSize, IsBatch, most_low, AreLow, with_more_sent, with_more_got, IsTold, batches_between, Shows, IsGiven, IsExchanged, IsExchange}
 use Rattle.row_exchange.specs.declared.exchanging.Exchanged.{Exchanged}
 use Rattle.std.proofs.lemmas.Result.{IfOk-weaker, IfOk-from_err}
 use Rattle.row_exchange.proofs.SumLemmas.{sum_by-same, sum_by-range_same, sums-swap, sum_by-places, sum_by-flat_map, sum_by-bounded}
@@ -262,10 +262,10 @@ module _ {W T : Type 0} (accepts : W → ℕ → Row → Type 0) (goes : W → �
             let long : length outs * 2199023255552 ≡ size.workers * 2199023255552 = ap (λ (n : ℕ). n * 2199023255552) outs-long in
             omega (arith, all, one, long, ok.few_workers, evenly d e, sum-map rows_sent outs, sum-map (λ (i : IntakeState). rows_of i.got) ins)
 
-        uncapped-sent : (t : Totals) (n : ℕ) → t.sent ≤ 9223372036854775808 → n ≤ 2199023255552 → with_sent t n ≡ with_more_sent t n
+        uncapped-sent : (t : Totals) (n : ℕ) → t.sent ≤ most_low → n ≤ 2199023255552 → with_sent t n ≡ with_more_sent t n
         uncapped-sent t n low few = let e : capped_sum t.sent n ≡ t.sent + n = omega arith in λ i. record t { sent = e i }
 
-        uncapped-got : (t : Totals) (n : ℕ) → t.got ≤ 9223372036854775808 → n ≤ 140737488355328 → with_got t n ≡ with_more_got t n
+        uncapped-got : (t : Totals) (n : ℕ) → t.got ≤ most_low → n ≤ 140737488355328 → with_got t n ≡ with_more_got t n
         uncapped-got t n low few = let e : capped_sum t.got n ≡ t.got + n = omega arith in λ i. record t { got = e i }
 
         module _ (tail whole told : List T) (low : All (λ t. AreLow (totals t)) whole) (is_whole : front ++ tail ≡ whole) (is_told : told ≡ taps ++ tail) where
@@ -299,7 +299,7 @@ module _ {W T : Type 0} (accepts : W → ℕ → Row → Type 0) (goes : W → �
                 let at : get_or (map rows_sent outs) u 0 ≡ rows_sent (get_or outs u o) = get_or-map rows_sent outs u o 0 (omega (arith, below, outs-long)) in
                 ap totals (told-at (2 * u) t (omega arith)) ∙ r
                 ∙ uncapped-sent (totals (get_or front (2 * u) t)) (rows_sent (get_or outs u o))
-                (subst (λ (x : T). (totals x).sent ≤ 9223372036854775808) (front-at (2 * u) t (omega arith)) (low (2 * u) t (omega (arith, below, long-whole))).sent) (few-sent u d o below)
+                (subst (λ (x : T). (totals x).sent ≤ most_low) (front-at (2 * u) t (omega arith)) (low (2 * u) t (omega (arith, below, long-whole))).sent) (few-sent u d o below)
                 ∙ ap (λ (x : T). with_more_sent (totals x) (rows_sent (get_or outs u o))) (sym (front-at (2 * u) t (omega arith)))
                 ∙ ap (with_more_sent (totals (get_or whole (2 * u) t))) (sym at);
             got_is = λ w t below.
@@ -307,7 +307,7 @@ module _ {W T : Type 0} (accepts : W → ℕ → Row → Type 0) (goes : W → �
                 let at : get_or (map (λ (x : IntakeState). rows_of x.got) ins) w 0 ≡ rows_of (get_or ins w i).got = get_or-map (λ (x : IntakeState). rows_of x.got) ins w i 0 (omega (arith, below, ins-long)) in
                 ap totals (told-at (2 * w + 1) t (omega arith)) ∙ r
                 ∙ uncapped-got (totals (get_or front (2 * w + 1) t)) (rows_of (get_or ins w i).got)
-                (subst (λ (x : T). (totals x).got ≤ 9223372036854775808) (front-at (2 * w + 1) t (omega arith)) (low (2 * w + 1) t (omega (arith, below, long-whole))).got) (few-got w d i below)
+                (subst (λ (x : T). (totals x).got ≤ most_low) (front-at (2 * w + 1) t (omega arith)) (low (2 * w + 1) t (omega (arith, below, long-whole))).got) (few-got w d i below)
                 ∙ ap (λ (x : T). with_more_got (totals x) (rows_of (get_or ins w i).got)) (sym (front-at (2 * w + 1) t (omega arith)))
                 ∙ ap (with_more_got (totals (get_or whole (2 * w + 1) t))) (sym at);
             others = behind;

@@ -3,6 +3,7 @@
 --   IsSize size                      so many workers, messages in an inbox and rows in a batch are
 --                                    allowed
 --   IsBatch atoms most batch         a batch of one of so many atoms, with 1 to so many rows
+--   most_low                         the greatest sum of a tap that is far from its end
 --   AreLow sums                      the sums of a tap are far from their end
 --   IsTold .. sent got before after  taps before and after so many rows were sent and received by
 --                                    the workers
@@ -47,10 +48,15 @@ with_more_sent sums rows = record sums { sent = sums.sent + rows }
 abbrev pub with_more_got : Totals → ℕ → Totals
 with_more_got sums rows = record sums { got = sums.got + rows }
 
+-- the greatest sum that counts as far from its end, 2^63 + 2^62: neither an exchange nor a listing
+-- brings it there
+abbrev pub most_low : ℕ
+most_low = 13835058055282163712
+
 -- the sums are far from their end
 pub record AreLow (sums : Totals) : Type 0 where
-  pub sent : sums.sent ≤ 9223372036854775808
-  pub got : sums.got ≤ 9223372036854775808
+  pub sent : sums.sent ≤ most_low
+  pub got : sums.got ≤ most_low
 
 -- the taps, two for each worker and others behind them, before and after so many rows were sent
 -- and received by the workers
