@@ -1,0 +1,2 @@
+-- The words of the tests.
+pub mod inner
