@@ -4,7 +4,7 @@ ghost use Rattle.std.specs.Prelude.{map, length, option_map};
 ghost use Rattle.std.specs.List.{flat_map, list_any};
 ghost use Rattle.rel_base.specs.declared.values.ColType.TheVariants as coltype;
 ghost use Rattle.myrial_ast.specs.Trees.{tree_of, emit_tree_of};
-ghost use Rattle.myrial_scopes.specs.Scopes.{is_alias, places_of, same_name, scope_of};
+ghost use Rattle.myrial_scopes.specs.Scopes.{has_doubled_alias, is_alias, places_of, same_name, scope_of};
 ghost use Rattle.algebra.specs.ShapeConditions.{is_kind};
 ghost use Rattle.rel_base.specs.Relations.{type_of};
 ghost use Rattle.myrial_types.specs.Kinds.{aggregate_type, comprehension_kind, condition_trees};
@@ -284,11 +284,11 @@ fn has_none(counts: &[u32]) -> bool
     counts.iter().any(|count| *count == 0)
 }
 
-/// Whether a reference may mean two columns or more.
-fn has_more(counts: &[u32]) -> bool
-    ensures { result ≡ list_any (λ n. nat_lt 1 n) counts.now }
+/// Whether a reference may mean two columns or more, or two items have one alias.
+fn is_ambiguous(counts: &[u32], schemas: &[ItemSchema]) -> bool
+    ensures { result ≡ (list_any (λ n. nat_lt 1 n) counts.now || has_doubled_alias schemas.now) }
 {
-    counts.iter().any(|count| 1 < *count)
+    counts.iter().any(|count| 1 < *count) || has_doubled_alias(schemas)
 }
 
 /// Whether one of two facts holds.
@@ -345,8 +345,7 @@ pub(crate) fn comprehension_kind(
     let behind = has_unknown_reference(items, &references);
     let relation = either(behind, has_unknown_emit(items, emits.as_slice()));
     let column = has_none(&counts);
-    let more = has_more(&counts);
-    let ambiguous = either(more, has_doubled_alias(schemas));
+    let ambiguous = is_ambiguous(&counts, schemas);
     let untyped = has_untyped(alloc, scope, &expressions)?;
     let mismatch = either(untyped, is_no_truth(alloc, scope, condition)?);
     let tested = has_tested_aggregate(condition);

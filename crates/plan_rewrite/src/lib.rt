@@ -18,3 +18,6 @@ mod rewriting;
 mod spans;
 
 pub use rewriting::{Planned, rewrite};
+
+#[cfg(test)]
+mod tests;

@@ -6,7 +6,7 @@ use Rattle.myrial_ast.specs.declared.expressions.ColRef.{ColRef}
 use Rattle.myrial_ast.specs.declared.expressions.Expr as code
 use Rattle.myrial_ast.specs.declared.relations.EmitItem.{EmitItem}
 use Rattle.myrial_ast.specs.Trees.{Tree, tree_of, emit_tree_of}
-use Rattle.myrial_scopes.specs.Scopes.{is_alias, places_of}
+use Rattle.myrial_scopes.specs.Scopes.{has_doubled_alias, is_alias, places_of}
 use Rattle.algebra.specs.ShapeConditions.{is_kind}
 use Rattle.myrial_types.specs.Resolving.{schemas_of}
 use Rattle.myrial_types.specs.Kinds.{condition_trees, emitted_alias, emitted_tree, first_of, has_inner_aggregate, is_unknown_behind, meanings_of, references, references_in, tree_kind, trees_in}
@@ -43,9 +43,9 @@ returns c =
     ∙ ap (λ s. map (λ r. length (places_of s r)) (references_in condition emits)) c.requires.scope) in
     let column = c.has_none-column.ensures
     ∙ (ap (list_any (λ n. n == 0)) (c.deref-5.ensures.value ∙ counts) ∙ list_any-map (λ n. n == 0) (meanings_of items) (references_in condition emits)) in
-    let more = c.has_more-more.ensures
-    ∙ (ap (list_any (λ n. nat_lt 1 n)) (c.deref-6.ensures.value ∙ counts) ∙ list_any-map (λ n. nat_lt 1 n) (meanings_of items) (references_in condition emits)) in
-    let ambiguous = c.either-ambiguous.ensures ∙ (λ i. more i || c.has_doubled_alias.ensures i) in
+    let ambiguous = c.is_ambiguous-ambiguous.ensures
+    ∙ ap (λ more. more || has_doubled_alias items)
+    (ap (list_any (λ n. nat_lt 1 n)) (c.deref-6.ensures.value ∙ counts) ∙ list_any-map (λ n. nat_lt 1 n) (meanings_of items) (references_in condition emits)) in
     let untyped = c.in_ok-untyped.ensures
     ∙ (any-through (λ t. is_none (tree_kind c.args.scope.now t)) tree_behind c.deref-7.result.now c.in_ok-expressions.expressions.items (trees_in condition emits) c.deref-7.ensures.value expressions
     ∙ ap (λ s. list_any (λ t. is_none (tree_kind s t)) (trees_in condition emits)) c.requires.scope) in
