@@ -24,6 +24,7 @@ mod ranking;
 mod tables;
 #[cfg(test)]
 mod tests;
+mod text_keys;
 
 pub use dictionary::{Dictionary, words_keep_order};
 pub use encoding::{Encoded, encode};
