@@ -18,7 +18,7 @@ use Rattle.algebra.specs.declared.notes.Traffic.{Traffic}
 -- what an exchange was for
 abbrev pub exchange_words : Exchange → List ℕ
 exchange_words exchange.Hc = codes "join hc"
-exchange_words (exchange.Rs step) = joined (codes "join rs step " ∷ decimal step ∷ [])
+exchange_words (exchange.Rs step) = codes "join rs step " ++ decimal step
 exchange_words exchange.Br = codes "join br"
 exchange_words exchange.Group = codes "group"
 exchange_words exchange.Distinct = codes "distinct"

@@ -1,7 +1,8 @@
 //! The lines of a plan.
 ghost use Rattle.std.specs.Prelude.{◌≡◌, ◌++◌, OnOk, OnErr, string_bytes};
 ghost use Rattle.algebra.specs.declared.notes.PlanNote.TheVariants as note;
-ghost use Rattle.plan_printer.specs.PlanTexts.{columns_text, join_word, kind_word, plan_line, plan_text, share_text};
+ghost use Rattle.plan_printer.specs.PlanTexts.{columns_text, join_word, kind_word};
+ghost use Rattle.plan_printer.specs.PlanTexts.{plan_line, plan_text, share_text};
 
 use algebra::{ItemPlaces, JoinKind, PlanKind, PlanNote, PlanNotes};
 use rel_base::Memory;
@@ -34,7 +35,10 @@ fn push_line(note: &PlanNote, text: &mut String) -> Result<(), Memory>
             rows,
             pushed,
             kept,
-        } => writeln!(text, "-- item {number} rows {rows} pushed {pushed} kept {kept}")?,
+        } => writeln!(
+            text,
+            "-- item {number} rows {rows} pushed {pushed} kept {kept}"
+        )?,
         PlanNote::Variable {
             number,
             places,
@@ -47,7 +51,10 @@ fn push_line(note: &PlanNote, text: &mut String) -> Result<(), Memory>
             den,
         } => {
             let local = word_of_join(*local);
-            writeln!(text, "-- shuffle hc join {local} cells {cells} load {num}/{den}")?;
+            writeln!(
+                text,
+                "-- shuffle hc join {local} cells {cells} load {num}/{den}"
+            )?;
         }
         PlanNote::Rs { local } => {
             let local = word_of_join(*local);
@@ -83,7 +90,8 @@ fn push_variable(
 
 /// Adds the columns of a variable, each behind a space, as ` 1.$0 3.$1`.
 fn push_columns(places: &ItemPlaces, text: &mut String) -> Result<(), Memory>
-    ensures { OnOk result (string_bytes text.new ≡ string_bytes text.old ++ columns_text places.now) }
+    ensures { OnOk result
+        (string_bytes text.new ≡ string_bytes text.old ++ columns_text places.now) }
 {
     for (item, place) in places.as_slice() {
         write!(text, " {item}.${place}")?;

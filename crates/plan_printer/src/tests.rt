@@ -71,8 +71,9 @@ fn a_plan_is_printed(rt: HostRuntime) -> Result<(), Fail> {
     let notes = three_notes(alloc)?;
     let mut text = Vec::new(alloc);
     print_plan(&notes, &mut text)?;
-    let wanted = "-- plan 12 from rows 3\n-- variable 1 1.$0 2.$1 share 2\n-- shuffle hc join tj cells 2 \
-                  load 340282366920938463463374607431768211455/2\n";
+    let wanted = "-- plan 12 from rows 3\n\
+                  -- variable 1 1.$0 2.$1 share 2\n\
+                  -- shuffle hc join tj cells 2 load 340282366920938463463374607431768211455/2\n";
     assert_eq!(rt; text.as_slice(), wanted.as_bytes());
     Ok(())
 }
@@ -80,7 +81,9 @@ fn a_plan_is_printed(rt: HostRuntime) -> Result<(), Fail> {
 #[test]
 fn a_step_of_a_join_is_printed(rt: HostRuntime) -> Result<(), Fail> {
     let text = text_of_a_step(rt.alloc())?;
-    let wanted = "-- traffic 7 join rs step 3\n-- worker 0 received 4 listed 2\n-- worker 1 received 0 listed 1\n";
+    let wanted = "-- traffic 7 join rs step 3\n\
+                  -- worker 0 received 4 listed 2\n\
+                  -- worker 1 received 0 listed 1\n";
     assert_eq!(rt; text.as_slice(), wanted.as_bytes());
     Ok(())
 }

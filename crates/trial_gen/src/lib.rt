@@ -11,6 +11,8 @@
 mod numbers;
 mod relations;
 mod script;
+#[cfg(test)]
+mod tests;
 
 pub use relations::trial_files;
 pub use script::TRIAL_SCRIPT;
