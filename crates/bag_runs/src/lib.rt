@@ -1,0 +1,10 @@
+//! Laws by which rows that are known as bags, and kept rows with pushed tests, are enough to run a term.
+//!
+//! Each is the contract of a function that does nothing.
+#![tactic(auto)]
+
+mod bags;
+mod kept;
+
+pub use bags::{counts_are_of_same_exchanges, moved_are_of_same_exchanges, terms_are_of_bags};
+pub use kept::{kept_rows_are_enough, kept_rows_are_listed};

@@ -1,0 +1,141 @@
+-- What running a term at workers does: the rows that it leaves at each worker, and what its exchanges tell.
+--
+--   shown_moves e                         the moves whose rows the receipts of an exchange show
+--   ShowsRows size moves receipt          a receipt shows the rows that move from each worker to each
+--   AreShown size moves receipts          receipts show these moves, one after another
+--   all_sent, all_received, all_listed    how many rows a worker sends, receives and lists in exchanges
+--   AreMoved .. exchanges before after    taps before and after these exchanges
+--   IsListedAt .. parts before after      taps before and after the workers listed these rows
+--   AreFair .. before after               the taps stand in their order, and stay even if they were
+--   IsMoved s number expected exchanges made   what a run gives: the rows at each worker, notes and receipts
+--   IsTermRun ..                          what it does, whatever it answers
+use Rattle.std.specs.Prelude.{◌≡◌, ℕ, ◌+◌, ◌*◌, ◌<◌, ◌≤◌, ◌==◌, List, [], ◌∷◌, length, map, filter, sum_by, All, Result, IfOk, IfErr, slice_index_or}
+use Rattle.std.specs.List.{flat_map}
+use Rattle.rel_base.specs.Bags.{SameBag}
+use Rattle.rel_base.specs.Limits.{most_items}
+use Rattle.rel_io.specs.declared.taps.Totals.{Totals}
+use Rattle.exchange_channels.specs.Messages.{rows_of_atom}
+use Rattle.exchange_channels.specs.Wirings.{ReceiptState}
+use Rattle.myrial_ast.specs.Combinations.{Rows}
+use Rattle.bag_laws.specs.Permuted.{SameTables}
+use Rattle.algebra.specs.declared.notes.Exchange.{Exchange}
+use Rattle.algebra.specs.declared.notes.Exchange.TheVariants as exchange
+use Rattle.algebra.specs.declared.settings.Settings.{Settings}
+use Rattle.placement.specs.Moves.{Move, sent, received, rows_between}
+use Rattle.placement.specs.Exchanges.{PlacedExchange, traffic_note}
+use Rattle.row_exchange.specs.declared.routes.Size.{Size}
+use Rattle.row_exchange.specs.Exchanges.{IsBatch, batches_between}
+use Rattle.placed_joins.specs.PlacedJoins.{size_of}
+use Rattle.term_runs.specs.declared.moved.Moved.{Moved}
+
+-- ---- receipts
+
+-- the moves of one atom, as those of the first one
+abbrev pub moves_alone : ℕ → List Move → List Move
+moves_alone atom moves = map (λ (m : Move). record m { atom = 0 })
+    (filter (λ (m : Move). m.atom == atom) moves)
+
+-- the moves whose rows the receipts of an exchange show, one list for each receipt: a `diff` has one of the rows of each
+-- operand, and any other exchange has one
+abbrev pub shown_moves : PlacedExchange → List (List Move)
+shown_moves e = of e.kind
+  where
+    of : Exchange → List (List Move)
+    of exchange.Diff = moves_alone 0 e.moves ∷ moves_alone 1 e.moves ∷ []
+    of kind = e.moves ∷ []
+
+-- the receipt is of so many workers and messages, and shows for all workers u and w, and each atom, the rows that move from u
+-- to w, as a bag, in batches of 1 to so many rows
+pub record ShowsRows (size : Size) (moves : List Move) (receipt : ReceiptState) : Type 0 where
+  pub capacity : receipt.capacity ≡ size.capacity
+  pub cells : length receipt.batches ≡ size.workers
+  pub senders : (w : ℕ) → w < size.workers
+      → length (slice_index_or receipt.batches w []) ≡ size.workers
+  pub sized : (u w : ℕ) → u < size.workers → w < size.workers
+      → All (IsBatch most_items size.batch) (batches_between receipt u w)
+  pub rows_are : (u w atom : ℕ) → u < size.workers → w < size.workers
+      → SameBag (rows_between moves atom u w) (rows_of_atom atom (batches_between receipt u w))
+
+-- the receipts show these moves, one after another
+pub data AreShown (size : Size) : List (List Move) → List ReceiptState → Type 0 where
+  no_receipt : AreShown size [] []
+  a_receipt : (moves : List Move) (receipt : ReceiptState) (rest : List (List Move))
+      (others : List ReceiptState) → ShowsRows size moves receipt → AreShown size rest others
+      → AreShown size (moves ∷ rest) (receipt ∷ others)
+
+-- ---- taps
+
+-- how many rows worker u sends in all exchanges, and how many worker w receives and lists
+abbrev pub all_sent : List PlacedExchange → ℕ → ℕ
+all_sent exchanges u = sum_by (λ (e : PlacedExchange). sent e.moves u) exchanges
+
+abbrev pub all_received : List PlacedExchange → ℕ → ℕ
+all_received exchanges w = sum_by (λ (e : PlacedExchange). received e.moves w) exchanges
+
+abbrev pub all_listed : List PlacedExchange → ℕ → ℕ
+all_listed exchanges w = sum_by (λ (e : PlacedExchange). slice_index_or e.listed w 0) exchanges
+
+-- so many rows more were sent, received and listed
+abbrev pub with_more : Totals → ℕ → ℕ → ℕ → Totals
+with_more sums sent got listed =
+    record { sent = sums.sent + sent; got = sums.got + got; listed = sums.listed + listed }
+
+module _ {T : Type 0} (totals : T → Totals) (tag : T → ℕ) where
+  -- taps, two for each worker and others behind them, before and after these exchanges: the first one of a worker rose by what
+  -- it sent, and the second one by what it received and listed
+  pub record AreMoved (workers : ℕ) (exchanges : List PlacedExchange)
+      (before after : List T) : Type 0 where
+    pub count : length after ≡ length before
+    pub tags : (k : ℕ) (d : T) → k < length before
+        → tag (slice_index_or after k d) ≡ tag (slice_index_or before k d)
+    pub firsts : (u : ℕ) (d : T) → u < workers
+        → totals (slice_index_or after (2 * u) d)
+        ≡ with_more (totals (slice_index_or before (2 * u) d)) (all_sent exchanges u) 0 0
+    pub seconds : (w : ℕ) (d : T) → w < workers
+        → totals (slice_index_or after (2 * w + 1) d)
+        ≡ with_more (totals (slice_index_or before (2 * w + 1) d)) 0 (all_received exchanges w)
+        (all_listed exchanges w)
+    pub others : (k : ℕ) (d : T) → 2 * workers ≤ k
+        → totals (slice_index_or after k d) ≡ totals (slice_index_or before k d)
+
+  -- the taps stand in their order, and where as many rows were sent as received, as many are
+  pub record AreFair (before after : List T) : Type 0 where
+    pub count : length after ≡ length before
+    pub tags : (k : ℕ) (d : T) → k < length before
+        → tag (slice_index_or after k d) ≡ tag (slice_index_or before k d)
+    pub even : sum_by (λ t. (totals t).sent) before ≡ sum_by (λ t. (totals t).got) before
+        → sum_by (λ t. (totals t).sent) after ≡ sum_by (λ t. (totals t).got) after
+
+  -- the second tap of each worker rose by the rows that it lists, and all others are as before
+  pub record IsListedAt (parts : List Rows) (before after : List T) : Type 0 where
+    pub count : length after ≡ length before
+    pub tags : (k : ℕ) (d : T) → k < length before
+        → tag (slice_index_or after k d) ≡ tag (slice_index_or before k d)
+    pub firsts : (u : ℕ) (d : T) → u < length parts
+        → slice_index_or after (2 * u) d ≡ slice_index_or before (2 * u) d
+    pub seconds : (w : ℕ) (d : T) → w < length parts
+        → totals (slice_index_or after (2 * w + 1) d)
+        ≡ with_more (totals (slice_index_or before (2 * w + 1) d)) 0 0
+        (length (slice_index_or parts w []))
+    pub others : (k : ℕ) (d : T) → 2 * length parts ≤ k
+        → slice_index_or after k d ≡ slice_index_or before k d
+
+-- ---- what a run gives, and what it does
+
+-- at each worker these rows, as a bag; the notes and the receipts of these exchanges
+pub record IsMoved (s : Settings) (number : ℕ) (expected : List Rows)
+    (exchanges : List PlacedExchange) (made : Moved) : Type 0 where
+  pub parts : SameTables expected made.parts
+  pub traffic : made.traffic
+      ≡ map (λ (e : PlacedExchange). traffic_note s.workers (number, e)) exchanges
+  pub receipts : AreShown (size_of s) (flat_map shown_moves exchanges) made.receipts
+
+-- what a run of a term does that comes to these rows by these exchanges: after every answer the taps are fair; on Ok they rose
+-- by the exchanges; and its faults are these
+pub record IsTermRun {T F : Type 0} (s : Settings) (number : ℕ) (expected : List Rows)
+    (exchanges : List PlacedExchange) (totals : T → Totals) (tag : T → ℕ) (IsFault : F → Type 0)
+    (before after : List T) (answer : Result Moved F) : Type 0 where
+  pub fair : AreFair totals tag before after
+  pub ok : IfOk answer (λ made. IsMoved s number expected exchanges made
+      × AreMoved totals tag s.workers exchanges before after)
+  pub err : IfErr answer IsFault

@@ -1,0 +1,15 @@
+//! What running a term at workers does, said once for all terms: the rows that it leaves at each worker, the notes and receipts of
+//! its exchanges, and what the taps are told.
+//!
+//! Stands on `placement` for exchanges, on `placed_joins` for sizes, and on the crates of the exchange for receipts and taps.
+//!
+//! Promises: `tell_listed` tells the taps what each worker lists; `have_room` says whether every sum of taps is far from its end.
+//!
+//! Read `specs/TermRuns.antt`, then `telling.rt`.
+#![tactic(auto)]
+
+mod moved;
+mod telling;
+
+pub use moved::Moved;
+pub use telling::{have_room, tell_listed};
