@@ -1,0 +1,3 @@
+-- Proofs of the laws, lowest first.
+pub mod TableLemmas
+pub mod MovedLemmas
