@@ -1,3 +1,5 @@
 -- Proofs of the laws, lowest first.
 pub mod TableLemmas
 pub mod MovedLemmas
+pub mod SendLemmas
+pub mod AlikeLemmas
