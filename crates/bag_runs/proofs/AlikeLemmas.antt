@@ -1,22 +1,25 @@
 -- Joins that are alike: what lists and what moves alike, of two shapes over two lists of items.
-use Rattle.std.proofs.Common.{◌≡◌, ℕ, zero, suc, ◌+◌, ◌-◌, ◌<◌, ◌≤◌, ◌==◌, Bool, true, false, not, cond, List, [], ◌∷◌, ◌++◌, map, length, refl, sym, ◌∙◌, ap, subst, arith}
-use Rattle.std.specs.Prelude.{filter, find, unwrap_or, slice_index_or, set, option_map, if◌then◌else◌, ◌||◌, ◌&&◌}
+use Rattle.std.proofs.Common.{◌≡◌, ℕ, zero, suc, ◌+◌, ◌-◌, ◌^◌, ◌<◌, ◌≤◌, ◌==◌, Bool, true, false, not, cond, List, [], ◌∷◌, ◌++◌, map, length, refl, sym, ◌∙◌, ap, subst, arith}
+use Rattle.std.specs.Prelude.{filter, find, unwrap_or, slice_index_or, set, option_map, nat_lt, if◌then◌else◌, sum_by, ◌||◌, ◌&&◌}
 use Rattle.std.specs.List.{flat_map, range_with_len, enumerate_from, list_any, zip}
 use Rattle.std.proofs.lemmas.List.{length-map}
-use Rattle.std.proofs.lemmas.List.Sorted.{IsPermutation-refl, length_permutation}
+use Rattle.std.proofs.lemmas.List.Sorted.{IsPermutation-refl, length_permutation, list_any-IsPermutation}
 use Rattle.rel_base.specs.Bags.{SameBag}
+use Rattle.rel_base.specs.Limits.{most_rows}
 use Rattle.hash_partition.specs.Cells.{cell_number}
 use Rattle.hash_partition.specs.Hashing.{home_of}
 use Rattle.myrial_ast.specs.Scalars.{Scalar}
 use Rattle.myrial_ast.specs.Combinations.{Row, Rows, listed_from}
+use Rattle.myrial_ast.specs.CandidateFaults.{PrefixRule, Counted, Uncounted, too_many, overflows_on}
 use Rattle.myrial_ast.specs.KeptRows.{span_of_item, span_of_prefix, put_at, lies_in}
 use Rattle.bag_laws.specs.Permuted.{SameTables, no_table, a_table}
 use Rattle.bag_laws.proofs.RowPermutations.{listed_from-same}
 use Rattle.algebra.specs.declared.notes.Exchange.TheVariants as exchange
 use Rattle.algebra.specs.declared.settings.ShuffleKind.{ShuffleKind}
 use Rattle.algebra.specs.declared.settings.ShuffleKind.TheVariants as shuffle_kind
-use Rattle.algebra.specs.Trees.{Shape}
+use Rattle.algebra.specs.Trees.{AtomTree, Shape}
 use Rattle.algebra.specs.Shapes.{widths_of, candidates_of, kept_of, listed_of, prefix_of}
+use Rattle.algebra.specs.Meanings.{has_long_prefix}
 use Rattle.placement.specs.Destinations.{first_in, coordinate_in, cells, agrees, destinations, meeting_cell}
 use Rattle.placement.specs.Exchanges.{PlacedExchange, kept_parts, row_counts, prefix_parts, by_cells, by_broadcast, by_keys, cells_exchange, broadcast_exchange, key_exchange, shuffle_exchanges}
 use Rattle.placement.specs.Layouts.{PlacedRelation, Shuffle, ByCells, ByKeys, Broadcast, by_worker, placed_nothing, parts_by_home, values_in, prefix_key, item_key, is_most, staying_atom, rows_of, last_atom, join_parts}
@@ -49,6 +52,25 @@ destinations_by seed shares widths variables j row =
 abbrev meeting_by : ℕ → List ℕ → List (List ℕ) → Row → ℕ
 meeting_by seed shares variables row =
     cell_number shares (map (λ d. coordinate_in seed d row (unwrap_or (find (λ c. true) d.1.1) 0)) (enumerate_from 0 (zip shares variables)))
+
+abbrev bits_by : List ℕ → List (List ℕ) → ℕ → ℕ
+bits_by widths variables j =
+    sum_by (λ (e : ℕ × List ℕ). if list_any (lies_in (span_of_item widths j)) e.1 then 2 ^ e.0 else 0) (enumerate_from 0 variables)
+
+-- what is made of the numbers of items depends on how many there are
+numbers-same : {X Y : Type 0} (f : ℕ → Y) (i : ℕ) (xs ys : List X) → length xs ≡ length ys
+    → map (λ (e : ℕ × X). f e.0) (enumerate_from i xs) ≡ map (λ (e : ℕ × X). f e.0) (enumerate_from i ys)
+numbers-same f i [] [] e = refl
+numbers-same f i [] (y ∷ ys) e = absurd (omega (arith, e))
+numbers-same f i (x ∷ xs) [] e = absurd (omega (arith, e))
+numbers-same f i (x ∷ xs) (y ∷ ys) e = ap (λ zs. f i ∷ zs) (numbers-same f (i + 1) xs ys (omega (arith, e)))
+
+range-any : (p q : ℕ → Bool) (a m : ℕ) → ((i : ℕ) → a ≤ i → i < a + m → p i ≡ q i) → list_any p (range_with_len a m) ≡ list_any q (range_with_len a m)
+range-any p q a zero h = refl
+range-any p q a (suc m) h =
+    let here = h a (omega arith) (omega arith) in
+    let rest = range-any p q (a + 1) m (λ i l r. h i (omega (arith, l)) (omega (arith, r))) in
+    λ k. here k || rest k
 
 -- ---- joins that are alike
 
@@ -243,9 +265,42 @@ module _ (n seed : ℕ) (s t : Shape) (given others : List PlacedRelation) (h : 
   -- ---- the shuffle
 
   uses-same : uses_of s ≡ uses_of t
-  uses-same = ?
+  uses-same =
+      (λ k. map (λ (e : ℕ × AtomTree). bits_by (h.widths k) (h.variables k) e.0) (enumerate_from 0 s.atoms))
+      ∙ numbers-same (bits_by (widths_of t) t.variables) 0 s.atoms t.atoms h.atoms
 
   pub shuffle-alike : (kind : ShuffleKind) → usual_shuffle kind n s (rows_of given) ≡ usual_shuffle kind n t (rows_of others)
   shuffle-alike shuffle_kind.Hc = λ k. ByCells (best_shares (uses-same k) (h.sizes k) (length (h.variables k)) n)
   shuffle-alike shuffle_kind.Rs = refl
   shuffle-alike shuffle_kind.Br = refl
+
+  -- ---- faults
+
+  many-alike : too_many (candidates_of s (rows_of given)) ≡ too_many (candidates_of t (rows_of others))
+  many-alike = ap (λ m. nat_lt most_rows m) (sym (length_permutation (candidates_of s (rows_of given)) (candidates_of t (rows_of others)) h.candidates))
+
+  rows-long : length (rows_of given) ≡ length given
+  rows-long = length-map given (λ (p : PlacedRelation). p.relation.rows)
+
+  pub long-alike : (rule : PrefixRule) → has_long_prefix rule s (rows_of given) ≡ has_long_prefix rule t (rows_of others)
+  long-alike Uncounted = refl
+  long-alike Counted =
+      range-any (λ i. too_many (prefix_of s i (rows_of given))) (λ i. too_many (prefix_of t i (rows_of others))) 1 (length (rows_of given) - 1)
+      (λ i some low. ap (λ m. nat_lt most_rows m)
+      (sym (length_permutation (prefix_of s i (rows_of given)) (prefix_of t i (rows_of others)) (h.prefixes i some (omega (arith, some, low, rows-long))))))
+      ∙ ap (λ m. list_any (λ i. too_many (prefix_of t i (rows_of others))) (range_with_len 1 (m - 1)))
+      (rows-long ∙ h.long ∙ sym (length-map others (λ (p : PlacedRelation). p.relation.rows)))
+
+  pub few-alike : (rule : PrefixRule) → (too_many (candidates_of s (rows_of given)) || has_long_prefix rule s (rows_of given))
+      ≡ (too_many (candidates_of t (rows_of others)) || has_long_prefix rule t (rows_of others))
+  few-alike rule = λ k. many-alike k || long-alike rule k
+
+  pub overflow-alike : list_any (overflows_on s.arith s.emits) (candidates_of s (rows_of given)) ≡ list_any (overflows_on t.arith t.emits) (candidates_of t (rows_of others))
+  overflow-alike =
+      list_any-IsPermutation (overflows_on s.arith s.emits) (candidates_of s (rows_of given)) (candidates_of t (rows_of others)) h.candidates
+      ∙ (λ k. list_any (overflows_on (h.arith k) (h.emits k)) (candidates_of t (rows_of others)))
+
+  pub listed-alike : SameBag (listed_of s (rows_of given)) (listed_of t (rows_of others))
+  listed-alike =
+      subst (SameBag (listed_of s (rows_of given))) (λ k. listed_from (h.arith k) (h.emits k) (candidates_of t (rows_of others)))
+      (listed_from-same s.arith s.emits (candidates_of s (rows_of given)) (candidates_of t (rows_of others)) h.candidates)
