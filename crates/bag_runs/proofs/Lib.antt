@@ -3,3 +3,4 @@ pub mod TableLemmas
 pub mod MovedLemmas
 pub mod SendLemmas
 pub mod AlikeLemmas
+pub mod TermLemmas
