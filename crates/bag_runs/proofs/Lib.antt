@@ -4,3 +4,5 @@ pub mod MovedLemmas
 pub mod SendLemmas
 pub mod AlikeLemmas
 pub mod TermLemmas
+pub mod PrefixLemmas
+pub mod KeptLemmas
