@@ -70,13 +70,13 @@ module _ (shape : Shape) where
       let rest = sizes-same (i + 1) ts us hs in
       λ k. here k ∷ rest k
 
-  candidates_of-same : (ts us : List Rows) → SameTables ts us → SameBag (candidates_of shape ts) (candidates_of shape us)
+  pub candidates_of-same : (ts us : List Rows) → SameTables ts us → SameBag (candidates_of shape ts) (candidates_of shape us)
   candidates_of-same ts us h = candidates-same (tests_of shape ++ map tie_test (ties_of shape)) ts us h
 
   pub listed_of-same : (ts us : List Rows) → SameTables ts us → SameBag (listed_of shape ts) (listed_of shape us)
   listed_of-same ts us h = listed_from-same shape.arith shape.emits (candidates_of shape ts) (candidates_of shape us) (candidates_of-same ts us h)
 
-  prefix_of-same : (i : ℕ) (ts us : List Rows) → SameTables ts us → SameBag (prefix_of shape i ts) (prefix_of shape i us)
+  pub prefix_of-same : (i : ℕ) (ts us : List Rows) → SameTables ts us → SameBag (prefix_of shape i ts) (prefix_of shape i us)
   prefix_of-same i ts us h =
       filter_rows-same (passes_within (tests_of shape) (ties_of shape) (span_of_prefix (widths_of shape) i)) (map combined_row (combinations (take i ts))) (map combined_row (combinations (take i us)))
       (IsPermutation-map combined_row (combinations (take i ts)) (combinations (take i us)) (combinations-same (take i ts) (take i us) (tables-take i ts us h)))
