@@ -1,0 +1,8 @@
+-- Proofs of the laws, lowest first.
+pub mod TableLemmas
+pub mod MovedLemmas
+pub mod SendLemmas
+pub mod AlikeLemmas
+pub mod TermLemmas
+pub mod PrefixLemmas
+pub mod KeptLemmas
