@@ -1,0 +1,3 @@
+-- Proofs of the laws, lowest first.
+pub mod SourceLemmas
+pub mod MeantLemmas
