@@ -1,3 +1,4 @@
 -- Proofs of the laws, lowest first.
 pub mod SourceLemmas
 pub mod MeantLemmas
+pub mod NeededLemmas
