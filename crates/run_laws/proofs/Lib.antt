@@ -2,3 +2,4 @@
 pub mod SourceLemmas
 pub mod MeantLemmas
 pub mod NeededLemmas
+pub mod TypeLemmas
