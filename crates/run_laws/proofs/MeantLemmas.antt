@@ -1,8 +1,8 @@
 -- A step's result is its term over what its sources stand for, whatever steps come later, and so is its fault.
-use Rattle.std.proofs.Common.{◌≡◌, ℕ, zero, suc, ◌<◌, ◌≤◌, ◌==◌, Bool, true, false, cond, List, [], ◌∷◌, map, length, refl, sym, ◌∙◌, ap, subst, arith, Option, Some, None, ◌⊎◌, inl, inr}
-use Rattle.std.specs.Prelude.{All, Contains, IsTrue, ⊤, ◌&&◌, find, fold, is_some, nat_lt, option_map, slice_index_or, unwrap_or}
+use Rattle.std.proofs.Common.{◌≡◌, ℕ, zero, suc, ◌<◌, ◌≤◌, ◌==◌, Bool, true, false, cond, List, [], ◌∷◌, map, refl, sym, ◌∙◌, ap, arith, Option, Some, None, inl, inr}
+use Rattle.std.specs.Prelude.{All, Contains, IsTrue, ⊤, find, fold, is_some, nat_lt, option_map, slice_index_or, unwrap_or}
 use Rattle.std.proofs.lemmas.Bool.{eqb-true, eq-eqb, ltb-true}
-use Rattle.std.proofs.lemmas.List.Elements.{All-nil, All-cons, All-head, All-tail, All-weaker, All-contains}
+use Rattle.std.proofs.lemmas.List.Elements.{All-nil, All-cons, All-head, All-tail, All-weaker}
 use Rattle.rel_base.specs.declared.faults.RunFault.{RunFault}
 use Rattle.rel_base.specs.Keys.{File}
 use Rattle.rel_base.specs.Relations.{RelationState}
@@ -14,11 +14,11 @@ use Rattle.algebra.specs.declared.terms.StoreStep.{StoreStep}
 use Rattle.algebra.specs.Trees.{StepTree, CheckedTree}
 use Rattle.algebra.specs.Conditions.{kinds_of_columns, source_kinds, is_term, are_steps, is_of}
 use Rattle.algebra.specs.Meanings.{found, sources_of, term_rows, term_fault, is_used, needed_steps, first_fault, no_relation, relations_of, step_relation, step_relations}
-use Rattle.placement.specs.Layouts.{PlacedRelation, Placing, term_parts, placed_nothing, placed_files, placed_source, placed_step, placed_steps}
+use Rattle.placement.specs.Layouts.{PlacedRelation, Placing, placed_nothing, placed_files, placed_source, placed_step, placed_steps}
 use Rattle.placement.proofs.WidthLemmas.{three}
 use Rattle.placement.proofs.ScriptLemmas.{checked-steps}
-use Rattle.run_laws.specs.Values.{IsKnown, meant, rows_meant, result_of, first_of, step_fault, StepsAreMeant, FaultsAreOfSteps}
-use Rattle.run_laws.proofs.SourceLemmas.{in_front, first_or_behind, nothing_in_none, term-known, rows-same, fault-same, placed_rows-same, parts-same}
+use Rattle.run_laws.specs.Values.{IsKnown, meant, result_of, first_of, step_fault, StepsAreMeant, FaultsAreOfSteps}
+use Rattle.run_laws.proofs.SourceLemmas.{first_or_behind, nothing_in_none, term-known, fault-same, placed_rows-same, parts-same}
 
 -- ---- numbers rise, and sources are files or of lower numbers
 

@@ -1,9 +1,9 @@
 -- The sources of needed steps and of stores are files and needed steps.
-use Rattle.std.proofs.Common.{◌≡◌, ℕ, ◌<◌, ◌==◌, Bool, true, false, cond, List, [], ◌∷◌, ◌++◌, map, length, refl, sym, ◌∙◌, ap, subst, arith, ◌⊎◌, inl, inr, get_or}
-use Rattle.std.specs.Prelude.{All, Contains, IsTrue, ◌||◌, filter, is_some, nat_lt}
+use Rattle.std.proofs.Common.{◌≡◌, ℕ, Bool, true, false, cond, List, [], ◌∷◌, ◌++◌, map, refl, sym, ◌∙◌, ap, subst, ◌⊎◌, inl, inr, get_or}
+use Rattle.std.specs.Prelude.{All, Contains, IsTrue, filter, nat_lt}
 use Rattle.std.specs.List.{list_all, list_any}
 use Rattle.std.proofs.lemmas.Bool.{eq-eqb, eqb-true, or_left, or_right}
-use Rattle.std.proofs.lemmas.List.Elements.{All-nil, All-cons, All-head, All-tail, All-weaker, Contains-get_or, Contains-append_right}
+use Rattle.std.proofs.lemmas.List.Elements.{All-nil, All-cons, All-weaker, Contains-get_or, Contains-append_right}
 use Rattle.rel_base.specs.Keys.{File}
 use Rattle.algebra.specs.declared.terms.Source.{Source}
 use Rattle.algebra.specs.declared.terms.Source.TheVariants as source
@@ -11,7 +11,7 @@ use Rattle.algebra.specs.declared.terms.StoreStep.{StoreStep}
 use Rattle.algebra.specs.Trees.{StepTree, CheckedTree}
 use Rattle.algebra.specs.Conditions.{kinds_of_columns, source_kinds, is_term, are_steps, is_store, is_of}
 use Rattle.algebra.specs.Meanings.{is_result, is_used, needed_steps, sources_of, uses}
-use Rattle.algebra.specs.Needed.{IsNeeded, stored}
+use Rattle.algebra.specs.Needed.{stored}
 use Rattle.algebra.proofs.ShapeLemmas.{both}
 use Rattle.algebra.proofs.NeededLemmas.{needed_by_rule}
 use Rattle.placement.proofs.WidthLemmas.{three}

@@ -1,11 +1,10 @@
 -- The sources of a well-formed term are known, and a term over them is the same wherever they stand for the same.
-use Rattle.std.proofs.Common.{◌≡◌, ℕ, zero, suc, ◌<◌, ◌≤◌, ◌==◌, Bool, true, false, cond, List, [], ◌∷◌, ◌++◌, map, length, refl, sym, ap, subst, arith, Option, Some, None, ◌⊎◌, inl, inr}
-use Rattle.std.specs.Prelude.{All, Contains, ⊤, ◌&&◌, find, is_some, nat_lt, option_map, slice_get}
+use Rattle.std.proofs.Common.{◌≡◌, ℕ, zero, suc, ◌<◌, ◌==◌, Bool, true, false, cond, List, [], ◌∷◌, ◌++◌, map, length, refl, ap, subst, arith, Option, Some, None, ◌⊎◌, inl, inr}
+use Rattle.std.specs.Prelude.{All, Contains, ◌&&◌, find, is_some, option_map, slice_get}
 use Rattle.std.specs.Cmp.Lexicographic.{pointwise}
-use Rattle.std.proofs.lemmas.Bool.{eqb-true, ltb-true}
+use Rattle.std.proofs.lemmas.Bool.{eqb-true}
 use Rattle.std.proofs.lemmas.List.Elements.{All-nil, All-cons, All-head, All-tail, All-weaker, Contains-append_cases, Contains-append_right}
 use Rattle.rel_base.specs.declared.values.ColType.{ColType}
-use Rattle.rel_base.specs.declared.faults.RunFault.{RunFault}
 use Rattle.rel_base.specs.declared.faults.RunFault.TheVariants as fault
 use Rattle.rel_base.specs.Keys.{File}
 use Rattle.myrial_ast.specs.Combinations.{Rows}
@@ -17,7 +16,7 @@ use Rattle.algebra.specs.declared.terms.Source.TheVariants as source
 use Rattle.algebra.specs.Trees.{AtomTree, TermTree, Same, Empty, UnionAll, Diff, Distinct, Join, Group, StepTree}
 use Rattle.algebra.specs.Shapes.{listed_of}
 use Rattle.algebra.specs.ShapeConditions.{is_shape}
-use Rattle.algebra.specs.Conditions.{kinds_of_columns, source_kinds, has_kinds, is_term, are_steps}
+use Rattle.algebra.specs.Conditions.{kinds_of_columns, source_kinds, has_kinds, is_term}
 use Rattle.algebra.specs.Meanings.{sources_of, term_rows, shape_fault, term_fault}
 use Rattle.algebra.proofs.ShapeLemmas.{both}
 use Rattle.placement.specs.Layouts.{PlacedRelation, Placing, by_worker, part, parts_by_row, parts_by_key, listed_parts, term_parts}

@@ -8,7 +8,6 @@ use Rattle.std.proofs.lemmas.Bool.{eqb-true}
 use Rattle.std.proofs.lemmas.List.{map-append, length-map}
 use Rattle.std.proofs.lemmas.List.Elements.{All-nil, All-cons, All-head, All-tail, All-append, All-map, All-filter, All-weaker}
 use Rattle.rel_base.specs.declared.values.Value.{Value}
-use Rattle.rel_base.specs.declared.values.Value.TheVariants as value
 use Rattle.rel_base.specs.declared.values.ColType.{ColType}
 use Rattle.rel_base.specs.declared.values.ColType.TheVariants as kind
 use Rattle.rel_base.specs.declared.relations.Column.{Column}
@@ -21,7 +20,7 @@ use Rattle.myrial_ast.specs.declared.operators.BinOp.{BinOp}
 use Rattle.myrial_ast.specs.declared.operators.BinOp.TheVariants as op
 use Rattle.myrial_ast.specs.Scalars.{Scalar, Lit, At, Not, Neg, Bin, exact_value, value_at}
 use Rattle.myrial_ast.specs.Bags.{same_row, has_row, distinct}
-use Rattle.myrial_ast.specs.Combinations.{Row, Rows, all_hold, candidates, combinations, combined_row, combined_rows, emitted}
+use Rattle.myrial_ast.specs.Combinations.{Row, Rows, all_hold, combinations, combined_row, combined_rows, emitted}
 use Rattle.myrial_ast.specs.Groups.{Kinds, key_of, keys, members, lesser, greater, cell, group_row, groups}
 use Rattle.bag_laws.proofs.ColumnLemmas.{behind, firsts, by_columns, group_row-columns}
 use Rattle.bag_laws.proofs.PartialLemmas.{itself}
@@ -34,11 +33,10 @@ use Rattle.algebra.specs.Conditions.{is_of, same_kinds, kinds_of_columns, source
 use Rattle.algebra.specs.Meanings.{term_rows}
 use Rattle.algebra.specs.Rewriting.{AreTyped}
 use Rattle.algebra.proofs.ShapeLemmas.{both}
-use Rattle.placement.specs.Layouts.{PlacedRelation, Placing, placed_file, placed_nothing, placed_files, placed_source, placed_step, placed_steps}
-use Rattle.placement.specs.Laws.{IsPlacing}
+use Rattle.placement.specs.Layouts.{PlacedRelation, Placing, placed_nothing, placed_files, placed_source, placed_step, placed_steps}
 use Rattle.placement.proofs.WidthLemmas.{three}
 use Rattle.placement.proofs.ScriptLemmas.{checked-steps, steps-IsPlaced, found-IsPlaced}
-use Rattle.run_laws.specs.Values.{IsKnown, IsMeant, meant, MeantArePlaced}
+use Rattle.run_laws.specs.Values.{meant, MeantArePlaced}
 
 -- ---- rows of types
 
