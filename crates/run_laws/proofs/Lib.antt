@@ -3,3 +3,4 @@ pub mod SourceLemmas
 pub mod MeantLemmas
 pub mod NeededLemmas
 pub mod TypeLemmas
+pub mod RewrittenLemmas
