@@ -34,21 +34,21 @@ pub(crate) struct RunStep<'a> {
 pub(crate) fn run_term<R: Threads + Wait + Sync, T: Tap + Send>(
     rt: &R,
     alloc: Global,
-    run: RunStep<'_>,
+    run: &RunStep<'_>,
     held: &Held,
     settings: &Settings,
     lines: &mut PlanNotes,
     taps: &mut Vec<T>,
 ) -> Result<Moved, RunFault>
-    requires runnable { IsRunnable settings.now.workers (length run.step.now.schema) held.now
-        (term_tree_of run.step.now.term) }
-    requires same { IsSameTerm (term_tree_of run.step.now.term) (term_tree_of run.pushed.now.term) }
+    requires runnable { IsRunnable settings.now.workers (length run.now.step.now.schema) held.now
+        (term_tree_of run.now.step.now.term) }
+    requires same { IsSameTerm (term_tree_of run.now.step.now.term) (term_tree_of run.now.pushed.now.term) }
     requires taps { 2 * settings.now.workers ≤ vec_len taps.old }
-    ensures run { IsStepRun settings.now run.step.now.statement (value_held held.now)
-        (term_tree_of run.step.now.term) T.totals T.tag taps.old.items taps.new.items result }
+    ensures run { IsStepRun settings.now run.now.step.now.statement (value_held held.now)
+        (term_tree_of run.now.step.now.term) T.totals T.tag taps.old.items taps.new.items result }
     ensures lines { OnOk result (lines.new ≡ lines.old
-        ++ term_notes (usual_placing settings.now) settings.now.local run.step.now.statement
-        (value_held held.now) (term_tree_of run.step.now.term)) }
+        ++ term_notes (usual_placing settings.now) settings.now.local run.now.step.now.statement
+        (value_held held.now) (term_tree_of run.now.step.now.term)) }
 {
     let statement = run.step.statement;
     match (&run.step.term, &run.pushed.term) {
