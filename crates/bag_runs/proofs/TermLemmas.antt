@@ -20,21 +20,23 @@ use Rattle.bag_laws.proofs.GroupPermutations.{groups-same}
 use Rattle.bag_laws.proofs.RowPermutations.{combinations-same, filter_rows-same, candidates-same, listed_from-same, union_all-same, distinct-same, difference-same}
 use Rattle.algebra.specs.declared.notes.Exchange.{Exchange}
 use Rattle.algebra.specs.declared.notes.Exchange.TheVariants as exchange
+use Rattle.algebra.specs.declared.settings.JoinKind.{JoinKind}
 use Rattle.algebra.specs.declared.settings.Settings.{Settings}
 use Rattle.algebra.specs.declared.terms.Source.{Source}
 use Rattle.algebra.specs.Trees.{Shape, TermTree, Same, Empty, UnionAll, Diff, Distinct, Join, Group}
 use Rattle.algebra.specs.Shapes.{widths_of, tests_of, ties_of, tie_test, candidates_of, kept_of, listed_of, prefix_of}
 use Rattle.algebra.specs.Meanings.{sources_of, shape_fault, term_fault, has_long_prefix}
 use Rattle.placement.specs.Exchanges.{PlacedExchange, row_counts, shuffle_exchanges, join_exchanges, to_home, whole_row, row_exchange, partial_sending, group_exchange, term_exchanges}
-use Rattle.placement.specs.Layouts.{PlacedRelation, placed_nothing, by_worker, part, rows_of, join_parts, listed_parts, parts_by_row, parts_by_key, term_parts}
+use Rattle.placement.specs.Layouts.{PlacedRelation, Shuffle, placed_nothing, by_worker, part, rows_of, join_parts, listed_parts, parts_by_row, parts_by_key, term_parts}
 use Rattle.placement.specs.Laws.{IsPlaced, IsSamePlaced, AreSamePlaced, none_placed, one_placed, HasReadyItems}
-use Rattle.placement.specs.Plans.{kept_sizes, usual_shuffle, usual_placing}
+use Rattle.placement.specs.Plans.{group_note, item_notes, variable_notes, shuffle_note, join_notes, usual_shuffle, usual_placing}
 use Rattle.placement.proofs.PrefixLemmas.{map-through}
 use Rattle.bag_runs.specs.SameExchanges.{AreSameExchanges, no_exchange, an_exchange}
 use Rattle.bag_runs.specs.BagRuns.{AreSameValues, rows_in, IsSameRun, TermsAreOfBags}
 use Rattle.bag_runs.proofs.TableLemmas.{tables-itself, tables-counts, tables-at, tables-map, tables-set, tables-take, tables-range, homes-same}
 use Rattle.bag_runs.proofs.SendLemmas.{AreSameSendings, no_sending, a_sending, sendings-tell, exchanges-before}
-use Rattle.bag_runs.proofs.AlikeLemmas.{AreKeptAlike, no_item, an_item, AreAlike, parts-alike, exchanges-alike, shuffle-alike, few-alike, overflow-alike, listed-alike}
+use Rattle.bag_runs.proofs.AlikeLemmas.{AreKeptAlike, no_item, an_item, AreAlike, staying-same, parts-alike, exchanges-alike, shuffle-alike, few-alike, overflow-alike, listed-alike}
+use Rattle.bag_runs.proofs.NoteLemmas.{item-notes, shuffle-noted}
 
 -- ---- one shape over the same bags
 
@@ -42,7 +44,7 @@ rows-same : (ps qs : List PlacedRelation) → AreSamePlaced ps qs → SameTables
 rows-same _ _ none_placed = no_table
 rows-same _ _ (one_placed p q ps qs h hs) = a_table p.relation.rows q.relation.rows (rows_of ps) (rows_of qs) h.rows (rows-same ps qs hs)
 
-placed-long : (ps qs : List PlacedRelation) → AreSamePlaced ps qs → length ps ≡ length qs
+pub placed-long : (ps qs : List PlacedRelation) → AreSamePlaced ps qs → length ps ≡ length qs
 placed-long _ _ none_placed = refl
 placed-long _ _ (one_placed p q ps qs h hs) = ap suc (placed-long ps qs hs)
 
@@ -175,6 +177,20 @@ module _ (s : Settings) (number : ℕ) (shape : Shape) where
         (exchanges-alike s.workers s.seed shape shape given others alike (usual_parts given) (usual_parts others) usual-parts
         (usual_shuffle s.shuffle s.workers shape (rows_of given)))
 
+  usual-notes : (local : JoinKind) (given others : List PlacedRelation) → AreSamePlaced given others
+      → item_notes shape (rows_of given) ++ variable_notes (usual_shuffle s.shuffle s.workers shape (rows_of given)) shape
+      ++ shuffle_note (usual_shuffle s.shuffle s.workers shape (rows_of given)) local shape (rows_of given) ∷ []
+      ≡ item_notes shape (rows_of others) ++ variable_notes (usual_shuffle s.shuffle s.workers shape (rows_of others)) shape
+      ++ shuffle_note (usual_shuffle s.shuffle s.workers shape (rows_of others)) local shape (rows_of others) ∷ []
+  usual-notes local given others h =
+      let rows = rows-same given others h in
+      let items = item-notes shape (kept-same shape) (rows_of given) (rows_of others) rows in
+      let line = shuffle-noted shape local (rows_of given) (rows_of others) (sizes-same shape 0 (rows_of given) (rows_of others) rows)
+      (staying-same s.workers s.seed shape shape given others (alike given others h)) in
+      let used : Shuffle = usual_shuffle s.shuffle s.workers shape (rows_of given) in
+      (λ k. items k ++ variable_notes used shape ++ line used k ∷ [])
+      ∙ ap (λ shuffle. item_notes shape (rows_of others) ++ variable_notes shuffle shape ++ shuffle_note shuffle local shape (rows_of others) ∷ []) (shuffles given others h)
+
   listed-same : (given others : List PlacedRelation) → AreSamePlaced given others
       → SameTables (listed_parts (usual_placing s) number shape given) (listed_parts (usual_placing s) number shape others)
   listed-same _ _ none_placed = usual-parts [] [] none_placed
@@ -190,6 +206,14 @@ module _ (s : Settings) (number : ℕ) (shape : Shape) where
   exchanges-same _ _ (one_placed p q _ _ h none_placed) = no_exchange
   exchanges-same _ _ (one_placed p q _ _ h (one_placed r u ps qs k hs)) =
       usual-exchanges (p ∷ r ∷ ps) (q ∷ u ∷ qs) (one_placed p q (r ∷ ps) (u ∷ qs) h (one_placed r u ps qs k hs))
+
+  notes-same : (local : JoinKind) (given others : List PlacedRelation) → AreSamePlaced given others
+      → join_notes (usual_placing s) local number shape given ≡ join_notes (usual_placing s) local number shape others
+  notes-same local _ _ none_placed = refl
+  notes-same local _ _ (one_placed p q _ _ h none_placed) =
+      item-notes shape (kept-same shape) (p.relation.rows ∷ []) (q.relation.rows ∷ []) (a_table p.relation.rows q.relation.rows [] [] h.rows no_table)
+  notes-same local _ _ (one_placed p q _ _ h (one_placed r u ps qs k hs)) =
+      usual-notes local (p ∷ r ∷ ps) (q ∷ u ∷ qs) (one_placed p q (r ∷ ps) (u ∷ qs) h (one_placed r u ps qs k hs))
 
 -- ---- the other terms
 
@@ -233,8 +257,9 @@ same-run s number v w (Same o) h = record {
   parts = (All-head (λ o. IsSamePlaced (v o) (w o)) o [] h).parts;
   exchanges = no_exchange;
   fault = λ rule. refl;
+  notes = λ local. refl;
 }
-same-run s number v w Empty h = record { parts = tables-itself (by_worker s.workers (λ k. [])); exchanges = no_exchange; fault = λ rule. refl }
+same-run s number v w Empty h = record { parts = tables-itself (by_worker s.workers (λ k. [])); exchanges = no_exchange; fault = λ rule. refl; notes = λ local. refl }
 same-run s number v w (UnionAll o p) h =
     let one = All-head (λ o. IsSamePlaced (v o) (w o)) o (p ∷ []) h in
     let two = All-head (λ o. IsSamePlaced (v o) (w o)) p [] (All-tail (λ o. IsSamePlaced (v o) (w o)) o (p ∷ []) h) in
@@ -248,6 +273,7 @@ same-run s number v w (UnionAll o p) h =
           ap (λ m. if nat_lt most_rows m then Some (fault.TooManyRows number) else None)
           (sym (length_permutation (union_all (rows_in v o) (rows_in v p)) (union_all (rows_in w o) (rows_in w p))
           (union_all-same (rows_in v o) (rows_in w o) (rows_in v p) (rows_in w p) one.rows two.rows)));
+      notes = λ local. refl;
     }
 same-run s number v w (Diff o p) h =
     let one = All-head (λ o. IsSamePlaced (v o) (w o)) o (p ∷ []) h in
@@ -260,6 +286,7 @@ same-run s number v w (Diff o p) h =
           rows-exchanged s exchange.Diff (v o ∷ v p ∷ []) (w o ∷ w p ∷ []) (term_parts (usual_placing s) number v (Diff o p)) (term_parts (usual_placing s) number w (Diff o p))
           (values-placed v w (o ∷ p ∷ []) h) parts;
       fault = λ rule. refl;
+      notes = λ local. refl;
     }
 same-run s number v w (Distinct o) h =
     let one = All-head (λ o. IsSamePlaced (v o) (w o)) o [] h in
@@ -270,6 +297,7 @@ same-run s number v w (Distinct o) h =
           rows-exchanged s exchange.Distinct (v o ∷ []) (w o ∷ []) (term_parts (usual_placing s) number v (Distinct o)) (term_parts (usual_placing s) number w (Distinct o))
           (values-placed v w (o ∷ []) h) parts;
       fault = λ rule. refl;
+      notes = λ local. refl;
     }
 same-run s number v w (Join shape sources) h =
     let placed = values-placed v w sources h in
@@ -277,6 +305,7 @@ same-run s number v w (Join shape sources) h =
       parts = listed-same s number shape (map v sources) (map w sources) placed;
       exchanges = exchanges-same s number shape (map v sources) (map w sources) placed;
       fault = λ rule. fault-same s number rule shape [] v w sources h;
+      notes = λ local. notes-same s number shape local (map v sources) (map w sources) placed;
     }
 same-run s number v w (Group shape sources kinds) h =
     let placed = values-placed v w sources h in
@@ -294,6 +323,7 @@ same-run s number v w (Group shape sources kinds) h =
           (term_parts (usual_placing s) number v (Group shape sources kinds)) (term_parts (usual_placing s) number w (Group shape sources kinds))
           (listed-same s number shape (map v sources) (map w sources) placed) parts);
       fault = λ rule. fault-same s number rule shape kinds v w sources h;
+      notes = λ local. ap (λ lines. lines ++ group_note kinds ∷ []) (notes-same s number shape local (map v sources) (map w sources) placed);
     }
 
 pub terms_are_of_bags : TermsAreOfBags

@@ -1,5 +1,5 @@
 //! The laws of kept rows.
-ghost use Rattle.bag_runs.specs.KeptRuns.{KeptRowsAreEnough, KeptRowsAreListed};
+ghost use Rattle.bag_runs.specs.KeptRuns.{KeptRowsAreEnough, KeptRowsAreListed, KeptRowsAreParts};
 
 /// A pushed join of kept rows comes to the bags of the join, and tells the same.
 pub fn kept_rows_are_enough()
@@ -9,4 +9,9 @@ pub fn kept_rows_are_enough()
 /// So does a join of one item.
 pub fn kept_rows_are_listed()
     ensures { KeptRowsAreListed }
+{}
+
+/// A local join may be given the kept rows of a pushed join.
+pub fn kept_rows_are_parts()
+    ensures { KeptRowsAreParts }
 {}
