@@ -80,6 +80,18 @@ kinds-same as_many others e j = kind-in as_many j ∙ ap (λ (kinds : List (List
     kind-in (a ∷ atoms) zero = refl
     kind-in (a ∷ atoms) (suc j) = kind-in atoms j
 
+-- tables of the types of some atoms are tables of others of the same types
+kinds-tables : (as_many others : List AtomTree) → map (λ (a : AtomTree). a.kinds) as_many ≡ map (λ (a : AtomTree). a.kinds) others → (tables : List Rows)
+    → AreTables as_many tables → AreTables others tables
+kinds-tables [] [] e tables h = h
+kinds-tables [] (b ∷ others) e tables h = absurd (cc)
+kinds-tables (a ∷ as_many) [] e tables h = absurd (cc)
+kinds-tables (a ∷ as_many) (b ∷ others) e [] h = absurd h
+kinds-tables (a ∷ as_many) (b ∷ others) e (rows ∷ tables) h =
+    let own : a.kinds ≡ b.kinds = cc in
+    let rest : map (λ (a : AtomTree). a.kinds) as_many ≡ map (λ (a : AtomTree). a.kinds) others = cc in
+    (subst (λ kinds. HasKinds kinds rows) own h.0, kinds-tables as_many others rest tables h.1)
+
 -- kept rows of an atom are rows of it
 kept-part : (s t : Shape) → IsPushed s t → (j : ℕ) → j < length t.atoms → (own : Rows) → HasKinds (kinds_at s.atoms j) own → IsPart t j (kept_of t j own)
 kept-part s t pushed j low own typed =
@@ -99,14 +111,15 @@ kept-part s t pushed j low own typed =
         (both (all_hold (filter (reads_within span) (tests_of t)) (put_at span.from row)) (classes_agree (ties_of t) (columns_in span) (put_at span.from row)) h).1
 
 pub kept_rows_are_parts : KeptRowsAreParts
-kept_rows_are_parts n s t parts ready typed pushed = (
-  record {
+kept_rows_are_parts n s t parts ready typed pushed = record {
+  typed = kinds-tables s.atoms t.atoms pushed.same.kinds (rows_of (placed_items parts)) typed;
+  ready = record {
     one_each = spreads-long t parts ∙ long;
     each_worker = spreads-each n t 0 parts ready.placed;
     each = λ j u low below. at j u (omega (arith, low, spreads-long t parts));
-  },
-  spreads-placed t 0 parts,
-)
+  };
+  items = spreads-placed t 0 parts;
+}
   where
     long : length parts ≡ length t.atoms
     long = sym (length-map parts placed_rows) ∙ ready.as_many ∙ join-atoms s t pushed.same
