@@ -1,5 +1,5 @@
 -- The lines of a plan, over the same bags.
-use Rattle.std.proofs.Common.{◌≡◌, ℕ, suc, ◌+◌, List, [], ◌∷◌, ◌++◌, map, length, refl, sym, ◌∙◌, ap}
+use Rattle.std.proofs.Common.{◌≡◌, ℕ, suc, ◌+◌, List, ◌∷◌, map, length, refl, sym, ap}
 use Rattle.std.specs.List.{enumerate_from}
 use Rattle.std.proofs.lemmas.List.Sorted.{length_permutation}
 use Rattle.rel_base.specs.Bags.{SameBag}
@@ -16,8 +16,10 @@ use Rattle.placement.specs.Plans.{pushed_of, uses_of, kept_sizes, item_notes, sh
 
 module _ (shape : Shape) (kept-same : (i : ℕ) (a b : Rows) → SameBag a b → SameBag (kept_of shape i a) (kept_of shape i b)) where
   items-noted : (i : ℕ) (ts us : List Rows) → SameTables ts us
-      → map {B = PlanNote} (λ (e : ℕ × Rows). note.Item (suc e.0) (length e.1) (pushed_of shape e.0) (length (kept_of shape e.0 e.1))) (enumerate_from i ts)
-      ≡ map (λ (e : ℕ × Rows). note.Item (suc e.0) (length e.1) (pushed_of shape e.0) (length (kept_of shape e.0 e.1))) (enumerate_from i us)
+      → map {B = PlanNote} (λ (e : ℕ × Rows). note.Item (suc e.0) (length e.1) (pushed_of shape e.0)
+      (length (kept_of shape e.0 e.1))) (enumerate_from i ts)
+      ≡ map (λ (e : ℕ × Rows). note.Item (suc e.0) (length e.1) (pushed_of shape e.0) (length (kept_of shape e.0 e.1)))
+      (enumerate_from i us)
   items-noted i _ _ no_table = refl
   items-noted i _ _ (a_table rows others ts us h hs) =
       let all : length rows ≡ length others = sym (length_permutation rows others h) in
@@ -30,7 +32,8 @@ module _ (shape : Shape) (kept-same : (i : ℕ) (a b : Rows) → SameBag a b →
   item-notes ts us h = items-noted 0 ts us h
 
 -- the line of a shuffle is said of the numbers of kept rows
-pub shuffle-noted : (shape : Shape) (local : JoinKind) (ts us : List Rows) → kept_sizes shape ts ≡ kept_sizes shape us → staying_atom shape ts ≡ staying_atom shape us
+pub shuffle-noted : (shape : Shape) (local : JoinKind) (ts us : List Rows) → kept_sizes shape ts ≡ kept_sizes shape us
+    → staying_atom shape ts ≡ staying_atom shape us
     → (shuffle : Shuffle) → shuffle_note shuffle local shape ts ≡ shuffle_note shuffle local shape us
 shuffle-noted shape local ts us sizes stays (ByCells shares) =
     ap (λ counts. let load = load_of (uses_of shape) counts shares in note.Hc local (product shares) load.num load.den) sizes

@@ -53,4 +53,5 @@ ReadyAreOfBags =
 
 -- rows that lie where those of a placed relation do, in any order, are the same bags
 abbrev pub HeldAreSame : Type 0
-HeldAreSame = (n : ℕ) (p : PlacedRelation) (held : List Rows) → IsPlaced n p → SameTables p.parts held → IsSamePlaced p (placed_rows held)
+HeldAreSame =
+    (n : ℕ) (p : PlacedRelation) (held : List Rows) → IsPlaced n p → SameTables p.parts held → IsSamePlaced p (placed_rows held)
