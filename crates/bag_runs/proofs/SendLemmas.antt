@@ -25,6 +25,13 @@ filter-flat_map p f [] = refl
 filter-flat_map p f (x ∷ xs) = filter-append p (f x) (flat_map f xs) ∙ ap (λ ys. filter p (f x) ++ ys) (filter-flat_map p f xs)
 
 module _ (q : Move → Bool) where
+  both-sift : (a b c d : List Move) → IsPermutation (filter q a) (filter q b) → IsPermutation (filter q c) (filter q d)
+      → IsPermutation (filter q (a ++ c)) (filter q (b ++ d))
+  both-sift a b c d k l =
+      subst (λ ms. IsPermutation ms (filter q (b ++ d))) (sym (filter-append q a c))
+      (subst (IsPermutation (filter q a ++ filter q c)) (sym (filter-append q b d))
+      (IsPermutation-append (filter q a) (filter q b) (filter q c) (filter q d) k l))
+
   rows-sift : (f : Row → List Move) (xs ys : Rows) → SameBag xs ys
       → IsPermutation (filter q (flat_map f xs)) (filter q (flat_map f ys))
   rows-sift f xs ys h =
@@ -37,18 +44,11 @@ module _ (q : Move → Bool) where
       (filter q (flat_map (λ (e : ℕ × Rows). flat_map (f e.0) e.1) (enumerate_from u us)))
   parts-sift f u _ _ no_table = IsPermutation-refl []
   parts-sift f u _ _ (a_table rows others ts us h hs) =
-      joined (flat_map (f u) rows) (flat_map (f u) others) (after ts) (after us) (rows-sift (f u) rows others h)
+      both-sift (flat_map (f u) rows) (flat_map (f u) others) (after ts) (after us) (rows-sift (f u) rows others h)
       (parts-sift f (u + 1) ts us hs)
     where
       after : List Rows → List Move
       after some = flat_map (λ (e : ℕ × Rows). flat_map (f e.0) e.1) (enumerate_from (u + 1) some)
-
-      joined : (a b c d : List Move) → IsPermutation (filter q a) (filter q b) → IsPermutation (filter q c) (filter q d)
-          → IsPermutation (filter q (a ++ c)) (filter q (b ++ d))
-      joined a b c d k l =
-          subst (λ ms. IsPermutation ms (filter q (b ++ d))) (sym (filter-append q a c))
-          (subst (IsPermutation (filter q a ++ filter q c)) (sym (filter-append q b d))
-          (IsPermutation-append (filter q a) (filter q b) (filter q c) (filter q d) k l))
 
   atom-sift : (atom : ℕ) (s t : Sending) → s.goes_to ≡ t.goes_to → SameTables s.parts t.parts
       → IsPermutation (filter q (moves_of_atom atom s)) (filter q (moves_of_atom atom t))
@@ -62,18 +62,11 @@ module _ (q : Move → Bool) where
       (filter q (flat_map (λ (e : ℕ × Sending). moves_of_atom e.0 e.1) (enumerate_from atom ts)))
   sendings-sift atom _ _ no_sending = IsPermutation-refl []
   sendings-sift atom _ _ (a_sending s t ss ts e h hs) =
-      joined (moves_of_atom atom s) (moves_of_atom atom t) (after ss) (after ts) (atom-sift atom s t e h)
+      both-sift (moves_of_atom atom s) (moves_of_atom atom t) (after ss) (after ts) (atom-sift atom s t e h)
       (sendings-sift (atom + 1) ss ts hs)
     where
       after : List Sending → List Move
       after some = flat_map (λ (e : ℕ × Sending). moves_of_atom e.0 e.1) (enumerate_from (atom + 1) some)
-
-      joined : (a b c d : List Move) → IsPermutation (filter q a) (filter q b) → IsPermutation (filter q c) (filter q d)
-          → IsPermutation (filter q (a ++ c)) (filter q (b ++ d))
-      joined a b c d k l =
-          subst (λ ms. IsPermutation ms (filter q (b ++ d))) (sym (filter-append q a c))
-          (subst (IsPermutation (filter q a ++ filter q c)) (sym (filter-append q b d))
-          (IsPermutation-append (filter q a) (filter q b) (filter q c) (filter q d) k l))
 
 -- their exchanges tell the same
 pub sendings-tell : (n : ℕ) (kind : Exchange) (ss ts : List Sending) (listed counts : List ℕ) → AreSameSendings ss ts

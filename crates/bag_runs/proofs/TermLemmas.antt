@@ -380,4 +380,4 @@ same-run s number v w (Group shape sources kinds) h =
     }
 
 pub terms_are_of_bags : TermsAreOfBags
-terms_are_of_bags s number v w t some placed ready same = same-run s number v w t same
+terms_are_of_bags = same-run

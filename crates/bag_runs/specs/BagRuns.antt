@@ -4,7 +4,7 @@
 --   TermsAreOfBags                  then a term has the same bags at each worker, by exchanges that tell the same, and one fault
 --   ReadyAreOfBags                  items that are the same bags are as ready to be joined
 --   HeldAreSame                     rows that lie where a relation's do, as bags, are placed as these are
-use Rattle.std.specs.Prelude.{◌≡◌, ℕ, ◌≤◌, List, All}
+use Rattle.std.specs.Prelude.{◌≡◌, ℕ, List, All}
 use Rattle.myrial_ast.specs.Combinations.{Rows}
 use Rattle.myrial_ast.specs.CandidateFaults.{PrefixRule}
 use Rattle.bag_laws.specs.Permuted.{SameTables}
@@ -16,7 +16,7 @@ use Rattle.algebra.specs.Meanings.{sources_of, term_fault}
 use Rattle.algebra.specs.Rewriting.{AreTables}
 use Rattle.placement.specs.Exchanges.{term_exchanges}
 use Rattle.placement.specs.Layouts.{PlacedRelation, rows_of, term_parts}
-use Rattle.placement.specs.Laws.{IsPlaced, IsSamePlaced, AreSamePlaced, IsReady, HasReadyItems}
+use Rattle.placement.specs.Laws.{IsPlaced, IsSamePlaced, AreSamePlaced, IsReady}
 use Rattle.placement.specs.Plans.{usual_placing, term_notes}
 use Rattle.placed_joins.specs.PlacedJoins.{placed_rows}
 use Rattle.bag_runs.specs.SameExchanges.{AreSameExchanges}
@@ -40,9 +40,8 @@ pub record IsSameRun (s : Settings) (number : ℕ) (v w : Source → PlacedRelat
 
 abbrev pub TermsAreOfBags : Type 0
 TermsAreOfBags =
-    (s : Settings) (number : ℕ) (v w : Source → PlacedRelation) (t : TermTree) → 1 ≤ s.workers
-    → All (λ o. IsPlaced s.workers (v o)) (sources_of t) → HasReadyItems s.workers v t
-    → AreSameValues v w (sources_of t) → IsSameRun s number v w t
+    (s : Settings) (number : ℕ) (v w : Source → PlacedRelation) (t : TermTree) → AreSameValues v w (sources_of t)
+    → IsSameRun s number v w t
 
 -- items that are the same bags as others are as ready to be joined, and of the same types
 abbrev pub ReadyAreOfBags : Type 0

@@ -1,6 +1,17 @@
-//! Laws by which rows that are known as bags, and kept rows with pushed tests, are enough to run a term.
+//! Laws by which rows that are known as bags, and kept rows with pushed tests, are enough to run a
+//! term.
 //!
-//! Each is the contract of a function that does nothing.
+//! Stands on `placement` for what terms come to at workers and what their exchanges move, on
+//! `term_runs` for what a run gives, on `bag_laws`, and on `algebra` for pushed joins. Nothing here
+//! runs: each law is the contract of a function with an empty body.
+//!
+//! Promises: over the same bags a term comes to the same bags at each worker, by exchanges that
+//! tell the same, with the same fault and the same lines of a plan; so does a pushed join of the
+//! rows that its tests keep, which a local join may be given; and what is moved or counted by some
+//! exchanges is so by others that tell the same.
+//! Not promised: any order of rows.
+//!
+//! Read `specs/SameExchanges.antt`, `specs/BagRuns.antt` and `specs/KeptRuns.antt`.
 #![tactic(auto)]
 
 mod bags;
