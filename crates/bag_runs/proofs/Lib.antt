@@ -5,7 +5,6 @@ pub mod SendLemmas
 pub mod AlikeLemmas
 pub mod NoteLemmas
 pub mod TermLemmas
-pub mod HeldLemmas
 pub mod PrefixLemmas
 pub mod TypedLemmas
 pub mod KeptLemmas

@@ -2,8 +2,6 @@
 --
 --   AreSameValues v w sources       what these sources stand for is the same but for the order of rows
 --   TermsAreOfBags                  then a term has the same bags at each worker, by exchanges that tell the same, and one fault
---   ReadyAreOfBags                  items that are the same bags are as ready to be joined
---   HeldAreSame                     rows that lie where a relation's do, as bags, are placed as these are
 use Rattle.std.specs.Prelude.{◌≡◌, ℕ, List, All}
 use Rattle.myrial_ast.specs.Combinations.{Rows}
 use Rattle.myrial_ast.specs.CandidateFaults.{PrefixRule}
@@ -11,14 +9,12 @@ use Rattle.bag_laws.specs.Permuted.{SameTables}
 use Rattle.algebra.specs.declared.settings.JoinKind.{JoinKind}
 use Rattle.algebra.specs.declared.settings.Settings.{Settings}
 use Rattle.algebra.specs.declared.terms.Source.{Source}
-use Rattle.algebra.specs.Trees.{Shape, TermTree}
+use Rattle.algebra.specs.Trees.{TermTree}
 use Rattle.algebra.specs.Meanings.{sources_of, term_fault}
-use Rattle.algebra.specs.Rewriting.{AreTables}
 use Rattle.placement.specs.Exchanges.{term_exchanges}
-use Rattle.placement.specs.Layouts.{PlacedRelation, rows_of, term_parts}
-use Rattle.placement.specs.Laws.{IsPlaced, IsSamePlaced, AreSamePlaced, IsReady}
+use Rattle.placement.specs.Layouts.{PlacedRelation, term_parts}
+use Rattle.placement.specs.Laws.{IsSamePlaced}
 use Rattle.placement.specs.Plans.{usual_placing, term_notes}
-use Rattle.placed_joins.specs.PlacedJoins.{placed_rows}
 use Rattle.bag_runs.specs.SameExchanges.{AreSameExchanges}
 
 -- what these sources stand for is the same, but for the order of rows
@@ -42,15 +38,3 @@ abbrev pub TermsAreOfBags : Type 0
 TermsAreOfBags =
     (s : Settings) (number : ℕ) (v w : Source → PlacedRelation) (t : TermTree) → AreSameValues v w (sources_of t)
     → IsSameRun s number v w t
-
--- items that are the same bags as others are as ready to be joined, and of the same types
-abbrev pub ReadyAreOfBags : Type 0
-ReadyAreOfBags =
-    (n : ℕ) (shape : Shape) (given others : List PlacedRelation) → AreSamePlaced given others
-    → (IsReady n shape given → IsReady n shape others)
-    × (AreTables shape.atoms (rows_of given) → AreTables shape.atoms (rows_of others))
-
--- rows that lie where those of a placed relation do, in any order, are the same bags
-abbrev pub HeldAreSame : Type 0
-HeldAreSame =
-    (n : ℕ) (p : PlacedRelation) (held : List Rows) → IsPlaced n p → SameTables p.parts held → IsSamePlaced p (placed_rows held)

@@ -1,6 +1,6 @@
 //! The laws of rows in any order.
 ghost use Rattle.bag_runs.specs.SameExchanges.{MovedAreOfSameExchanges, CountsAreOfSameExchanges};
-ghost use Rattle.bag_runs.specs.BagRuns.{TermsAreOfBags, ReadyAreOfBags, HeldAreSame};
+ghost use Rattle.bag_runs.specs.BagRuns.{TermsAreOfBags};
 
 /// What is moved by exchanges is moved to the same bags by exchanges that tell the same.
 pub fn moved_are_of_same_exchanges()
@@ -16,14 +16,4 @@ pub fn counts_are_of_same_exchanges()
 /// fault and the same lines of a plan.
 pub fn terms_are_of_bags()
     ensures { TermsAreOfBags }
-{}
-
-/// Items that are the same bags are as ready to be joined.
-pub fn ready_are_of_bags()
-    ensures { ReadyAreOfBags }
-{}
-
-/// Rows that lie where those of a relation do, in any order, are placed as these are.
-pub fn held_are_same()
-    ensures { HeldAreSame }
 {}

@@ -1,2 +1,4 @@
 -- The words of this crate, lowest first.
 pub mod Values
+pub mod Rewritten
+pub mod Scripts

@@ -1,0 +1,6 @@
+-- Proofs of the laws, lowest first.
+pub mod SourceLemmas
+pub mod MeantLemmas
+pub mod NeededLemmas
+pub mod TypeLemmas
+pub mod RewrittenLemmas
