@@ -3,6 +3,9 @@ pub mod TableLemmas
 pub mod MovedLemmas
 pub mod SendLemmas
 pub mod AlikeLemmas
+pub mod NoteLemmas
 pub mod TermLemmas
 pub mod PrefixLemmas
+pub mod TypedLemmas
 pub mod KeptLemmas
+pub mod PartLemmas

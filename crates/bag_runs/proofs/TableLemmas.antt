@@ -1,5 +1,5 @@
 -- Lists of bags, and what is made of bags whatever it is.
-use Rattle.std.proofs.Common.{◌≡◌, ℕ, zero, suc, ◌+◌, ◌==◌, Bool, true, false, cond, List, [], ◌∷◌, ◌++◌, map, length, refl, sym, ◌∙◌, ap, subst}
+use Rattle.std.proofs.Common.{◌≡◌, ℕ, zero, suc, ◌+◌, ◌==◌, List, [], ◌∷◌, ◌++◌, map, length, refl, sym, ap, subst}
 use Rattle.std.specs.Prelude.{IsPermutation, filter, slice_index_or, set, take}
 use Rattle.std.specs.List.{flat_map, range_with_len}
 use Rattle.std.proofs.lemmas.List.{append_assoc}
@@ -30,7 +30,8 @@ tables-trans _ _ _ (a_table rows others ts us h hs) (a_table _ more _ vs k ks) =
 
 pub tables-back : (ts us : List Rows) → SameTables ts us → SameTables us ts
 tables-back _ _ no_table = no_table
-tables-back _ _ (a_table rows others ts us h hs) = a_table others rows us ts (IsPermutation-sym rows others h) (tables-back ts us hs)
+tables-back _ _ (a_table rows others ts us h hs) =
+    a_table others rows us ts (IsPermutation-sym rows others h) (tables-back ts us hs)
 
 pub tables-long : (ts us : List Rows) → SameTables ts us → length ts ≡ length us
 tables-long _ _ no_table = refl
@@ -48,14 +49,17 @@ tables-at _ _ no_table w = IsPermutation-refl []
 tables-at _ _ (a_table rows others ts us h hs) zero = h
 tables-at _ _ (a_table rows others ts us h hs) (suc w) = tables-at ts us hs w
 
-pub tables-map : (f g : Rows → Rows) → ((a b : Rows) → SameBag a b → SameBag (f a) (g b)) → (ts us : List Rows) → SameTables ts us → SameTables (map f ts) (map g us)
+pub tables-map : (f g : Rows → Rows) → ((a b : Rows) → SameBag a b → SameBag (f a) (g b)) → (ts us : List Rows) → SameTables ts us
+    → SameTables (map f ts) (map g us)
 tables-map f g same _ _ no_table = no_table
-tables-map f g same _ _ (a_table rows others ts us h hs) = a_table (f rows) (g others) (map f ts) (map g us) (same rows others h) (tables-map f g same ts us hs)
+tables-map f g same _ _ (a_table rows others ts us h hs) =
+    a_table (f rows) (g others) (map f ts) (map g us) (same rows others h) (tables-map f g same ts us hs)
 
 pub tables-set : (ts us : List Rows) → SameTables ts us → (j : ℕ) (a b : Rows) → SameBag a b → SameTables (set ts j a) (set us j b)
 tables-set _ _ no_table j a b k = no_table
 tables-set _ _ (a_table rows others ts us h hs) zero a b k = a_table a b ts us k hs
-tables-set _ _ (a_table rows others ts us h hs) (suc j) a b k = a_table rows others (set ts j a) (set us j b) h (tables-set ts us hs j a b k)
+tables-set _ _ (a_table rows others ts us h hs) (suc j) a b k =
+    a_table rows others (set ts j a) (set us j b) h (tables-set ts us hs j a b k)
 
 pub tables-take : (i : ℕ) (ts us : List Rows) → SameTables ts us → SameTables (take i ts) (take i us)
 tables-take zero ts us h = no_table
@@ -63,15 +67,19 @@ tables-take (suc i) _ _ no_table = no_table
 tables-take (suc i) _ _ (a_table rows others ts us h hs) = a_table rows others (take i ts) (take i us) h (tables-take i ts us hs)
 
 -- lists for some workers, each made by its number
-pub tables-range : (f g : ℕ → Rows) → ((w : ℕ) → SameBag (f w) (g w)) → (a n : ℕ) → SameTables (map f (range_with_len a n)) (map g (range_with_len a n))
+pub tables-range : (f g : ℕ → Rows) → ((w : ℕ) → SameBag (f w) (g w)) → (a n : ℕ)
+    → SameTables (map f (range_with_len a n)) (map g (range_with_len a n))
 tables-range f g same a zero = no_table
 tables-range f g same a (suc n) =
-    a_table (f a) (g a) (map f (range_with_len (a + 1) n)) (map g (range_with_len (a + 1) n)) (same a) (tables-range f g same (a + 1) n)
+    a_table (f a) (g a) (map f (range_with_len (a + 1) n)) (map g (range_with_len (a + 1) n)) (same a)
+    (tables-range f g same (a + 1) n)
 
 -- the same rows, each at its home
-pub homes-same : (n : ℕ) (home : Row → ℕ) (xs ys : Rows) → SameBag xs ys → SameTables (parts_by_home n home xs) (parts_by_home n home ys)
+pub homes-same : (n : ℕ) (home : Row → ℕ) (xs ys : Rows) → SameBag xs ys
+    → SameTables (parts_by_home n home xs) (parts_by_home n home ys)
 homes-same n home xs ys h =
-    tables-range (λ w. filter (λ row. home row == w) xs) (λ w. filter (λ row. home row == w) ys) (λ w. filter_rows-same (λ row. home row == w) xs ys h) 0 n
+    tables-range (λ w. filter (λ row. home row == w) xs) (λ w. filter (λ row. home row == w) ys)
+    (λ w. filter_rows-same (λ row. home row == w) xs ys h) 0 n
 
 -- ---- what is made of rows, of any type
 
