@@ -4,3 +4,5 @@ pub mod MeantLemmas
 pub mod NeededLemmas
 pub mod TypeLemmas
 pub mod RewrittenLemmas
+pub mod ScriptLemmas
+pub mod BagLemmas

@@ -1,5 +1,5 @@
 -- What a loop over the steps of a rewritten script knows of each.
-use Rattle.std.proofs.Common.{◌≡◌, ℕ, zero, suc, ◌<◌, ◌≤◌, ◌==◌, Bool, true, false, cond, List, [], ◌∷◌, ◌++◌, map, length, drop, get_or, refl, sym, ◌∙◌, ap, subst, arith, Option, Some, ◌⊎◌, inl, inr}
+use Rattle.std.proofs.Common.{◌≡◌, ℕ, zero, suc, ◌<◌, ◌≤◌, ◌==◌, Bool, true, false, cond, List, [], ◌∷◌, ◌++◌, length, drop, get_or, refl, sym, ◌∙◌, ap, subst, arith, Some, inl, inr}
 use Rattle.std.specs.Prelude.{All, Contains, IsTrue, ⊤, find, take}
 use Rattle.std.proofs.lemmas.Bool.{eq-eqb, eqb-true}
 use Rattle.std.proofs.lemmas.List.Elements.{All-nil, All-cons, All-weaker, Contains-get_or}
@@ -10,9 +10,9 @@ use Rattle.algebra.specs.declared.terms.StoreStep.{StoreStep}
 use Rattle.algebra.specs.Trees.{TermTree, Same, Empty, UnionAll, Diff, Distinct, Join, Group, StepTree, CheckedTree}
 use Rattle.algebra.specs.Conditions.{is_of}
 use Rattle.algebra.specs.Meanings.{sources_of, is_used, needed_steps}
-use Rattle.algebra.specs.Rewriting.{IsSameTerm, IsSameStep, AreSameSteps, no_step, a_step, IsRewritten}
+use Rattle.algebra.specs.Rewriting.{IsSameTerm, IsSameStep, AreSameSteps, no_step, a_step}
 use Rattle.run_laws.specs.Values.{IsKnown}
-use Rattle.run_laws.specs.Rewritten.{needed, numbers_of, IsStepAt, StepsByPlace, NumbersRise, IsKept, RewrittenAreKept}
+use Rattle.run_laws.specs.Rewritten.{needed, numbers_of, StepsByPlace, NumbersRise, RewrittenAreKept}
 use Rattle.run_laws.proofs.SourceLemmas.{in_front, behind, first_or_behind, nothing_in_none}
 use Rattle.run_laws.proofs.MeantLemmas.{AreInOrder, checked-order}
 use Rattle.run_laws.proofs.NeededLemmas.{needed_are_over_needed, stores_are_over_needed}

@@ -55,7 +55,7 @@ same_type-equal kind.Str kind.Bool e = absurd (cc)
 same_type-equal kind.Bool kind.Int e = absurd (cc)
 same_type-equal kind.Bool kind.Str e = absurd (cc)
 
-same_type-itself : (t : ColType) → same_type t t ≡ true
+pub same_type-itself : (t : ColType) → same_type t t ≡ true
 same_type-itself kind.Int = refl
 same_type-itself kind.Str = refl
 same_type-itself kind.Bool = refl
@@ -80,7 +80,7 @@ types-of_row (column ∷ schema) (v ∷ row) e =
     let others = types-of_row schema row parts.1 in
     λ i. first i ∷ others i
 
-typed-fits : (schema : List Column) (row : Row) → map type_of row ≡ kinds_of_columns schema → fits_schema schema row ≡ true
+pub typed-fits : (schema : List Column) (row : Row) → map type_of row ≡ kinds_of_columns schema → fits_schema schema row ≡ true
 typed-fits [] [] e = refl
 typed-fits [] (v ∷ row) e = absurd (cc)
 typed-fits (column ∷ schema) [] e = absurd (cc)
@@ -379,7 +379,7 @@ group-kinds over (kind ∷ kinds) (f ∷ emits) (k ∷ columns) e h =
 -- ---- terms
 
 -- the rows of what is known have these types
-abbrev Knows : (Source → Option (List ColType)) → (Source → Rows) → Type 0
+abbrev pub Knows : (Source → Option (List ColType)) → (Source → Rows) → Type 0
 Knows known value = (o : Source) (own : List ColType) → known o ≡ Some own → AreOf own (value o)
 
 source-typed : (found : Option (List ColType)) (kinds : List ColType) (rows : Rows) → ((own : List ColType) → found ≡ Some own → AreOf own rows)
@@ -391,7 +391,7 @@ module _ (known : Source → Option (List ColType)) (value : Source → Rows) (k
   abbrev has_atom : Source → AtomTree → Bool
   has_atom s a = has_kinds (known s) a.kinds
 
-  one-source : (s : Source) (columns : List ColType) → has_kinds (known s) columns ≡ true → AreOf columns (value s)
+  pub one-source : (s : Source) (columns : List ColType) → has_kinds (known s) columns ≡ true → AreOf columns (value s)
   one-source s columns h = source-typed (known s) columns (value s) (knows s) h
 
   items-typed : (sources : List Source) (atoms : List AtomTree) → pointwise has_atom sources atoms ≡ true → AreOfAtoms atoms (map value sources)
@@ -402,7 +402,7 @@ module _ (known : Source → Option (List ColType)) (value : Source → Rows) (k
       let parts = both (has_atom s a) (pointwise has_atom sources atoms) h in
       (one-source s a.kinds parts.0, items-typed sources atoms parts.1)
 
-  term-typed : (t : TermTree) (columns : List ColType) → is_term known t columns ≡ true → AreOf columns (term_rows value t)
+  pub term-typed : (t : TermTree) (columns : List ColType) → is_term known t columns ≡ true → AreOf columns (term_rows value t)
   term-typed (Same s) columns h = one-source s columns h
   term-typed Empty columns h = All-nil (IsOf columns)
   term-typed (UnionAll s t) columns h =
@@ -447,14 +447,14 @@ module _ (p : Placing) (files : List File) where
       (All-head (λ (f : File). All (HasTypes f.1.schema) f.1.rows) f lent typed))
   file-typed (f ∷ lent) typed (suc place) own e = file-typed lent (All-tail (λ (f : File). All (HasTypes f.1.schema) f.1.rows) f lent typed) place own e
 
-  nothing-known : AreTyped files → Knows (source_kinds files []) (rows-by [])
+  pub nothing-known : AreTyped files → Knows (source_kinds files []) (rows-by [])
   nothing-known typed (source.File place) own e = file-typed files typed place own e
   nothing-known typed (source.Result number) own e = absurd (never own e)
     where
       never : (own : List ColType) → None ≡ Some own → ⊥
       never own e = cc
 
-  more-known : (results : List (ℕ × PlacedRelation)) (earlier : List StepTree) (s : StepTree) (made : PlacedRelation)
+  pub more-known : (results : List (ℕ × PlacedRelation)) (earlier : List StepTree) (s : StepTree) (made : PlacedRelation)
       → Knows (source_kinds files earlier) (rows-by results) → AreOf (kinds_of_columns s.schema) made.relation.rows
       → Knows (source_kinds files (s ∷ earlier)) (rows-by ((s.statement, made) ∷ results))
   more-known results earlier s made h k (source.File place) own e = h (source.File place) own e

@@ -12,7 +12,7 @@
 --   IsHeldOf n q parts              lists of rows that are those of a placed relation
 --   HeldAreMeant                    lists with the same bags at each worker as what a source stands for are such
 --   ReadyAreOfBags                  the order of rows changes nothing of what joins ask
-use Rattle.std.specs.Prelude.{◌≡◌, ⊤, ℕ, ◌<◌, ◌==◌, IsTrue, List, [], ◌∷◌, map, length, find, take, All, Option, Some, None, slice_index_or}
+use Rattle.std.specs.Prelude.{◌≡◌, ℕ, ◌<◌, ◌==◌, IsTrue, List, map, length, find, take, All, Some, None, slice_index_or}
 use Rattle.std.specs.List.{flat_map}
 use Rattle.rel_base.specs.declared.faults.RunFault.{RunFault}
 use Rattle.rel_base.specs.declared.names.Key.{Key}
@@ -20,14 +20,14 @@ use Rattle.rel_base.specs.declared.relations.Column.{Column}
 use Rattle.rel_base.specs.Bags.{SameBag}
 use Rattle.rel_base.specs.Keys.{File}
 use Rattle.rel_base.specs.Relations.{HasTypes}
-use Rattle.myrial_ast.specs.Combinations.{Row, Rows}
+use Rattle.myrial_ast.specs.Combinations.{Rows}
 use Rattle.myrial_ast.specs.CandidateFaults.{PrefixRule}
 use Rattle.bag_laws.specs.Permuted.{SameTables}
 use Rattle.algebra.specs.declared.settings.JoinKind.{JoinKind}
 use Rattle.algebra.specs.declared.terms.Source.{Source}
 use Rattle.algebra.specs.declared.terms.Source.TheVariants as source
 use Rattle.algebra.specs.declared.terms.StoreStep.{StoreStep}
-use Rattle.algebra.specs.Trees.{TermTree, Same, Empty, UnionAll, Diff, Distinct, Join, Group, StepTree, CheckedTree}
+use Rattle.algebra.specs.Trees.{TermTree, Join, Group, StepTree, CheckedTree}
 use Rattle.algebra.specs.Conditions.{is_of}
 use Rattle.algebra.specs.Meanings.{sources_of, stored_by, checked_fault}
 use Rattle.algebra.specs.Rewriting.{AreTables, AreTyped}
