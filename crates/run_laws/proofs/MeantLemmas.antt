@@ -52,10 +52,10 @@ in_order files last earlier (s ∷ rest) low h =
     let rises = ltb-true last s.statement parts.0 in (
       rises,
       All-weaker (IsKnown files earlier) (IsUpTo last) (known-low files last earlier low) (sources_of s.term)
-      (term-known files earlier s.term (kinds_of_columns s.schema) parts.1),
+          (term-known files earlier s.term (kinds_of_columns s.schema) parts.1),
       in_order files s.statement (s ∷ earlier) rest
-      (All-cons (λ (t : StepTree). t.statement ≤ s.statement) s earlier (omega arith)
-      (All-weaker (λ (t : StepTree). t.statement ≤ last) (λ (t : StepTree). t.statement ≤ s.statement) (λ t l. omega (arith, l, rises)) earlier low)) parts.2,
+          (All-cons (λ (t : StepTree). t.statement ≤ s.statement) s earlier (omega arith)
+          (All-weaker (λ (t : StepTree). t.statement ≤ last) (λ (t : StepTree). t.statement ≤ s.statement) (λ t l. omega (arith, l, rises)) earlier low)) parts.2,
     )
 
 pub checked-order : (files : List File) (c : CheckedTree) → IsTrue (is_of files c) → AreInOrder 0 c.steps
