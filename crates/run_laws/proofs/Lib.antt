@@ -6,3 +6,4 @@ pub mod TypeLemmas
 pub mod RewrittenLemmas
 pub mod ScriptLemmas
 pub mod BagLemmas
+pub mod NoteLemmas

@@ -12,6 +12,7 @@
 --   IsHeldOf n q parts              lists of rows that are those of a placed relation
 --   HeldAreMeant                    lists with the same bags at each worker as what a source stands for are such
 --   ReadyAreOfBags                  the order of rows changes nothing of what joins ask
+--   NotesAreOfBags                  nor of the lines of a plan
 use Rattle.std.specs.Prelude.{◌≡◌, ℕ, ◌<◌, ◌==◌, IsTrue, List, map, length, find, take, All, Some, None, slice_index_or}
 use Rattle.std.specs.List.{flat_map}
 use Rattle.rel_base.specs.declared.faults.RunFault.{RunFault}
@@ -24,6 +25,7 @@ use Rattle.myrial_ast.specs.Combinations.{Rows}
 use Rattle.myrial_ast.specs.CandidateFaults.{PrefixRule}
 use Rattle.bag_laws.specs.Permuted.{SameTables}
 use Rattle.algebra.specs.declared.settings.JoinKind.{JoinKind}
+use Rattle.algebra.specs.declared.settings.Settings.{Settings}
 use Rattle.algebra.specs.declared.terms.Source.{Source}
 use Rattle.algebra.specs.declared.terms.Source.TheVariants as source
 use Rattle.algebra.specs.declared.terms.StoreStep.{StoreStep}
@@ -33,7 +35,7 @@ use Rattle.algebra.specs.Meanings.{sources_of, stored_by, checked_fault}
 use Rattle.algebra.specs.Rewriting.{AreTables, AreTyped}
 use Rattle.placement.specs.Layouts.{PlacedRelation, Placing, rows_of, together, placed_file, placed_stores}
 use Rattle.placement.specs.Exchanges.{PlacedExchange, term_exchanges, exchanges_of}
-use Rattle.placement.specs.Plans.{step_notes, plan_of}
+use Rattle.placement.specs.Plans.{usual_placing, term_notes, step_notes, plan_of}
 use Rattle.placement.specs.Laws.{IsPlaced, IsPlacing, IsSamePlaced, HasReadyItems}
 use Rattle.run_laws.specs.Values.{meant, rows_meant, result_of, step_fault}
 use Rattle.run_laws.specs.Rewritten.{needed}
@@ -132,3 +134,10 @@ ReadyAreOfBags =
     → All (λ o. IsPlaced n (w o)) (sources_of t) → All (λ o. IsSamePlaced (v o) (w o)) (sources_of t)
     → HasReadyItems n v t → HasTypedSources schema v t
     → HasReadyItems n w t × HasTypedSources schema w t
+
+-- over other rows that are the same bags at each worker the lines of a plan are the same
+abbrev pub NotesAreOfBags : Type 0
+NotesAreOfBags =
+    (s : Settings) (local : JoinKind) (number : ℕ) (v w : Source → PlacedRelation) (t : TermTree)
+    → All (λ o. IsSamePlaced (v o) (w o)) (sources_of t)
+    → term_notes (usual_placing s) local number v t ≡ term_notes (usual_placing s) local number w t

@@ -9,8 +9,8 @@ mod values;
 
 pub use rewritten::{numbers_rise, rewritten_are_kept, steps_by_place};
 pub use scripts::{
-    faults_are_first, files_are_meant, held_are_meant, needed_are_meant, ready_are_of_bags,
-    results_are_found, scripts_are_of_steps,
+    faults_are_first, files_are_meant, held_are_meant, needed_are_meant, notes_are_of_bags,
+    ready_are_of_bags, results_are_found, scripts_are_of_steps,
 };
 pub use values::{
     faults_are_of_steps, meant_are_placed, needed_are_over_needed, steps_are_meant,
