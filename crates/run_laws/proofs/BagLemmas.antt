@@ -41,7 +41,7 @@ module _ {X : Type 0} (P : X → Type 0) where
       let rest = all-apart xs ys (All-tail P x (xs ++ ys) h) in
       (All-cons P x xs (All-head P x (xs ++ ys) h) rest.0, rest.1)
 
-each-of : (P : Row → Type 0) (parts : List Rows) → All P (together parts) → All (All P) parts
+pub each-of : (P : Row → Type 0) (parts : List Rows) → All P (together parts) → All (All P) parts
 each-of P [] h = All-nil (All P)
 each-of P (rows ∷ parts) h =
     let split = all-apart P rows (together parts) h in

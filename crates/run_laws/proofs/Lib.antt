@@ -7,3 +7,5 @@ pub mod RewrittenLemmas
 pub mod ScriptLemmas
 pub mod BagLemmas
 pub mod NoteLemmas
+pub mod FoundLemmas
+pub mod HeldLemmas
