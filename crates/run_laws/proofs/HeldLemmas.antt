@@ -10,6 +10,7 @@ use Rattle.rel_base.specs.Keys.{File}
 use Rattle.rel_base.specs.Relations.{HasTypes, same_type, type_of}
 use Rattle.myrial_ast.specs.Combinations.{Row, Rows}
 use Rattle.bag_laws.specs.Permuted.{SameTables, no_table, a_table}
+use Rattle.algebra.specs.declared.notes.PlanNote.TheVariants as note
 use Rattle.algebra.specs.declared.terms.Source.{Source}
 use Rattle.algebra.specs.declared.terms.Source.TheVariants as source
 use Rattle.algebra.specs.Trees.{TermTree, Same, Empty, UnionAll, Diff, Distinct, Join, Group, StepTree, CheckedTree}
@@ -18,16 +19,19 @@ use Rattle.algebra.specs.Meanings.{sources_of}
 use Rattle.algebra.specs.Rewriting.{AreTyped}
 use Rattle.placement.specs.Layouts.{PlacedRelation, Placing, together, placed_file}
 use Rattle.placement.specs.Laws.{IsPlaced, IsPlacing, IsSamePlaced}
+use Rattle.placement.specs.Plans.{usual_placing, plan_kind}
+use Rattle.placement.proofs.UsualLemmas.{usual_is_placing}
 use Rattle.placement.proofs.WidthLemmas.{pointwise-length}
 use Rattle.run_laws.specs.Values.{IsKnown, meant}
 use Rattle.run_laws.specs.Rewritten.{needed}
 use Rattle.run_laws.specs.Scripts.{AreRowsOf, HasTypedSources, IsHeldOf, IsMeantStep}
-use Rattle.run_laws.specs.Held.{held_at, AreDealt, IsHeldStep, HasWideParts, IsReadyStep, StepsAreReady}
+use Rattle.run_laws.specs.Held.{held_at, AreDealt, IsHeldStep, HasWideParts, IsReadyStep, StepsAreReady, ResultsAreHeld}
 use Rattle.run_laws.proofs.NeededLemmas.{needed_are_over_needed}
 use Rattle.run_laws.proofs.RewrittenLemmas.{split-at}
 use Rattle.run_laws.proofs.ScriptLemmas.{files_are_meant, needed_are_meant}
 use Rattle.run_laws.proofs.BagLemmas.{each-of, held_are_meant, ready_are_of_bags}
 use Rattle.run_laws.proofs.FoundLemmas.{known-each}
+use Rattle.run_laws.proofs.NoteLemmas.{notes_are_of_bags}
 
 SameTables-refl : (ts : List Rows) → SameTables ts ts
 SameTables-refl [] = no_table
@@ -93,3 +97,19 @@ steps_are_ready p files c good of_files typed parts dealt i a l held =
     (known-each (λ o. SameTables (meant p files c o).parts (parts o)) files (file-held p files c good of_files typed parts dealt) (take i (needed c)) held)
     (sources_of s.term)
     (needed_are_over_needed files c of_files (take i (needed c)) s (drop (suc i) (needed c)) (split-at (needed c) i a l)))
+
+pub results_are_held : ResultsAreHeld
+results_are_held s files c some of_files typed parts i a l same made are =
+    let x = get_or (needed c) i a in
+    let p = usual_placing s in
+    let good = usual_is_placing s some in
+    let step = needed_are_meant p files c good of_files typed i a l in
+    let rows : SameTables (meant p files c (source.Result x.statement)).parts made =
+    subst (λ (q : PlacedRelation). SameTables q.parts made) (sym step.result) are in
+    let count = (held_are_meant p files c good of_files typed (source.Result x.statement) made rows).count in
+    record {
+      rows = rows;
+      lines = λ local.
+          (λ t. note.Statement x.statement (plan_kind x.term) (sym count t)
+          ∷ notes_are_of_bags s local x.statement (meant p files c) (held_at parts) x.term same t);
+    }

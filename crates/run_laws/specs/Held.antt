@@ -6,17 +6,24 @@
 --   HasWideParts width parts t      the rows of a term's operands are so wide
 --   IsReadyStep p files c parts s   the rows that a step's sources stand for are as it asks
 --   StepsAreReady                   where the steps before a needed one are held, it is ready
-use Rattle.std.specs.Prelude.{◌≡◌, ⊤, ℕ, ◌<◌, IsTrue, List, [], length, take, All, slice_index_or}
+--   IsHeldResult s files c parts x made
+--                                   the result of a step that ran over what is held, and its lines of the plan
+--   ResultsAreHeld                  what a needed step comes to over what is held is such a result
+use Rattle.std.specs.Prelude.{◌≡◌, ⊤, ℕ, ◌<◌, ◌≤◌, IsTrue, List, [], ◌∷◌, length, take, All, slice_index_or}
 use Rattle.rel_base.specs.Keys.{File}
 use Rattle.myrial_ast.specs.Combinations.{Row, Rows}
 use Rattle.bag_laws.specs.Permuted.{SameTables}
+use Rattle.algebra.specs.declared.notes.PlanNote.TheVariants as note
+use Rattle.algebra.specs.declared.settings.JoinKind.{JoinKind}
+use Rattle.algebra.specs.declared.settings.Settings.{Settings}
 use Rattle.algebra.specs.declared.terms.Source.{Source}
 use Rattle.algebra.specs.declared.terms.Source.TheVariants as source
 use Rattle.algebra.specs.Trees.{TermTree, Join, Group, StepTree, CheckedTree}
 use Rattle.algebra.specs.Conditions.{is_of}
 use Rattle.algebra.specs.Meanings.{sources_of}
 use Rattle.algebra.specs.Rewriting.{AreTyped}
-use Rattle.placement.specs.Layouts.{PlacedRelation, Placing, together, placed_file}
+use Rattle.placement.specs.Layouts.{PlacedRelation, Placing, together, term_parts, placed_file}
+use Rattle.placement.specs.Plans.{usual_placing, plan_kind, term_notes, step_notes}
 use Rattle.placement.specs.Laws.{IsPlaced, IsPlacing, IsSamePlaced, HasReadyItems}
 use Rattle.run_laws.specs.Values.{meant}
 use Rattle.run_laws.specs.Rewritten.{needed}
@@ -59,3 +66,23 @@ StepsAreReady =
     → (parts : Source → List Rows) → AreDealt p files parts
     → (i : ℕ) (a : StepTree) → i < length (needed c) → All (IsHeldStep p files c parts) (take i (needed c))
     → IsReadyStep p files c parts (slice_index_or (needed c) i a)
+
+-- the bags that the result of a step means, and the lines of the plan for it: its own, with the number of these rows, and those
+-- below it, by what is held
+pub record IsHeldResult (s : Settings) (files : List File) (c : CheckedTree) (parts : Source → List Rows) (x : StepTree)
+    (made : List Rows) : Type 0 where
+  pub rows : SameTables (meant (usual_placing s) files c (source.Result x.statement)).parts made
+  pub lines : (local : JoinKind) → step_notes (usual_placing s) local (meant (usual_placing s) files c) x
+      ≡ note.Statement x.statement (plan_kind x.term) (length (together made))
+      ∷ term_notes (usual_placing s) local x.statement (held_at parts) x.term
+
+-- where the sources of a needed step are held, the bags of its term over what they mean are such a result
+abbrev pub ResultsAreHeld : Type 0
+ResultsAreHeld =
+    (s : Settings) (files : List File) (c : CheckedTree) → 1 ≤ s.workers → IsTrue (is_of files c) → AreTyped files
+    → (parts : Source → List Rows) (i : ℕ) (a : StepTree) → i < length (needed c)
+    → let x = slice_index_or (needed c) i a in
+    let value = meant (usual_placing s) files c in
+    All (λ o. IsSamePlaced (value o) (held_at parts o)) (sources_of x.term)
+    → (made : List Rows) → SameTables (term_parts (usual_placing s) x.statement value x.term) made
+    → IsHeldResult s files c parts x made

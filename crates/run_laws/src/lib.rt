@@ -8,7 +8,7 @@ mod rewritten;
 mod scripts;
 mod values;
 
-pub use held::steps_are_ready;
+pub use held::{results_are_held, steps_are_ready};
 pub use rewritten::{numbers_rise, rewritten_are_kept, steps_by_place};
 pub use scripts::{
     faults_are_first, files_are_meant, held_are_meant, needed_are_meant, notes_are_of_bags,
