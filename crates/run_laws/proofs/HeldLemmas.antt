@@ -1,11 +1,9 @@
 -- A needed step is ready once those before it are held.
-use Rattle.std.proofs.Common.{◌≡◌, ℕ, suc, ◌<◌, List, [], ◌∷◌, length, drop, get_or, refl, sym, ◌∙◌, ap, subst, arith}
-use Rattle.std.specs.Prelude.{All, IsTrue, ⊤, take}
-use Rattle.std.specs.Cmp.Lexicographic.{pointwise}
+use Rattle.std.proofs.Common.{◌≡◌, ℕ, suc, ◌<◌, List, [], ◌∷◌, length, drop, get_or, refl, sym, subst, arith}
+use Rattle.std.specs.Prelude.{All, IsTrue, take}
 use Rattle.std.proofs.lemmas.List.Elements.{All-weaker}
 use Rattle.std.proofs.lemmas.List.Sorted.{IsPermutation-refl}
 use Rattle.rel_base.specs.declared.relations.Column.{Column}
-use Rattle.rel_base.specs.declared.values.Value.{Value}
 use Rattle.rel_base.specs.Keys.{File}
 use Rattle.rel_base.specs.Relations.{HasTypes, same_type, type_of}
 use Rattle.myrial_ast.specs.Combinations.{Row, Rows}
@@ -24,8 +22,8 @@ use Rattle.placement.proofs.UsualLemmas.{usual_is_placing}
 use Rattle.placement.proofs.WidthLemmas.{pointwise-length}
 use Rattle.run_laws.specs.Values.{IsKnown, meant}
 use Rattle.run_laws.specs.Rewritten.{needed}
-use Rattle.run_laws.specs.Scripts.{AreRowsOf, HasTypedSources, IsHeldOf, IsMeantStep}
-use Rattle.run_laws.specs.Held.{held_at, AreDealt, IsHeldStep, HasWideParts, IsReadyStep, StepsAreReady, ResultsAreHeld}
+use Rattle.run_laws.specs.Scripts.{AreRowsOf, HasTypedSources, IsMeantStep}
+use Rattle.run_laws.specs.Held.{held_at, AreDealt, HasWideParts, IsReadyStep, StepsAreReady, ResultsAreHeld}
 use Rattle.run_laws.proofs.NeededLemmas.{needed_are_over_needed}
 use Rattle.run_laws.proofs.RewrittenLemmas.{split-at}
 use Rattle.run_laws.proofs.ScriptLemmas.{files_are_meant, needed_are_meant}

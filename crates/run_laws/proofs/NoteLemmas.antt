@@ -22,7 +22,7 @@ use Rattle.algebra.specs.Shapes.{widths_of, tests_of, ties_of, kept_of}
 use Rattle.algebra.specs.Meanings.{sources_of}
 use Rattle.placement.specs.Layouts.{PlacedRelation, Shuffle, ByCells, ByKeys, Broadcast, rows_of, is_most, staying_atom}
 use Rattle.placement.specs.Laws.{IsSamePlaced}
-use Rattle.placement.specs.Plans.{uses_of, pushed_of, kept_sizes, usual_shuffle, usual_placing, item_notes, variable_notes, shuffle_note, join_notes, group_note, term_notes}
+use Rattle.placement.specs.Plans.{uses_of, pushed_of, usual_shuffle, usual_placing, item_notes, variable_notes, shuffle_note, join_notes, group_note, term_notes}
 use Rattle.run_laws.specs.Scripts.{NotesAreOfBags}
 
 module _ (shape : Shape) where
