@@ -51,38 +51,45 @@ pub held_are_meant : HeldAreMeant
 held_are_meant p files c good of_files typed o parts same =
     let q = meant p files c o in
     let placed = found-IsPlaced p files (placed_steps p files c.steps) good (steps-IsPlaced p files c good of_files typed) o in
-    let rows = IsPermutation-trans q.relation.rows (together q.parts) (together parts) placed.all_rows (together-same q.parts parts same) in
+    let rows = IsPermutation-trans q.relation.rows (together q.parts) (together parts) placed.all_rows
+    (together-same q.parts parts same) in
     record {
       each_worker = tables-long q.parts parts same ∙ placed.each_worker;
       rows = rows;
       count = length_permutation q.relation.rows (together parts) rows;
       typed =
           each-of (HasTypes q.relation.schema) parts
-          (All-permutation (HasTypes q.relation.schema) q.relation.rows (together parts) rows (meant-typed p files c of_files typed o));
+          (All-permutation (HasTypes q.relation.schema) q.relation.rows (together parts) rows
+          (meant-typed p files c of_files typed o));
     }
 
 -- ---- sources
 
 module _ (v w : Source → PlacedRelation) where
-  wide-same : (widths : List ℕ) (sources : List Source) → All (λ o. IsSamePlaced (v o) (w o)) sources → AreWide widths (rows_of (map v sources)) → AreWide widths (rows_of (map w sources))
+  wide-same : (widths : List ℕ) (sources : List Source) → All (λ o. IsSamePlaced (v o) (w o)) sources
+      → AreWide widths (rows_of (map v sources)) → AreWide widths (rows_of (map w sources))
   wide-same [] [] same h = tt
   wide-same [] (o ∷ sources) same h = absurd h
   wide-same (width ∷ widths) [] same h = absurd h
   wide-same (width ∷ widths) (o ∷ sources) same h = (
-    All-permutation (λ (row : Row). length row ≡ width) (v o).relation.rows (w o).relation.rows (All-head (λ o. IsSamePlaced (v o) (w o)) o sources same).rows h.0,
+    All-permutation (λ (row : Row). length row ≡ width) (v o).relation.rows (w o).relation.rows
+        (All-head (λ o. IsSamePlaced (v o) (w o)) o sources same).rows h.0,
     wide-same widths sources (All-tail (λ o. IsSamePlaced (v o) (w o)) o sources same) h.1,
   )
 
-  tables-same : (atoms : List AtomTree) (sources : List Source) → All (λ o. IsSamePlaced (v o) (w o)) sources → AreTables atoms (rows_of (map v sources)) → AreTables atoms (rows_of (map w sources))
+  tables-same : (atoms : List AtomTree) (sources : List Source) → All (λ o. IsSamePlaced (v o) (w o)) sources
+      → AreTables atoms (rows_of (map v sources)) → AreTables atoms (rows_of (map w sources))
   tables-same [] [] same h = tt
   tables-same [] (o ∷ sources) same h = absurd h
   tables-same (a ∷ atoms) [] same h = absurd h
   tables-same (a ∷ atoms) (o ∷ sources) same h = (
-    All-permutation (λ row. IsTrue (pointwise (λ k v. same_type k (type_of v)) a.kinds row)) (v o).relation.rows (w o).relation.rows (All-head (λ o. IsSamePlaced (v o) (w o)) o sources same).rows h.0,
+    All-permutation (λ row. IsTrue (pointwise (λ k v. same_type k (type_of v)) a.kinds row)) (v o).relation.rows
+        (w o).relation.rows (All-head (λ o. IsSamePlaced (v o) (w o)) o sources same).rows h.0,
     tables-same atoms sources (All-tail (λ o. IsSamePlaced (v o) (w o)) o sources same) h.1,
   )
 
-  join-ready : (n : ℕ) (shape : Shape) (sources : List Source) → All (λ o. IsPlaced n (w o)) sources → All (λ o. IsSamePlaced (v o) (w o)) sources
+  join-ready : (n : ℕ) (shape : Shape) (sources : List Source) → All (λ o. IsPlaced n (w o)) sources
+      → All (λ o. IsSamePlaced (v o) (w o)) sources
       → IsReady n shape (map v sources) → IsReady n shape (map w sources)
   join-ready n shape sources placed same h = record {
     some_atom = h.some_atom;
@@ -92,7 +99,8 @@ module _ (v w : Source → PlacedRelation) where
     columns = h.columns;
   }
 
-  ready-same : (n : ℕ) (t : TermTree) → All (λ o. IsPlaced n (w o)) (sources_of t) → All (λ o. IsSamePlaced (v o) (w o)) (sources_of t)
+  ready-same : (n : ℕ) (t : TermTree) → All (λ o. IsPlaced n (w o)) (sources_of t)
+      → All (λ o. IsSamePlaced (v o) (w o)) (sources_of t)
       → HasReadyItems n v t → HasReadyItems n w t
   ready-same n (Same s) placed same h = tt
   ready-same n Empty placed same h = tt
@@ -103,11 +111,14 @@ module _ (v w : Source → PlacedRelation) where
   ready-same n (Group shape sources kinds) placed same h = (join-ready n shape sources placed same h.0, h.1)
 
   module _ (schema : List Column) where
-    rows-same : (sources : List Source) → All (λ o. IsSamePlaced (v o) (w o)) sources → All (AreRowsOf schema v) sources → All (AreRowsOf schema w) sources
+    rows-same : (sources : List Source) → All (λ o. IsSamePlaced (v o) (w o)) sources → All (AreRowsOf schema v) sources
+        → All (AreRowsOf schema w) sources
     rows-same sources same h =
-        λ k d l. All-permutation (HasTypes schema) (v (get_or sources k d)).relation.rows (w (get_or sources k d)).relation.rows (same k d l).rows (h k d l)
+        λ k d l. All-permutation (HasTypes schema) (v (get_or sources k d)).relation.rows (w (get_or sources k d)).relation.rows
+        (same k d l).rows (h k d l)
 
-    typed-same : (t : TermTree) → All (λ o. IsSamePlaced (v o) (w o)) (sources_of t) → HasTypedSources schema v t → HasTypedSources schema w t
+    typed-same : (t : TermTree) → All (λ o. IsSamePlaced (v o) (w o)) (sources_of t) → HasTypedSources schema v t
+        → HasTypedSources schema w t
     typed-same (Same s) same h = rows-same (s ∷ []) same h
     typed-same Empty same h = rows-same [] same h
     typed-same (UnionAll s t) same h = rows-same (s ∷ t ∷ []) same h
@@ -117,4 +128,5 @@ module _ (v w : Source → PlacedRelation) where
     typed-same (Group shape sources kinds) same h = tables-same shape.atoms sources same h
 
 pub ready_are_of_bags : ReadyAreOfBags
-ready_are_of_bags n schema v w t placed same ready typed = (ready-same v w n t placed same ready, typed-same v w schema t same typed)
+ready_are_of_bags n schema v w t placed same ready typed =
+    (ready-same v w n t placed same ready, typed-same v w schema t same typed)

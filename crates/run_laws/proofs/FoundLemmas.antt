@@ -13,11 +13,13 @@ use Rattle.run_laws.proofs.SourceLemmas.{first_or_behind, nothing_in_none}
 
 -- whatever holds of files and of the results of steps holds of what is known
 pub known-each : (P : Source → Type 0) (files : List File) → ((place : ℕ) → place < length files → P (source.File place))
-    → (steps : List StepTree) → All (λ (s : StepTree). P (source.Result s.statement)) steps → (o : Source) → IsKnown files steps o → P o
+    → (steps : List StepTree) → All (λ (s : StepTree). P (source.Result s.statement)) steps → (o : Source) → IsKnown files steps o
+    → P o
 known-each P files lent steps all (source.File place) h = lent place h
 known-each P files lent steps all (source.Result number) h = each steps all h
   where
-    each : (steps : List StepTree) → All (λ (s : StepTree). P (source.Result s.statement)) steps → Contains (numbers_of steps) number → P (source.Result number)
+    each : (steps : List StepTree) → All (λ (s : StepTree). P (source.Result s.statement)) steps
+        → Contains (numbers_of steps) number → P (source.Result number)
     each [] all h = absurd (nothing_in_none number h)
     each (s ∷ steps) all h = elim (first_or_behind s.statement (numbers_of steps) number h) [
       | inl same ↦ subst (λ n. P (source.Result n)) same (All-head (λ (s : StepTree). P (source.Result s.statement)) s steps all)
@@ -51,7 +53,8 @@ module _ {X : Type 0} where
   found-kept [] more number h = absurd (nothing_in_none number h)
   found-kept (r ∷ results) more number h = by (r.0 == number) refl (found-kept results more number)
     where
-      by : (b : Bool) → (r.0 == number) ≡ b → (Contains (numbers results) number → found-at (results ++ more) number ≡ found-at results number)
+      by : (b : Bool) → (r.0 == number) ≡ b → (Contains (numbers results) number → found-at (results ++ more) number
+          ≡ found-at results number)
           → cond b (Some r) (found-at (results ++ more) number) ≡ cond b (Some r) (found-at results number)
       by true e rest = refl
       by false e rest = elim (first_or_behind r.0 (numbers results) number h) [

@@ -43,7 +43,8 @@ module _ (schema : List Column) (parts : Source → List Rows) where
   abbrev IsWide : Row → Type 0
   IsWide row = length row ≡ length schema
 
-  each-wide : (sources : List Source) → All (AreRowsOf schema (held_at parts)) sources → All (λ o. All (All IsWide) (parts o)) sources
+  each-wide : (sources : List Source) → All (AreRowsOf schema (held_at parts)) sources
+      → All (λ o. All (All IsWide) (parts o)) sources
   each-wide sources h =
       All-weaker (AreRowsOf schema (held_at parts)) (λ o. All (All IsWide) (parts o))
       (λ o k. each-of IsWide (parts o) (All-weaker (HasTypes schema) IsWide (types-long schema) (together (parts o)) k)) sources h
@@ -57,7 +58,8 @@ module _ (schema : List Column) (parts : Source → List Rows) where
   term-wide (Join shape sources) h = tt
   term-wide (Group shape sources kinds) h = tt
 
-module _ (p : Placing) (files : List File) (c : CheckedTree) (good : IsPlacing p) (of_files : IsTrue (is_of files c)) (typed : AreTyped files)
+module _ (p : Placing) (files : List File) (c : CheckedTree) (good : IsPlacing p) (of_files : IsTrue (is_of files c))
+    (typed : AreTyped files)
     (parts : Source → List Rows) where
   abbrev IsHeldSource : Source → Type 0
   IsHeldSource o = SameTables (meant p files c o).parts (parts o)
@@ -69,7 +71,8 @@ module _ (p : Placing) (files : List File) (c : CheckedTree) (good : IsPlacing p
       by [] e k = absurd (omega (arith, k))
       by (f ∷ lent) e k =
           subst (λ (q : PlacedRelation). SameTables q.parts (parts (source.File place))) (sym (files_are_meant p files c place f l))
-          (subst (λ ts. SameTables (placed_file p.workers (get_or files place f).1).parts ts) (sym (dealt place f l)) (SameTables-refl (placed_file p.workers (get_or files place f).1).parts))
+          (subst (λ ts. SameTables (placed_file p.workers (get_or files place f).1).parts ts) (sym (dealt place f l))
+          (SameTables-refl (placed_file p.workers (get_or files place f).1).parts))
 
   same-source : (o : Source) → IsHeldSource o → IsSamePlaced (meant p files c o) (held_at parts o)
   same-source o h = record { rows = (held_are_meant p files c good of_files typed o (parts o) h).rows; parts = h }
@@ -82,7 +85,8 @@ module _ (p : Placing) (files : List File) (c : CheckedTree) (good : IsPlacing p
 
   ready-step : (s : StepTree) → IsMeantStep p files c s → All IsHeldSource (sources_of s.term) → IsReadyStep p files c parts s
   ready-step s step held =
-      let same = All-weaker IsHeldSource (λ o. IsSamePlaced (meant p files c o) (held_at parts o)) same-source (sources_of s.term) held in
+      let same = All-weaker IsHeldSource (λ o. IsSamePlaced (meant p files c o) (held_at parts o)) same-source
+      (sources_of s.term) held in
       let placed = All-weaker IsHeldSource (λ o. IsPlaced p.workers (held_at parts o)) placed-source (sources_of s.term) held in
       let both = ready_are_of_bags p.workers s.schema (meant p files c) (held_at parts) s.term placed same step.ready step.typed in
       record { same = same; placed = placed; ready = both.0; typed = both.1; wide = term-wide s.schema parts s.term both.1 }
@@ -92,7 +96,8 @@ steps_are_ready p files c good of_files typed parts dealt i a l held =
     let s = get_or (needed c) i a in
     ready-step p files c good of_files typed parts s (needed_are_meant p files c good of_files typed i a l)
     (All-weaker (IsKnown files (take i (needed c))) (λ o. SameTables (meant p files c o).parts (parts o))
-    (known-each (λ o. SameTables (meant p files c o).parts (parts o)) files (file-held p files c good of_files typed parts dealt) (take i (needed c)) held)
+    (known-each (λ o. SameTables (meant p files c o).parts (parts o)) files (file-held p files c good of_files typed parts dealt)
+    (take i (needed c)) held)
     (sources_of s.term)
     (needed_are_over_needed files c of_files (take i (needed c)) s (drop (suc i) (needed c)) (split-at (needed c) i a l)))
 

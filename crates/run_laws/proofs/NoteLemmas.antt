@@ -26,14 +26,16 @@ use Rattle.placement.specs.Plans.{uses_of, pushed_of, usual_shuffle, usual_placi
 use Rattle.run_laws.specs.Scripts.{NotesAreOfBags}
 
 module _ (shape : Shape) where
-  kept-many : (i : ℕ) (rows others : Rows) → SameTables (rows ∷ []) (others ∷ []) → length (kept_of shape i rows) ≡ length (kept_of shape i others)
+  kept-many : (i : ℕ) (rows others : Rows) → SameTables (rows ∷ []) (others ∷ []) → length (kept_of shape i rows)
+      ≡ length (kept_of shape i others)
   kept-many i _ _ (a_table rows others tables rest h hs) =
       let span = span_of_item (widths_of shape) i in
       let passes : Row → Bool = λ row. passes_within (tests_of shape) (ties_of shape) span (put_at span.from row) in
       sym (length_permutation (kept_of shape i rows) (kept_of shape i others) (filter_rows-same passes rows others h))
 
   sizes-same : (i : ℕ) (ts us : List Rows) → SameTables ts us
-      → map (λ (e : ℕ × Rows). length (kept_of shape e.0 e.1)) (enumerate_from i ts) ≡ map (λ (e : ℕ × Rows). length (kept_of shape e.0 e.1)) (enumerate_from i us)
+      → map (λ (e : ℕ × Rows). length (kept_of shape e.0 e.1)) (enumerate_from i ts)
+      ≡ map (λ (e : ℕ × Rows). length (kept_of shape e.0 e.1)) (enumerate_from i us)
   sizes-same i _ _ no_table = refl
   sizes-same i _ _ (a_table rows others tables rest h hs) =
       let here = kept-many i rows others (a_table rows others [] [] h no_table) in
@@ -41,8 +43,10 @@ module _ (shape : Shape) where
       λ t. here t ∷ later t
 
   notes-same : (i : ℕ) (ts us : List Rows) → SameTables ts us
-      → map (λ (e : ℕ × Rows). note.Item (suc e.0) (length e.1) (pushed_of shape e.0) (length (kept_of shape e.0 e.1))) (enumerate_from i ts)
-      ≡ map (λ (e : ℕ × Rows). note.Item (suc e.0) (length e.1) (pushed_of shape e.0) (length (kept_of shape e.0 e.1))) (enumerate_from i us)
+      → map (λ (e : ℕ × Rows). note.Item (suc e.0) (length e.1) (pushed_of shape e.0) (length (kept_of shape e.0 e.1)))
+      (enumerate_from i ts)
+      ≡ map (λ (e : ℕ × Rows). note.Item (suc e.0) (length e.1) (pushed_of shape e.0) (length (kept_of shape e.0 e.1)))
+      (enumerate_from i us)
   notes-same i _ _ no_table = refl
   notes-same i _ _ (a_table rows others tables rest h hs) =
       let here = kept-many i rows others (a_table rows others [] [] h no_table) in
@@ -60,24 +64,29 @@ module _ (shape : Shape) where
       let long = long-same ts us h in
       λ t. unwrap_or (find (is_most (sizes t)) (range_with_len 0 (long t))) 0
 
-  shuffle-same : (kind : ShuffleKind) (n : ℕ) (ts us : List Rows) → SameTables ts us → usual_shuffle kind n shape ts ≡ usual_shuffle kind n shape us
+  shuffle-same : (kind : ShuffleKind) (n : ℕ) (ts us : List Rows) → SameTables ts us → usual_shuffle kind n shape ts
+      ≡ usual_shuffle kind n shape us
   shuffle-same shuffle_kind.Hc n ts us h =
       ap (λ sizes. ByCells (best_shares (uses_of shape) sizes (length shape.variables) n)) (sizes-same 0 ts us h)
   shuffle-same shuffle_kind.Rs n ts us h = refl
   shuffle-same shuffle_kind.Br n ts us h = refl
 
-  note-same : (shuffle : Shuffle) (local : JoinKind) (ts us : List Rows) → SameTables ts us → shuffle_note shuffle local shape ts ≡ shuffle_note shuffle local shape us
+  note-same : (shuffle : Shuffle) (local : JoinKind) (ts us : List Rows) → SameTables ts us → shuffle_note shuffle local shape ts
+      ≡ shuffle_note shuffle local shape us
   note-same (ByCells shares) local ts us h =
-      ap (λ sizes. note.Hc local (product shares) (load_of (uses_of shape) sizes shares).num (load_of (uses_of shape) sizes shares).den) (sizes-same 0 ts us h)
+      ap (λ sizes. note.Hc local (product shares) (load_of (uses_of shape) sizes shares).num
+      (load_of (uses_of shape) sizes shares).den) (sizes-same 0 ts us h)
   note-same ByKeys local ts us h = refl
   note-same Broadcast local ts us h = ap (λ j. note.Br local (suc j)) (stays-same ts us h)
 
   -- the lines of a join of several items
   several : (kind : ShuffleKind) (n : ℕ) (local : JoinKind) → List Rows → List PlanNote
   several kind n local ts =
-      item_notes shape ts ++ variable_notes (usual_shuffle kind n shape ts) shape ++ shuffle_note (usual_shuffle kind n shape ts) local shape ts ∷ []
+      item_notes shape ts ++ variable_notes (usual_shuffle kind n shape ts) shape ++ shuffle_note
+      (usual_shuffle kind n shape ts) local shape ts ∷ []
 
-  several-same : (kind : ShuffleKind) (n : ℕ) (local : JoinKind) (ts us : List Rows) → SameTables ts us → several kind n local ts ≡ several kind n local us
+  several-same : (kind : ShuffleKind) (n : ℕ) (local : JoinKind) (ts us : List Rows) → SameTables ts us → several kind n local ts
+      ≡ several kind n local us
   unfolding several
   several-same kind n local ts us h =
       let items = notes-same 0 ts us h in
@@ -86,19 +95,23 @@ module _ (shape : Shape) where
       λ t. items t ++ variable_notes (how t) shape ++ own t ∷ []
 
 module _ (s : Settings) (local : JoinKind) (number : ℕ) (v w : Source → PlacedRelation) where
-  tables-of : (sources : List Source) → All (λ o. IsSamePlaced (v o) (w o)) sources → SameTables (rows_of (map v sources)) (rows_of (map w sources))
+  tables-of : (sources : List Source) → All (λ o. IsSamePlaced (v o) (w o)) sources
+      → SameTables (rows_of (map v sources)) (rows_of (map w sources))
   tables-of [] same = no_table
   tables-of (o ∷ sources) same =
       a_table (v o).relation.rows (w o).relation.rows (rows_of (map v sources)) (rows_of (map w sources))
-      (All-head (λ o. IsSamePlaced (v o) (w o)) o sources same).rows (tables-of sources (All-tail (λ o. IsSamePlaced (v o) (w o)) o sources same))
+      (All-head (λ o. IsSamePlaced (v o) (w o)) o sources same).rows
+      (tables-of sources (All-tail (λ o. IsSamePlaced (v o) (w o)) o sources same))
 
   join-same : (shape : Shape) (sources : List Source) → All (λ o. IsSamePlaced (v o) (w o)) sources
-      → join_notes (usual_placing s) local number shape (map v sources) ≡ join_notes (usual_placing s) local number shape (map w sources)
+      → join_notes (usual_placing s) local number shape (map v sources)
+      ≡ join_notes (usual_placing s) local number shape (map w sources)
   unfolding several
   join-same shape [] same = refl
   join-same shape (o ∷ []) same = notes-same shape 0 (rows_of (map v (o ∷ []))) (rows_of (map w (o ∷ []))) (tables-of (o ∷ []) same)
   join-same shape (o ∷ q ∷ more) same =
-      several-same shape s.shuffle s.workers local (rows_of (map v (o ∷ q ∷ more))) (rows_of (map w (o ∷ q ∷ more))) (tables-of (o ∷ q ∷ more) same)
+      several-same shape s.shuffle s.workers local (rows_of (map v (o ∷ q ∷ more))) (rows_of (map w (o ∷ q ∷ more)))
+      (tables-of (o ∷ q ∷ more) same)
 
   term-same : (t : TermTree) → All (λ o. IsSamePlaced (v o) (w o)) (sources_of t)
       → term_notes (usual_placing s) local number v t ≡ term_notes (usual_placing s) local number w t

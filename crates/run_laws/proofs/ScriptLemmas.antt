@@ -51,7 +51,8 @@ found-is : {X : Type 0} (test : X → Bool) (xs : List X) (x : X) → find test 
 found-is test [] x e = absurd (cc)
 found-is {X} test (y ∷ ys) x e = by (test y) refl e (found-is test ys x)
   where
-    by : (b : Bool) → test y ≡ b → cond b (Some y) (find test ys) ≡ Some x → (find test ys ≡ Some x → Contains ys x × (test x ≡ true))
+    by : (b : Bool) → test y ≡ b → cond b (Some y) (find test ys) ≡ Some x
+        → (find test ys ≡ Some x → Contains ys x × (test x ≡ true))
         → Contains (y ∷ ys) x × (test x ≡ true)
     by true passes k rest =
         let same : y ≡ x = cc in
@@ -62,12 +63,14 @@ pub results_are_found : ResultsAreFound
 results_are_found p files c of_files number s e =
     let there = found-is (λ (t : StepTree). t.statement == number) c.steps s e in
     subst (λ n. meant p files c (source.Result n) ≡ result_of p (meant p files c) s) (eqb-true s.statement number there.1)
-    (All-contains (λ (s : StepTree). meant p files c (source.Result s.statement) ≡ result_of p (meant p files c) s) c.steps s (steps_are_meant p files c of_files) there.0)
+    (All-contains (λ (s : StepTree). meant p files c (source.Result s.statement) ≡ result_of p (meant p files c) s) c.steps s
+    (steps_are_meant p files c of_files) there.0)
 
 -- ---- faults
 
 module _ {X : Type 0} (fault_of : X → Option RunFault) where
-  first-at : (xs : List X) (i : ℕ) (a : X) → i < length xs → All (λ x. fault_of x ≡ None) (take i xs) → (own : RunFault) → fault_of (get_or xs i a) ≡ Some own
+  first-at : (xs : List X) (i : ℕ) (a : X) → i < length xs → All (λ x. fault_of x ≡ None) (take i xs) → (own : RunFault)
+      → fault_of (get_or xs i a) ≡ Some own
       → first_of (map fault_of xs) ≡ Some own
   first-at [] i a l sound own e = absurd (omega arith)
   first-at (x ∷ xs) zero a l sound own e = ap (λ o. first_of (o ∷ map fault_of xs)) e
@@ -78,7 +81,8 @@ module _ {X : Type 0} (fault_of : X → Option RunFault) where
   first-none : (xs : List X) → All (λ x. fault_of x ≡ None) xs → first_of (map fault_of xs) ≡ None
   first-none [] sound = refl
   first-none (x ∷ xs) sound =
-      ap (λ o. first_of (o ∷ map fault_of xs)) (All-head (λ x. fault_of x ≡ None) x xs sound) ∙ first-none xs (All-tail (λ x. fault_of x ≡ None) x xs sound)
+      ap (λ o. first_of (o ∷ map fault_of xs)) (All-head (λ x. fault_of x ≡ None) x xs sound)
+      ∙ first-none xs (All-tail (λ x. fault_of x ≡ None) x xs sound)
 
 pub faults_are_first : FaultsAreFirst
 faults_are_first p files c of_files rules =
@@ -91,7 +95,8 @@ faults_are_first p files c of_files rules =
 
 -- ---- the types of sources
 
-fits-kinds : (kinds : List ColType) (row : Row) → map type_of row ≡ kinds → pointwise (λ k v. same_type k (type_of v)) kinds row ≡ true
+fits-kinds : (kinds : List ColType) (row : Row) → map type_of row ≡ kinds → pointwise (λ k v. same_type k (type_of v)) kinds row
+    ≡ true
 fits-kinds [] [] e = refl
 fits-kinds [] (v ∷ row) e = absurd (cc)
 fits-kinds (k ∷ kinds) [] e = absurd (cc)
@@ -102,33 +107,44 @@ fits-kinds (k ∷ kinds) (v ∷ row) e =
 
 has-kinds : (kinds : List ColType) (rows : Rows) → AreOf kinds rows → HasKinds kinds rows
 has-kinds kinds rows h =
-    All-weaker (λ (row : Row). map type_of row ≡ kinds) (λ row. IsTrue (pointwise (λ k v. same_type k (type_of v)) kinds row)) (fits-kinds kinds) rows h
+    All-weaker (λ (row : Row). map type_of row ≡ kinds) (λ row. IsTrue (pointwise (λ k v. same_type k (type_of v)) kinds row))
+    (fits-kinds kinds) rows h
 
-module _ (known : Source → Option (List ColType)) (value : Source → PlacedRelation) (knows : Knows known (λ o. (value o).relation.rows)) where
+module _ (known : Source → Option (List ColType)) (value : Source → PlacedRelation)
+    (knows : Knows known (λ o. (value o).relation.rows)) where
   rows-typed : (schema : List Column) (o : Source) → has_kinds (known o) (kinds_of_columns schema) ≡ true → AreRowsOf schema value o
   rows-typed schema o h =
-      All-weaker (λ (row : Row). map type_of row ≡ kinds_of_columns schema) (HasTypes schema) (typed-fits schema) (value o).relation.rows
+      All-weaker (λ (row : Row). map type_of row ≡ kinds_of_columns schema) (HasTypes schema) (typed-fits schema)
+      (value o).relation.rows
       (one-source known (λ o. (value o).relation.rows) knows o (kinds_of_columns schema) h)
 
-  tables-typed : (sources : List Source) (atoms : List AtomTree) → pointwise (λ s (a : AtomTree). has_kinds (known s) a.kinds) sources atoms ≡ true
+  tables-typed : (sources : List Source) (atoms : List AtomTree)
+      → pointwise (λ s (a : AtomTree). has_kinds (known s) a.kinds) sources atoms ≡ true
       → AreTables atoms (rows_of (map value sources))
   tables-typed [] [] h = tt
   tables-typed [] (a ∷ atoms) h = absurd (cc)
   tables-typed (s ∷ sources) [] h = absurd (cc)
   tables-typed (s ∷ sources) (a ∷ atoms) h =
-      let parts = both (has_kinds (known s) a.kinds) (pointwise (λ s (a : AtomTree). has_kinds (known s) a.kinds) sources atoms) h in
-      (has-kinds a.kinds (value s).relation.rows (one-source known (λ o. (value o).relation.rows) knows s a.kinds parts.0), tables-typed sources atoms parts.1)
+      let parts = both (has_kinds (known s) a.kinds) (pointwise
+      (λ s (a : AtomTree). has_kinds (known s) a.kinds) sources atoms) h in (
+        has-kinds a.kinds (value s).relation.rows (one-source known
+            (λ o. (value o).relation.rows) knows s a.kinds parts.0),
+        tables-typed sources atoms parts.1,
+      )
 
-  one-typed-source : (schema : List Column) (s : Source) → has_kinds (known s) (kinds_of_columns schema) ≡ true → All (AreRowsOf schema value) (s ∷ [])
+  one-typed-source : (schema : List Column) (s : Source) → has_kinds (known s) (kinds_of_columns schema) ≡ true
+      → All (AreRowsOf schema value) (s ∷ [])
   one-typed-source schema s h = All-cons (AreRowsOf schema value) s [] (rows-typed schema s h) (All-nil (AreRowsOf schema value))
 
-  two-typed-sources : (schema : List Column) (s t : Source) → (has_kinds (known s) (kinds_of_columns schema) && has_kinds (known t) (kinds_of_columns schema)) ≡ true
+  two-typed-sources : (schema : List Column) (s t : Source)
+      → (has_kinds (known s) (kinds_of_columns schema) && has_kinds (known t) (kinds_of_columns schema)) ≡ true
       → All (AreRowsOf schema value) (s ∷ t ∷ [])
   two-typed-sources schema s t h =
       let parts = both (has_kinds (known s) (kinds_of_columns schema)) (has_kinds (known t) (kinds_of_columns schema)) h in
       All-cons (AreRowsOf schema value) s (t ∷ []) (rows-typed schema s parts.0) (one-typed-source schema t parts.1)
 
-  sources-typed : (schema : List Column) (t : TermTree) → is_term known t (kinds_of_columns schema) ≡ true → HasTypedSources schema value t
+  sources-typed : (schema : List Column) (t : TermTree) → is_term known t (kinds_of_columns schema) ≡ true
+      → HasTypedSources schema value t
   sources-typed schema (Same s) h = one-typed-source schema s h
   sources-typed schema Empty h = All-nil (AreRowsOf schema value)
   sources-typed schema (UnionAll s t) h = two-typed-sources schema s t h
@@ -136,14 +152,17 @@ module _ (known : Source → Option (List ColType)) (value : Source → PlacedRe
   sources-typed schema (Distinct s) h = one-typed-source schema s h
   sources-typed schema (Join shape sources) h =
       tables-typed sources shape.atoms
-      (three (is_shape shape) (pointwise (λ s (a : AtomTree). has_kinds (known s) a.kinds) sources shape.atoms) (pointwise (λ e k. is_kind k (kind_in (kinds_of shape) e)) shape.emits (kinds_of_columns schema)) h).1
+      (three (is_shape shape) (pointwise (λ s (a : AtomTree). has_kinds (known s) a.kinds) sources shape.atoms)
+      (pointwise (λ e k. is_kind k (kind_in (kinds_of shape) e)) shape.emits (kinds_of_columns schema)) h).1
   sources-typed schema (Group shape sources kinds) h =
       tables-typed sources shape.atoms
-      (three (is_shape shape) (pointwise (λ s (a : AtomTree). has_kinds (known s) a.kinds) sources shape.atoms) (emits_columns (kinds_of shape) kinds shape.emits (kinds_of_columns schema)) h).1
+      (three (is_shape shape) (pointwise (λ s (a : AtomTree). has_kinds (known s) a.kinds) sources shape.atoms)
+      (emits_columns (kinds_of shape) kinds shape.emits (kinds_of_columns schema)) h).1
 
 -- what stands for the same has the same types
 module _ (schema : List Column) (v w : Source → PlacedRelation) where
-  each-same : (sources : List Source) → All (λ o. v o ≡ w o) sources → All (AreRowsOf schema v) sources → All (AreRowsOf schema w) sources
+  each-same : (sources : List Source) → All (λ o. v o ≡ w o) sources → All (AreRowsOf schema v) sources
+      → All (AreRowsOf schema w) sources
   each-same sources e h = λ k d l. subst (λ (q : PlacedRelation). All (HasTypes schema) q.relation.rows) (e k d l) (h k d l)
 
   typed-same : (t : TermTree) → All (λ o. v o ≡ w o) (sources_of t) → HasTypedSources schema v t → HasTypedSources schema w t
@@ -159,33 +178,45 @@ module _ (p : Placing) (files : List File) (final : List (ℕ × PlacedRelation)
   abbrev IsTypedAtEnd : StepTree → Type 0
   IsTypedAtEnd s = HasTypedSources s.schema (placed_source p files final) s.term
 
-  steps-typed-sources : (steps : List StepTree) (last : ℕ) (earlier : List StepTree) (results : List (ℕ × PlacedRelation)) → are_steps files last earlier steps ≡ true
-      → AreInOrder last steps → fold (λ before (s : StepTree). (s.statement, placed_step p files before s) ∷ before) results steps ≡ final
+  steps-typed-sources : (steps : List StepTree) (last : ℕ) (earlier : List StepTree) (results : List (ℕ × PlacedRelation))
+      → are_steps files last earlier steps ≡ true
+      → AreInOrder last steps → fold (λ before (s : StepTree). (s.statement, placed_step p files before s) ∷ before) results steps
+      ≡ final
       → Knows (source_kinds files earlier) (λ o. (placed_source p files results o).relation.rows) → All IsTypedAtEnd steps
   steps-typed-sources [] last earlier results h order e known = All-nil IsTypedAtEnd
   steps-typed-sources (s ∷ steps) last earlier results h order e known =
-      let parts = three (nat_lt last s.statement) (is_term (source_kinds files earlier) s.term (kinds_of_columns s.schema)) (are_steps files s.statement (s ∷ earlier) steps) h in
+      let parts = three (nat_lt last s.statement) (is_term (source_kinds files earlier) s.term (kinds_of_columns s.schema))
+      (are_steps files s.statement (s ∷ earlier) steps) h in
       let own = placed_step p files results s in
       All-cons IsTypedAtEnd s steps
       (typed-same s.schema (placed_source p files results) (placed_source p files final) s.term
       (All-weaker (IsUpTo last) (λ o. placed_source p files results o ≡ placed_source p files final o)
-      (λ o low. sym (found-stays (placed_nothing p.workers) (placed_files p files) (placed_step p files) (s ∷ steps) last order results o low) ∙ ap (λ all. placed_source p files all o) e)
+      (λ o low. sym (found-stays (placed_nothing p.workers) (placed_files p files) (placed_step p files)
+      (s ∷ steps) last order results o low) ∙ ap (λ all. placed_source p files all o) e)
       (sources_of s.term) order.1)
       (sources-typed (source_kinds files earlier) (placed_source p files results) known s.schema s.term parts.1))
       (steps-typed-sources steps s.statement (s ∷ earlier) ((s.statement, own) ∷ results) parts.2 order.2 e
       (more-known p files results earlier s own known
-      (term-typed (source_kinds files earlier) (λ o. (placed_source p files results o).relation.rows) known s.term (kinds_of_columns s.schema) parts.1)))
+      (term-typed (source_kinds files earlier) (λ o. (placed_source p files results o).relation.rows) known s.term
+      (kinds_of_columns s.schema) parts.1)))
 
 pub needed_are_meant : NeededAreMeant
 needed_are_meant p files c good of_files typed k d l =
     let s = get_or (needed c) k d in
     let own = needed-own c s (Contains-get_or (needed c) k d l) in
     record {
-      result = All-contains (λ (s : StepTree). meant p files c (source.Result s.statement) ≡ result_of p (meant p files c) s) c.steps s (steps_are_meant p files c of_files) own;
-      placed = λ i o low. found-IsPlaced p files (placed_steps p files c.steps) good (steps-IsPlaced p files c good of_files typed) (get_or (sources_of s.term) i o);
-      ready = All-contains (λ (s : StepTree). HasReadyItems p.workers (meant p files c) s.term) c.steps s (joins_are_ready p files c good of_files typed) own;
+      result =
+          All-contains (λ (s : StepTree). meant p files c (source.Result s.statement) ≡ result_of p (meant p files c) s) c.steps s
+          (steps_are_meant p files c of_files) own;
+      placed =
+          λ i o low. found-IsPlaced p files (placed_steps p files c.steps) good (steps-IsPlaced p files c good of_files typed)
+          (get_or (sources_of s.term) i o);
+      ready =
+          All-contains (λ (s : StepTree). HasReadyItems p.workers (meant p files c) s.term) c.steps s
+          (joins_are_ready p files c good of_files typed) own;
       typed =
           All-contains (λ (s : StepTree). HasTypedSources s.schema (meant p files c) s.term) c.steps s
-          (steps-typed-sources p files (placed_steps p files c.steps) c.steps 0 [] [] (checked-steps files c of_files) (checked-order files c of_files) refl
+          (steps-typed-sources p files (placed_steps p files c.steps) c.steps 0 [] [] (checked-steps files c of_files)
+          (checked-order files c of_files) refl
           (nothing-known p files typed)) own;
     }

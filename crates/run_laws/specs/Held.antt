@@ -52,7 +52,8 @@ HasWideParts width parts t = All (λ o. All (All (λ (row : Row). length row ≡
 
 -- what is held for a step's sources is what they mean, in any order at each worker; it is placed, of the types and as wide as the
 -- term asks, and ready to be joined
-pub record IsReadyStep (p : Placing) (files : List File) (c : CheckedTree) (parts : Source → List Rows) (s : StepTree) : Type 0 where
+pub record IsReadyStep (p : Placing) (files : List File) (c : CheckedTree) (parts : Source → List Rows)
+    (s : StepTree) : Type 0 where
   pub same : All (λ o. IsSamePlaced (meant p files c o) (held_at parts o)) (sources_of s.term)
   pub placed : All (λ o. IsPlaced p.workers (held_at parts o)) (sources_of s.term)
   pub ready : HasReadyItems p.workers (held_at parts) s.term

@@ -50,7 +50,8 @@ step_exchanges p value s = map (λ e. (s.statement, e)) (term_exchanges p s.stat
 pub record IsOfSteps (p : Placing) (files : List File) (c : CheckedTree) : Type 0 where
   pub plan : (local : JoinKind) → plan_of p local files c ≡ flat_map (step_notes p local (meant p files c)) (needed c)
   pub exchanges : exchanges_of p files c ≡ flat_map (step_exchanges p (meant p files c)) (needed c)
-  pub placed : placed_stores p files c ≡ map {B = Key × PlacedRelation} (λ (t : StoreStep). (t.key, meant p files c t.source)) c.stores
+  pub placed : placed_stores p files c ≡ map {B = Key × PlacedRelation} (λ (t : StoreStep).
+      (t.key, meant p files c t.source)) c.stores
   pub stored : stored_by files c ≡ map {B = File} (λ (t : StoreStep). (t.key, (meant p files c t.source).relation)) c.stores
 
 abbrev pub ScriptsAreOfSteps : Type 0
