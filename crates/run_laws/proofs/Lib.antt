@@ -4,3 +4,8 @@ pub mod MeantLemmas
 pub mod NeededLemmas
 pub mod TypeLemmas
 pub mod RewrittenLemmas
+pub mod ScriptLemmas
+pub mod BagLemmas
+pub mod NoteLemmas
+pub mod FoundLemmas
+pub mod HeldLemmas

@@ -38,12 +38,14 @@ module _ (files : List File) where
   known-more s earlier (source.Result number) h = behind s.statement (map (λ (s : StepTree). s.statement) earlier) number h
 
   -- what is known from one step more is of that step or was known
-  known-cases : (s : StepTree) (done : List StepTree) (o : Source) → IsKnown files (s ∷ done) o → (is_result s.statement o ≡ true) ⊎ IsKnown files done o
+  known-cases : (s : StepTree) (done : List StepTree) (o : Source) → IsKnown files (s ∷ done) o
+      → (is_result s.statement o ≡ true) ⊎ IsKnown files done o
   known-cases s done (source.File place) h = inr h
-  known-cases s done (source.Result number) h = elim (first_or_behind s.statement (map (λ (s : StepTree). s.statement) done) number h) [
-    | inl same ↦ inl (eq-eqb number s.statement (sym same))
-    | inr others ↦ inr others
-  ]
+  known-cases s done (source.Result number) h =
+      elim (first_or_behind s.statement (map (λ (s : StepTree). s.statement) done) number h) [
+        | inl same ↦ inl (eq-eqb number s.statement (sym same))
+        | inr others ↦ inr others
+      ]
 
   known-own : (s : StepTree) (earlier : List StepTree) (o : Source) → is_result s.statement o ≡ true → IsKnown files (s ∷ earlier) o
   known-own s earlier (source.File place) h = absurd (cc)
@@ -52,7 +54,8 @@ module _ (files : List File) where
       (in_front s.statement (map (λ (s : StepTree). s.statement) earlier))
 
   -- the step itself is needed
-  past-needed : (s : StepTree) (done earlier : List StepTree) (o : Source) → IsKnownOf (s ∷ done) earlier o → IsKnownOf done (s ∷ earlier) o
+  past-needed : (s : StepTree) (done earlier : List StepTree) (o : Source) → IsKnownOf (s ∷ done) earlier o
+      → IsKnownOf done (s ∷ earlier) o
   past-needed s done earlier o (inl h) = elim (known-cases s done o h) [
     | inl own ↦ inr (known-own s earlier o own)
     | inr old ↦ inl old
@@ -60,7 +63,8 @@ module _ (files : List File) where
   past-needed s done earlier o (inr h) = inr (known-more s earlier o h)
 
   -- the step itself isn't
-  past-unneeded : (s : StepTree) (done earlier : List StepTree) (o : Source) → (is_result s.statement o ≡ true → ⊥) → IsKnownOf (s ∷ done) earlier o → IsKnownOf done earlier o
+  past-unneeded : (s : StepTree) (done earlier : List StepTree) (o : Source) → (is_result s.statement o ≡ true → ⊥)
+      → IsKnownOf (s ∷ done) earlier o → IsKnownOf done earlier o
   past-unneeded s done earlier o never (inl h) = elim (known-cases s done o h) [
     | inl own ↦ absurd (never own)
     | inr old ↦ inl old
@@ -70,7 +74,8 @@ module _ (files : List File) where
   module _ (stores : List StoreStep) where
     AreOver : List StepTree → List StepTree → Type 0
     AreOver done needed =
-        (earlier : List StepTree) (s : StepTree) (later : List StepTree) → needed ≡ earlier ++ s ∷ later → All (IsKnownOf done earlier) (sources_of s.term)
+        (earlier : List StepTree) (s : StepTree) (later : List StepTree) → needed ≡ earlier ++ s ∷ later
+        → All (IsKnownOf done earlier) (sources_of s.term)
 
     used-by : (number : ℕ) (needed : List StepTree) (s : StepTree) (o : Source) → Contains needed s → Contains (sources_of s.term) o
         → is_result number o ≡ true → is_used number stores needed ≡ true
@@ -78,21 +83,26 @@ module _ (files : List File) where
         or_right (list_any (λ (t : StoreStep). is_result number t.source) stores) (list_any (uses number) needed)
         (any-of (uses number) needed s among (any-of (is_result number) (sources_of s.term) o in_term e))
 
-    needed-over : (steps : List StepTree) (last : ℕ) (done : List StepTree) → are_steps files last done steps ≡ true → AreOver done (needed_steps stores steps)
+    needed-over : (steps : List StepTree) (last : ℕ) (done : List StepTree) → are_steps files last done steps ≡ true
+        → AreOver done (needed_steps stores steps)
     unfolding AreOver
     needed-over [] last done h = none
       where
-        none : (earlier : List StepTree) (s : StepTree) (later : List StepTree) → [] ≡ earlier ++ s ∷ later → All (IsKnownOf done earlier) (sources_of s.term)
+        none : (earlier : List StepTree) (s : StepTree) (later : List StepTree) → [] ≡ earlier ++ s ∷ later
+            → All (IsKnownOf done earlier) (sources_of s.term)
         none [] s later e = absurd (cc)
         none (x ∷ earlier) s later e = absurd (cc)
     needed-over (first ∷ rest) last done h =
-        let parts = three (nat_lt last first.statement) (is_term (source_kinds files done) first.term (kinds_of_columns first.schema)) (are_steps files first.statement (first ∷ done) rest) h in
+        let parts = three (nat_lt last first.statement) (is_term (source_kinds files done) first.term
+        (kinds_of_columns first.schema)) (are_steps files first.statement (first ∷ done) rest) h in
         by (is_used first.statement stores (needed_steps stores rest)) refl
         (term-known files done first.term (kinds_of_columns first.schema) parts.1)
         (needed-over rest first.statement (first ∷ done) parts.2)
       where
-        by : (b : Bool) → is_used first.statement stores (needed_steps stores rest) ≡ b → All (IsKnown files done) (sources_of first.term)
-            → AreOver (first ∷ done) (needed_steps stores rest) → AreOver done (cond b (first ∷ needed_steps stores rest) (needed_steps stores rest))
+        by : (b : Bool) → is_used first.statement stores (needed_steps stores rest) ≡ b
+            → All (IsKnown files done) (sources_of first.term)
+            → AreOver (first ∷ done) (needed_steps stores rest)
+            → AreOver done (cond b (first ∷ needed_steps stores rest) (needed_steps stores rest))
         by true u own over [] s later e =
             let same : first ≡ s = cc in
             subst (λ (x : StepTree). All (IsKnownOf done []) (sources_of x.term)) same
@@ -101,7 +111,8 @@ module _ (files : List File) where
             let same : first ≡ x = cc in
             let others : needed_steps stores rest ≡ earlier ++ s ∷ later = cc in
             subst (λ x. All (IsKnownOf done (x ∷ earlier)) (sources_of s.term)) same
-            (All-weaker (IsKnownOf (first ∷ done) earlier) (IsKnownOf done (first ∷ earlier)) (past-needed first done earlier) (sources_of s.term)
+            (All-weaker (IsKnownOf (first ∷ done) earlier) (IsKnownOf done (first ∷ earlier)) (past-needed first done earlier)
+            (sources_of s.term)
             (over earlier s later others))
         by false u own over earlier s later e = λ k d l.
             past-unneeded first done earlier (get_or (sources_of s.term) k d)
@@ -135,10 +146,12 @@ step-of (s ∷ steps) number h = elim (first_or_behind s.statement (map (λ (s :
   | inr others ↦ let found = step-of steps number others in (found.0, behind s steps found.0 found.1, found.2)
 ]
 
-number-of : (steps : List StepTree) (s : StepTree) → Contains steps s → Contains (map (λ (s : StepTree). s.statement) steps) s.statement
+number-of : (steps : List StepTree) (s : StepTree) → Contains steps s
+    → Contains (map (λ (s : StepTree). s.statement) steps) s.statement
 number-of [] s h = absurd (nothing_in_none s h)
 number-of (x ∷ steps) s h = elim (first_or_behind x steps s h) [
-  | inl same ↦ subst (λ (y : StepTree). Contains (map (λ (s : StepTree). s.statement) (x ∷ steps)) y.statement) same (in_front x.statement (map (λ (s : StepTree). s.statement) steps))
+  | inl same ↦ subst (λ (y : StepTree). Contains (map (λ (s : StepTree). s.statement) (x ∷ steps)) y.statement) same
+      (in_front x.statement (map (λ (s : StepTree). s.statement) steps))
   | inr others ↦ behind x.statement (map (λ (s : StepTree). s.statement) steps) s.statement (number-of steps s others)
 ]
 
@@ -146,7 +159,8 @@ kept-among : (p : StepTree → Bool) (steps : List StepTree) (s : StepTree) → 
 kept-among p [] s h = h
 kept-among p (x ∷ steps) s h = by (p x) (kept-among p steps s) h
   where
-    by : (b : Bool) → (Contains (filter p steps) s → Contains steps s) → Contains (cond b (x ∷ filter p steps) (filter p steps)) s → Contains (x ∷ steps) s
+    by : (b : Bool) → (Contains (filter p steps) s → Contains steps s) → Contains (cond b (x ∷ filter p steps) (filter p steps)) s
+        → Contains (x ∷ steps) s
     by true rest k = elim (first_or_behind x (filter p steps) s k) [
       | inl same ↦ subst (Contains (x ∷ steps)) same (in_front x steps)
       | inr others ↦ behind x steps s (rest others)
@@ -154,17 +168,21 @@ kept-among p (x ∷ steps) s h = by (p x) (kept-among p steps s) h
     by false rest k = behind x steps s (rest k)
 
 module _ (files : List File) (c : CheckedTree) (of_files : IsTrue (is_of files c)) where
-  store-known : (t : StoreStep) (p : StepTree → Bool) → Contains c.stores t → (o : Source) → t.source ≡ o → IsKnown files (filter p c.steps) o
+  store-known : (t : StoreStep) (p : StepTree → Bool) → Contains c.stores t → (o : Source) → t.source ≡ o
+      → IsKnown files (filter p c.steps) o
       → IsKnown files (needed_steps c.stores c.steps) o
   store-known t p among (source.File place) e h = h
   store-known t p among (source.Result number) e h =
       let found = step-of (filter p c.steps) number h in
       let in_steps = kept-among p c.steps found.0 found.1 in
-      let is_stored = any-of (λ (t : StoreStep). is_result found.0.statement t.source) c.stores t among (ap (is_result found.0.statement) e ∙ eq-eqb number found.0.statement (sym found.2)) in
+      let is_stored = any-of (λ (t : StoreStep). is_result found.0.statement t.source) c.stores t among
+      (ap (is_result found.0.statement) e ∙ eq-eqb number found.0.statement (sym found.2)) in
       subst (Contains (map (λ (s : StepTree). s.statement) (needed_steps c.stores c.steps))) found.2
-      (number-of (needed_steps c.stores c.steps) found.0 ((needed_by_rule files c of_files found.0 in_steps).0 (stored found.0.statement is_stored)))
+      (number-of (needed_steps c.stores c.steps) found.0 ((needed_by_rule files c of_files found.0 in_steps).0
+      (stored found.0.statement is_stored)))
 
-  stores-known : (ts : List StoreStep) → ((t : StoreStep) → Contains ts t → Contains c.stores t) → list_all (is_store files c.steps) ts ≡ true
+  stores-known : (ts : List StoreStep) → ((t : StoreStep) → Contains ts t → Contains c.stores t)
+      → list_all (is_store files c.steps) ts ≡ true
       → All (λ (t : StoreStep). IsKnown files (needed_steps c.stores c.steps) t.source) ts
   stores-known [] among h = All-nil (λ (t : StoreStep). IsKnown files (needed_steps c.stores c.steps) t.source)
   stores-known (t ∷ ts) among h =
@@ -176,4 +194,5 @@ module _ (files : List File) (c : CheckedTree) (of_files : IsTrue (is_of files c
 
 pub stores_are_over_needed : StoresAreOverNeeded
 stores_are_over_needed files c h =
-    stores-known files c h c.stores (λ t k. k) (both (are_steps files 0 [] c.steps) (list_all (is_store files c.steps) c.stores) h).1
+    stores-known files c h c.stores (λ t k. k) (both (are_steps files 0 [] c.steps)
+    (list_all (is_store files c.steps) c.stores) h).1

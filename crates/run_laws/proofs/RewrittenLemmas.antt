@@ -1,5 +1,5 @@
 -- What a loop over the steps of a rewritten script knows of each.
-use Rattle.std.proofs.Common.{◌≡◌, ℕ, zero, suc, ◌<◌, ◌≤◌, ◌==◌, Bool, true, false, cond, List, [], ◌∷◌, ◌++◌, map, length, drop, get_or, refl, sym, ◌∙◌, ap, subst, arith, Option, Some, ◌⊎◌, inl, inr}
+use Rattle.std.proofs.Common.{◌≡◌, ℕ, zero, suc, ◌<◌, ◌≤◌, ◌==◌, Bool, true, false, cond, List, [], ◌∷◌, ◌++◌, length, drop, get_or, refl, sym, ◌∙◌, ap, subst, arith, Some, inl, inr}
 use Rattle.std.specs.Prelude.{All, Contains, IsTrue, ⊤, find, take}
 use Rattle.std.proofs.lemmas.Bool.{eq-eqb, eqb-true}
 use Rattle.std.proofs.lemmas.List.Elements.{All-nil, All-cons, All-weaker, Contains-get_or}
@@ -10,9 +10,9 @@ use Rattle.algebra.specs.declared.terms.StoreStep.{StoreStep}
 use Rattle.algebra.specs.Trees.{TermTree, Same, Empty, UnionAll, Diff, Distinct, Join, Group, StepTree, CheckedTree}
 use Rattle.algebra.specs.Conditions.{is_of}
 use Rattle.algebra.specs.Meanings.{sources_of, is_used, needed_steps}
-use Rattle.algebra.specs.Rewriting.{IsSameTerm, IsSameStep, AreSameSteps, no_step, a_step, IsRewritten}
+use Rattle.algebra.specs.Rewriting.{IsSameTerm, IsSameStep, AreSameSteps, no_step, a_step}
 use Rattle.run_laws.specs.Values.{IsKnown}
-use Rattle.run_laws.specs.Rewritten.{needed, numbers_of, IsStepAt, StepsByPlace, NumbersRise, IsKept, RewrittenAreKept}
+use Rattle.run_laws.specs.Rewritten.{needed, numbers_of, StepsByPlace, NumbersRise, RewrittenAreKept}
 use Rattle.run_laws.proofs.SourceLemmas.{in_front, behind, first_or_behind, nothing_in_none}
 use Rattle.run_laws.proofs.MeantLemmas.{AreInOrder, checked-order}
 use Rattle.run_laws.proofs.NeededLemmas.{needed_are_over_needed, stores_are_over_needed}
@@ -31,7 +31,8 @@ rising-from : (steps : List StepTree) (last low : ℕ) → low ≤ last → AreR
 rising-from [] last low l rising = tt
 rising-from (s ∷ rest) last low l rising = (omega (arith, l, rising.0), rising.1)
 
-rising-at : (steps : List StepTree) (last : ℕ) → AreRising last steps → (i : ℕ) (a : StepTree) → i < length steps → last < (get_or steps i a).statement
+rising-at : (steps : List StepTree) (last : ℕ) → AreRising last steps → (i : ℕ) (a : StepTree) → i < length steps
+    → last < (get_or steps i a).statement
 rising-at [] last rising i a l = absurd (omega arith)
 rising-at (s ∷ rest) last rising zero a l = rising.0
 rising-at (s ∷ rest) last rising (suc i) a l = omega (arith, rising.0, rising-at rest s.statement rising.1 i a (omega arith))
@@ -41,7 +42,8 @@ rising-pair : (steps : List StepTree) (last : ℕ) → AreRising last steps → 
 rising-pair [] last rising i j a b k l = absurd (omega arith)
 rising-pair (s ∷ rest) last rising i zero a b k l = absurd (omega arith)
 rising-pair (s ∷ rest) last rising zero (suc j) a b k l = rising-at rest s.statement rising.1 j b (omega arith)
-rising-pair (s ∷ rest) last rising (suc i) (suc j) a b k l = rising-pair rest s.statement rising.1 i j a b (omega arith) (omega arith)
+rising-pair (s ∷ rest) last rising (suc i) (suc j) a b k l =
+    rising-pair rest s.statement rising.1 i j a b (omega arith) (omega arith)
 
 -- those before a place have lower numbers
 before-lower : (steps : List StepTree) (last : ℕ) → AreRising last steps → (i : ℕ) (a : StepTree) → i < length steps
@@ -65,9 +67,11 @@ found-own : (steps : List StepTree) (last : ℕ) (x : StepTree) → AreRising la
 found-own [] last x rising h = absurd (nothing_in_none x h)
 found-own (s ∷ rest) last x rising h = elim (first_or_behind s rest x h) [
   | inl same ↦
-      ap (λ b. cond b (Some s) (find (λ (t : StepTree). t.statement == x.statement) rest)) (eq-eqb s.statement x.statement (ap (λ (y : StepTree). y.statement) same))
+      ap (λ b. cond b (Some s) (find (λ (t : StepTree). t.statement == x.statement) rest))
+      (eq-eqb s.statement x.statement (ap (λ (y : StepTree). y.statement) same))
       ∙ ap Some same
-  | inr others ↦ past (s.statement == x.statement) refl (rising-has rest s.statement x rising.1 others) (found-own rest s.statement x rising.1 others)
+  | inr others ↦ past (s.statement == x.statement) refl (rising-has rest s.statement x rising.1 others)
+      (found-own rest s.statement x rising.1 others)
 ]
   where
     past : (b : Bool) → (s.statement == x.statement) ≡ b → s.statement < x.statement
@@ -81,9 +85,11 @@ found-own (s ∷ rest) last x rising h = elim (first_or_behind s rest x h) [
 module _ (stores : List StoreStep) where
   needed-rising : (steps : List StepTree) (last : ℕ) → AreRising last steps → AreRising last (needed_steps stores steps)
   needed-rising [] last rising = tt
-  needed-rising (s ∷ rest) last rising = by (is_used s.statement stores (needed_steps stores rest)) (needed-rising rest s.statement rising.1)
+  needed-rising (s ∷ rest) last rising =
+      by (is_used s.statement stores (needed_steps stores rest)) (needed-rising rest s.statement rising.1)
     where
-      by : (b : Bool) → AreRising s.statement (needed_steps stores rest) → AreRising last (cond b (s ∷ needed_steps stores rest) (needed_steps stores rest))
+      by : (b : Bool) → AreRising s.statement (needed_steps stores rest)
+          → AreRising last (cond b (s ∷ needed_steps stores rest) (needed_steps stores rest))
       by true later = (rising.0, later)
       by false later = rising-from (needed_steps stores rest) s.statement last (omega (arith, rising.0)) later
 
@@ -103,7 +109,8 @@ module _ (stores : List StoreStep) where
   needed-few [] = omega arith
   needed-few (s ∷ rest) = by (is_used s.statement stores (needed_steps stores rest)) (needed-few rest)
     where
-      by : (t : Bool) → length (needed_steps stores rest) ≤ length rest → length (cond t (s ∷ needed_steps stores rest) (needed_steps stores rest)) ≤ length (s ∷ rest)
+      by : (t : Bool) → length (needed_steps stores rest) ≤ length rest
+          → length (cond t (s ∷ needed_steps stores rest) (needed_steps stores rest)) ≤ length (s ∷ rest)
       by true few = omega (arith, few)
       by false few = omega (arith, few)
 
@@ -119,7 +126,8 @@ split-at (x ∷ xs) zero a l = refl
 split-at (x ∷ xs) (suc i) a l = ap (λ ys. x ∷ ys) (split-at xs i a (omega arith))
 
 pub numbers_rise : NumbersRise
-numbers_rise files c h i j a b k l = rising-pair (needed c) 0 (needed-rising c.stores c.steps 0 (checked-rising files c h)) i j a b k l
+numbers_rise files c h i j a b k l =
+    rising-pair (needed c) 0 (needed-rising c.stores c.steps 0 (checked-rising files c h)) i j a b k l
 
 -- ---- the same steps
 
@@ -152,7 +160,8 @@ same-numbers : (xs ys : List StepTree) → AreSameSteps xs ys → numbers_of ys 
 same-numbers _ _ no_step = refl
 same-numbers _ _ (a_step s t xs ys h rest) = λ i. sym h.statement i ∷ same-numbers xs ys rest i
 
-same-at : (xs ys : List StepTree) → AreSameSteps xs ys → (i : ℕ) (a b : StepTree) → i < length ys → IsSameStep (get_or xs i a) (get_or ys i b)
+same-at : (xs ys : List StepTree) → AreSameSteps xs ys → (i : ℕ) (a b : StepTree) → i < length ys
+    → IsSameStep (get_or xs i a) (get_or ys i b)
 same-at _ _ no_step i a b l = absurd (omega arith)
 same-at _ _ (a_step s t xs ys h rest) zero a b l = h
 same-at _ _ (a_step s t xs ys h rest) (suc i) a b l = same-at xs ys rest i a b (omega arith)
@@ -168,13 +177,16 @@ steps_by_place files c d of_files rewritten i a b l =
     record {
       same = same;
       own = own;
-      found = subst (λ n. find (λ (s : StepTree). s.statement == n) c.steps ≡ Some x) same.statement (found-own c.steps 0 x rising own);
+      found =
+          subst (λ n. find (λ (s : StepTree). s.statement == n) c.steps ≡ Some x) same.statement (found-own c.steps 0 x rising own);
       sources = sources-same x.term y.term same.term;
-      known = needed_are_over_needed files c of_files (take i (needed c)) x (drop (suc i) (needed c)) (split-at (needed c) i a within);
+      known =
+          needed_are_over_needed files c of_files (take i (needed c)) x (drop (suc i) (needed c)) (split-at (needed c) i a within);
       later = before-lower (needed c) 0 (needed-rising c.stores c.steps 0 rising) i a within;
     }
 
-known-by-numbers : (files : List File) (xs ys : List StepTree) → numbers_of xs ≡ numbers_of ys → (o : Source) → IsKnown files xs o → IsKnown files ys o
+known-by-numbers : (files : List File) (xs ys : List StepTree) → numbers_of xs ≡ numbers_of ys → (o : Source) → IsKnown files xs o
+    → IsKnown files ys o
 known-by-numbers files xs ys e (source.File place) h = h
 known-by-numbers files xs ys e (source.Result number) h = subst (λ ns. Contains ns number) e h
 
@@ -187,7 +199,8 @@ rewritten_are_kept files c d of_files rewritten = record {
   known =
       subst (λ stores. All (λ (t : StoreStep). IsKnown files d.steps t.source) stores) rewritten.stores
       (All-weaker (λ (t : StoreStep). IsKnown files (needed c) t.source) (λ (t : StoreStep). IsKnown files d.steps t.source)
-      (λ t k. known-by-numbers files (needed c) d.steps (sym numbers) t.source k) c.stores (stores_are_over_needed files c of_files));
+      (λ t k. known-by-numbers files (needed c) d.steps (sym numbers) t.source k) c.stores
+      (stores_are_over_needed files c of_files));
 }
   where
     many : length d.steps ≡ length (needed c)

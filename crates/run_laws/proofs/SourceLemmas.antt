@@ -48,21 +48,25 @@ module _ {X : Type 0} where
 -- ---- sources are known
 
 module _ (files : List File) (steps : List StepTree) where
-  file-known : (lent : List File) (place : ℕ) → is_some (option_map (λ (f : File). kinds_of_columns f.1.schema) (slice_get lent place)) ≡ true
+  file-known : (lent : List File) (place : ℕ) → is_some (option_map (λ (f : File). kinds_of_columns f.1.schema)
+      (slice_get lent place)) ≡ true
       → place < length lent
   file-known [] place h = absurd (cc)
   file-known (f ∷ lent) zero h = omega arith
   file-known (f ∷ lent) (suc place) h = omega (arith, file-known lent place h)
 
   step-known : (earlier : List StepTree) (number : ℕ)
-      → is_some (option_map (λ (s : StepTree). kinds_of_columns s.schema) (find (λ (s : StepTree). s.statement == number) earlier)) ≡ true
+      → is_some (option_map (λ (s : StepTree). kinds_of_columns s.schema) (find (λ (s : StepTree). s.statement == number) earlier))
+      ≡ true
       → Contains (map (λ (s : StepTree). s.statement) earlier) number
   step-known [] number h = absurd (cc)
   step-known (s ∷ earlier) number h = by (s.statement == number) refl h (step-known earlier number)
     where
       by : (b : Bool) → (s.statement == number) ≡ b
-          → is_some (option_map (λ (s : StepTree). kinds_of_columns s.schema) (cond b (Some s) (find (λ (s : StepTree). s.statement == number) earlier))) ≡ true
-          → (is_some (option_map (λ (s : StepTree). kinds_of_columns s.schema) (find (λ (s : StepTree). s.statement == number) earlier)) ≡ true
+          → is_some (option_map (λ (s : StepTree). kinds_of_columns s.schema)
+          (cond b (Some s) (find (λ (s : StepTree). s.statement == number) earlier))) ≡ true
+          → (is_some (option_map (λ (s : StepTree). kinds_of_columns s.schema)
+          (find (λ (s : StepTree). s.statement == number) earlier)) ≡ true
           → Contains (map (λ (s : StepTree). s.statement) earlier) number)
           → Contains (map (λ (s : StepTree). s.statement) (s ∷ earlier)) number
       by true e k rest =
@@ -74,7 +78,8 @@ module _ (files : List File) (steps : List StepTree) where
   some-known (source.File place) h = file-known files place h
   some-known (source.Result number) h = step-known steps number h
 
-  pub kinds-known : (o : Source) (columns : List ColType) → has_kinds (source_kinds files steps o) columns ≡ true → IsKnown files steps o
+  pub kinds-known : (o : Source) (columns : List ColType) → has_kinds (source_kinds files steps o) columns ≡ true
+      → IsKnown files steps o
   kinds-known o columns h = some-known o (by (source_kinds files steps o) h)
     where
       by : (found : Option (List ColType)) → has_kinds found columns ≡ true → is_some found ≡ true
@@ -83,17 +88,21 @@ module _ (files : List File) (steps : List StepTree) where
 
 -- ---- the sources of a term
 
-module _ (P : Source → Type 0) (known : Source → Option (List ColType)) (each : (o : Source) (columns : List ColType) → has_kinds (known o) columns ≡ true → P o) where
-  two-sources : (s t : Source) (columns : List ColType) → (has_kinds (known s) columns && has_kinds (known t) columns) ≡ true → All P (s ∷ t ∷ [])
+module _ (P : Source → Type 0) (known : Source → Option (List ColType))
+    (each : (o : Source) (columns : List ColType) → has_kinds (known o) columns ≡ true → P o) where
+  two-sources : (s t : Source) (columns : List ColType) → (has_kinds (known s) columns && has_kinds (known t) columns) ≡ true
+      → All P (s ∷ t ∷ [])
   two-sources s t columns h =
       let parts = both (has_kinds (known s) columns) (has_kinds (known t) columns) h in
       All-cons P s (t ∷ []) (each s columns parts.0) (All-cons P t [] (each t columns parts.1) (All-nil P))
 
-  item-sources : (sources : List Source) (atoms : List AtomTree) → pointwise (λ s (a : AtomTree). has_kinds (known s) a.kinds) sources atoms ≡ true → All P sources
+  item-sources : (sources : List Source) (atoms : List AtomTree)
+      → pointwise (λ s (a : AtomTree). has_kinds (known s) a.kinds) sources atoms ≡ true → All P sources
   item-sources [] atoms h = All-nil P
   item-sources (s ∷ sources) [] h = absurd (cc)
   item-sources (s ∷ sources) (a ∷ atoms) h =
-      let parts = both (has_kinds (known s) a.kinds) (pointwise (λ s (a : AtomTree). has_kinds (known s) a.kinds) sources atoms) h in
+      let parts = both (has_kinds (known s) a.kinds) (pointwise
+      (λ s (a : AtomTree). has_kinds (known s) a.kinds) sources atoms) h in
       All-cons P s sources (each s a.kinds parts.0) (item-sources sources atoms parts.1)
 
   middle : (a b c : Bool) → (a && b && c) ≡ true → b ≡ true
@@ -152,7 +161,8 @@ module _ (f g : Source → Rows) where
 
 module _ (p : Placing) (number : ℕ) (f g : Source → PlacedRelation) where
   same_rows : (sources : List Source) → All (λ o. f o ≡ g o) sources → All (λ o. (f o).relation.rows ≡ (g o).relation.rows) sources
-  same_rows sources h = All-weaker (λ o. f o ≡ g o) (λ o. (f o).relation.rows ≡ (g o).relation.rows) (λ o e i. (e i).relation.rows) sources h
+  same_rows sources h =
+      All-weaker (λ o. f o ≡ g o) (λ o. (f o).relation.rows ≡ (g o).relation.rows) (λ o e i. (e i).relation.rows) sources h
 
   pub placed_rows-same : (t : TermTree) → All (λ o. f o ≡ g o) (sources_of t)
       → term_rows (λ o. (f o).relation.rows) t ≡ term_rows (λ o. (g o).relation.rows) t

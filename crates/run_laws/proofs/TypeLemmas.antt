@@ -55,7 +55,7 @@ same_type-equal kind.Str kind.Bool e = absurd (cc)
 same_type-equal kind.Bool kind.Int e = absurd (cc)
 same_type-equal kind.Bool kind.Str e = absurd (cc)
 
-same_type-itself : (t : ColType) → same_type t t ≡ true
+pub same_type-itself : (t : ColType) → same_type t t ≡ true
 same_type-itself kind.Int = refl
 same_type-itself kind.Str = refl
 same_type-itself kind.Bool = refl
@@ -80,7 +80,7 @@ types-of_row (column ∷ schema) (v ∷ row) e =
     let others = types-of_row schema row parts.1 in
     λ i. first i ∷ others i
 
-typed-fits : (schema : List Column) (row : Row) → map type_of row ≡ kinds_of_columns schema → fits_schema schema row ≡ true
+pub typed-fits : (schema : List Column) (row : Row) → map type_of row ≡ kinds_of_columns schema → fits_schema schema row ≡ true
 typed-fits [] [] e = refl
 typed-fits [] (v ∷ row) e = absurd (cc)
 typed-fits (column ∷ schema) [] e = absurd (cc)
@@ -110,7 +110,8 @@ at-mapped f [] i d = refl
 at-mapped f (x ∷ xs) zero d = refl
 at-mapped f (x ∷ xs) (suc i) d = at-mapped f xs i d
 
-value-typed : (kinds : List ColType) (row : Row) → map type_of row ≡ kinds → (e : Scalar) → type_of (exact_value e row) ≡ value_kind kinds e
+value-typed : (kinds : List ColType) (row : Row) → map type_of row ≡ kinds → (e : Scalar) → type_of (exact_value e row)
+    ≡ value_kind kinds e
 value-typed kinds row t (Lit v) = refl
 value-typed kinds row t (At place) = sym (at-mapped type_of row place _) ∙ ap (λ kinds. get_or kinds place kind.Int) t
 value-typed kinds row t (Not e) = refl
@@ -172,7 +173,8 @@ scalar-kind kinds e k h = by (kind_in kinds e) refl h
     by (Some j) is g = found-kind kinds e j is ∙ same_type-equal k j g
     by None is g = absurd (cc)
 
-emits-kinds : (kinds : List ColType) (emits : List Scalar) (columns : List ColType) → pointwise (λ e k. is_kind k (kind_in kinds e)) emits columns ≡ true
+emits-kinds : (kinds : List ColType) (emits : List Scalar) (columns : List ColType)
+    → pointwise (λ e k. is_kind k (kind_in kinds e)) emits columns ≡ true
     → map (value_kind kinds) emits ≡ columns
 emits-kinds kinds [] [] h = refl
 emits-kinds kinds [] (k ∷ columns) h = absurd (cc)
@@ -197,7 +199,8 @@ kinds_of_atoms atoms = flat_map (λ (a : AtomTree). a.kinds) atoms
 abbrev Combines : List AtomTree → List Row → Type 0
 Combines atoms rows = map type_of (combined_row rows) ≡ kinds_of_atoms atoms
 
-combinations-typed : (atoms : List AtomTree) (tables : List Rows) → AreOfAtoms atoms tables → All (Combines atoms) (combinations tables)
+combinations-typed : (atoms : List AtomTree) (tables : List Rows) → AreOfAtoms atoms tables
+    → All (Combines atoms) (combinations tables)
 combinations-typed [] [] typed = All-cons (Combines []) [] [] refl (All-nil (Combines []))
 combinations-typed [] (rows ∷ tables) typed = absurd typed
 combinations-typed (a ∷ atoms) [] typed = absurd typed
@@ -210,18 +213,22 @@ combinations-typed (a ∷ atoms) (rows ∷ tables) typed = each (combinations-ty
         All-append (Combines (a ∷ atoms)) (map (λ rest. row ∷ rest) (combinations tables)) _
         (All-map (Combines (a ∷ atoms)) (λ rest. row ∷ rest) (combinations tables)
         (All-weaker (Combines atoms) (λ rest. Combines (a ∷ atoms) (row ∷ rest))
-        (λ rest e. map-append type_of row (combined_row rest) ∙ (λ i. All-head (λ (row : Row). map type_of row ≡ a.kinds) row rows all i ++ e i))
+        (λ rest e. map-append type_of row (combined_row rest)
+        ∙ (λ i. All-head (λ (row : Row). map type_of row ≡ a.kinds) row rows all i ++ e i))
         (combinations tables) others))
         (each others rows (All-tail (λ (row : Row). map type_of row ≡ a.kinds) row rows all))
 
-emitted-typed : (kinds : List ColType) (row : Row) → map type_of row ≡ kinds → (emits : List Scalar) → map type_of (emitted emits row) ≡ map (value_kind kinds) emits
+emitted-typed : (kinds : List ColType) (row : Row) → map type_of row ≡ kinds → (emits : List Scalar)
+    → map type_of (emitted emits row) ≡ map (value_kind kinds) emits
 emitted-typed kinds row t [] = refl
 emitted-typed kinds row t (e ∷ emits) = λ i. value-typed kinds row t e i ∷ emitted-typed kinds row t emits i
 
 -- what is listed has the types of what is emitted
-listed-typed : (shape : Shape) (tables : List Rows) → AreOfAtoms shape.atoms tables → AreOf (map (value_kind (kinds_of shape)) shape.emits) (listed_of shape tables)
+listed-typed : (shape : Shape) (tables : List Rows) → AreOfAtoms shape.atoms tables
+    → AreOf (map (value_kind (kinds_of shape)) shape.emits) (listed_of shape tables)
 listed-typed shape tables typed =
-    All-map (λ (row : Row). map type_of row ≡ map (value_kind (kinds_of shape)) shape.emits) (emitted shape.emits) (filter (all_hold shape.arith) (candidates_of shape tables))
+    All-map (λ (row : Row). map type_of row ≡ map (value_kind (kinds_of shape)) shape.emits) (emitted shape.emits)
+    (filter (all_hold shape.arith) (candidates_of shape tables))
     (All-weaker IsCombined (λ row. map type_of (emitted shape.emits row) ≡ map (value_kind (kinds_of shape)) shape.emits)
     (λ row t. emitted-typed (kinds_of shape) row t shape.emits) (filter (all_hold shape.arith) (candidates_of shape tables))
     (All-filter (all_hold shape.arith) IsCombined (candidates_of shape tables)
@@ -269,7 +276,8 @@ fold-typed f k step v [] e all = e
 fold-typed f k step v (w ∷ vs) e all =
     fold-typed f k step (f v w) vs (step v w e (All-head (λ w. type_of w ≡ k) w vs all)) (All-tail (λ w. type_of w ≡ k) w vs all)
 
-cell-typed : (kind : Option AggOp) (k : ColType) (v : Value) (vs : List Value) → HaveType k (v ∷ vs) → type_of (cell kind (v ∷ vs)) ≡ result_kind kind k
+cell-typed : (kind : Option AggOp) (k : ColType) (v : Value) (vs : List Value) → HaveType k (v ∷ vs) → type_of (cell kind (v ∷ vs))
+    ≡ result_kind kind k
 cell-typed None k v vs all = All-head (λ w. type_of w ≡ k) v vs all
 cell-typed (Some agg.CountAll) k v vs all = refl
 cell-typed (Some agg.Count) k v vs all = refl
@@ -285,7 +293,8 @@ IsOf ks row = map type_of row ≡ ks
 first-typed : (k : ColType) (ks : List ColType) (rows : Rows) → AreOf (k ∷ ks) rows → HaveType k (firsts rows)
 first-typed k ks [] all = All-nil (λ w. type_of w ≡ k)
 first-typed k ks (row ∷ rows) all =
-    All-cons (λ w. type_of w ≡ k) (value_at row 0) (firsts rows) (first row (All-head (IsOf (k ∷ ks)) row rows all)) (first-typed k ks rows (All-tail (IsOf (k ∷ ks)) row rows all))
+    All-cons (λ w. type_of w ≡ k) (value_at row 0) (firsts rows) (first row (All-head (IsOf (k ∷ ks)) row rows all))
+    (first-typed k ks rows (All-tail (IsOf (k ∷ ks)) row rows all))
   where
     first : (row : Row) → map type_of row ≡ k ∷ ks → type_of (value_at row 0) ≡ k
     first [] e = absurd (cc)
@@ -294,7 +303,8 @@ first-typed k ks (row ∷ rows) all =
 behind-typed : (k : ColType) (ks : List ColType) (rows : Rows) → AreOf (k ∷ ks) rows → AreOf ks (map behind rows)
 behind-typed k ks [] all = All-nil (IsOf ks)
 behind-typed k ks (row ∷ rows) all =
-    All-cons (IsOf ks) (behind row) (map behind rows) (rest row (All-head (IsOf (k ∷ ks)) row rows all)) (behind-typed k ks rows (All-tail (IsOf (k ∷ ks)) row rows all))
+    All-cons (IsOf ks) (behind row) (map behind rows) (rest row (All-head (IsOf (k ∷ ks)) row rows all))
+    (behind-typed k ks rows (All-tail (IsOf (k ∷ ks)) row rows all))
   where
     rest : (row : Row) → map type_of row ≡ k ∷ ks → map type_of (behind row) ≡ ks
     rest [] e = absurd (cc)
@@ -310,20 +320,24 @@ columns-typed (kind ∷ kinds) (k ∷ ks) row rows e all =
     let others = columns-typed kinds ks (behind row) (map behind rows) (omega (arith, e)) (behind-typed k ks (row ∷ rows) all) in
     λ i. first i ∷ others i
 
-filter-none-at : {X : Type 0} (p : X → Bool) (xs : List X) (i : ℕ) (d : X) → i < length xs → filter p xs ≡ [] → p (get_or xs i d) ≡ false
+filter-none-at : {X : Type 0} (p : X → Bool) (xs : List X) (i : ℕ) (d : X) → i < length xs → filter p xs ≡ [] → p (get_or xs i d)
+    ≡ false
 filter-none-at p [] i d low e = absurd (omega arith)
 filter-none-at {X} p (x ∷ xs) i d low e = by (λ k small none. filter-none-at p xs k d small none) (p x) refl e i low
   where
-    by : ((k : ℕ) → k < length xs → filter p xs ≡ [] → p (get_or xs k d) ≡ false) → (b : Bool) → p x ≡ b → cond b (x ∷ filter p xs) (filter p xs) ≡ []
+    by : ((k : ℕ) → k < length xs → filter p xs ≡ [] → p (get_or xs k d) ≡ false) → (b : Bool) → p x ≡ b
+        → cond b (x ∷ filter p xs) (filter p xs) ≡ []
         → (i : ℕ) → i < length (x ∷ xs) → p (get_or (x ∷ xs) i d) ≡ false
     by others true h e i low = absurd (cc)
     by others false h e zero low = h
     by others false h e (suc i) low = others i (omega arith) e
 
 -- a key of the groups has members
-has-members : (kinds : Kinds) (rows : Rows) (i : ℕ) (d : Row) → i < length rows → members kinds rows (key_of kinds (get_or rows i d)) ≡ [] → ⊥
+has-members : (kinds : Kinds) (rows : Rows) (i : ℕ) (d : Row) → i < length rows
+    → members kinds rows (key_of kinds (get_or rows i d)) ≡ [] → ⊥
 has-members kinds rows i d low none =
-    let passes : same_row (key_of kinds (get_or rows i d)) (key_of kinds (get_or rows i d)) ≡ true = itself (key_of kinds (get_or rows i d)) in
+    let passes : same_row (key_of kinds (get_or rows i d)) (key_of kinds (get_or rows i d))
+    ≡ true = itself (key_of kinds (get_or rows i d)) in
     let fails = filter-none-at (λ row. same_row (key_of kinds (get_or rows i d)) (key_of kinds row)) rows i d low none in
     cc
 
@@ -336,18 +350,21 @@ distinct-all P (r ∷ rows) all =
 module _ (kinds : Kinds) (ks : List ColType) (same : length kinds ≡ length ks) where
   one-typed : (rows : Rows) → AreOf ks rows → (rows ≡ [] → ⊥) → map type_of (group_row kinds rows) ≡ result_kinds kinds ks
   one-typed [] all some = absurd (some refl)
-  one-typed (row ∷ rows) all some = ap (map type_of) (group_row-columns kinds (row ∷ rows)) ∙ columns-typed kinds ks row rows same all
+  one-typed (row ∷ rows) all some =
+      ap (map type_of) (group_row-columns kinds (row ∷ rows)) ∙ columns-typed kinds ks row rows same all
 
   groups-typed : (rows : Rows) → AreOf ks rows → AreOf (result_kinds kinds ks) (groups kinds rows)
   groups-typed rows all =
       All-map (IsOf (result_kinds kinds ks)) (λ key. group_row kinds (members kinds rows key)) (keys kinds rows)
-      (distinct-all (λ key. map type_of (group_row kinds (members kinds rows key)) ≡ result_kinds kinds ks) (map (key_of kinds) rows)
+      (distinct-all (λ key. map type_of (group_row kinds (members kinds rows key)) ≡ result_kinds kinds ks)
+      (map (key_of kinds) rows)
       (All-map (λ key. map type_of (group_row kinds (members kinds rows key)) ≡ result_kinds kinds ks) (key_of kinds) rows
       (λ i d low. one-typed (members kinds rows (key_of kinds (get_or rows i d)))
       (All-filter (λ row. same_row (key_of kinds (get_or rows i d)) (key_of kinds row)) (IsOf ks) rows all)
       (has-members kinds rows i d low))))
 
-group-kind : (kinds : List ColType) (kind : Option AggOp) (e : Scalar) (k : ColType) → is_kind k (emitted_kind kind (kind_in kinds e)) ≡ true
+group-kind : (kinds : List ColType) (kind : Option AggOp) (e : Scalar) (k : ColType)
+    → is_kind k (emitted_kind kind (kind_in kinds e)) ≡ true
     → result_kind kind (value_kind kinds e) ≡ k
 group-kind kinds None e k h = scalar-kind kinds e k h
 group-kind kinds (Some agg.CountAll) e k h = same_type-equal k kind.Int h
@@ -379,10 +396,11 @@ group-kinds over (kind ∷ kinds) (f ∷ emits) (k ∷ columns) e h =
 -- ---- terms
 
 -- the rows of what is known have these types
-abbrev Knows : (Source → Option (List ColType)) → (Source → Rows) → Type 0
+abbrev pub Knows : (Source → Option (List ColType)) → (Source → Rows) → Type 0
 Knows known value = (o : Source) (own : List ColType) → known o ≡ Some own → AreOf own (value o)
 
-source-typed : (found : Option (List ColType)) (kinds : List ColType) (rows : Rows) → ((own : List ColType) → found ≡ Some own → AreOf own rows)
+source-typed : (found : Option (List ColType)) (kinds : List ColType) (rows : Rows)
+    → ((own : List ColType) → found ≡ Some own → AreOf own rows)
     → has_kinds found kinds ≡ true → AreOf kinds rows
 source-typed None kinds rows h k = absurd (cc)
 source-typed (Some own) kinds rows h k = subst (λ ks. AreOf ks rows) (same_kinds-equal own kinds k) (h own refl)
@@ -391,10 +409,11 @@ module _ (known : Source → Option (List ColType)) (value : Source → Rows) (k
   abbrev has_atom : Source → AtomTree → Bool
   has_atom s a = has_kinds (known s) a.kinds
 
-  one-source : (s : Source) (columns : List ColType) → has_kinds (known s) columns ≡ true → AreOf columns (value s)
+  pub one-source : (s : Source) (columns : List ColType) → has_kinds (known s) columns ≡ true → AreOf columns (value s)
   one-source s columns h = source-typed (known s) columns (value s) (knows s) h
 
-  items-typed : (sources : List Source) (atoms : List AtomTree) → pointwise has_atom sources atoms ≡ true → AreOfAtoms atoms (map value sources)
+  items-typed : (sources : List Source) (atoms : List AtomTree) → pointwise has_atom sources atoms ≡ true
+      → AreOfAtoms atoms (map value sources)
   items-typed [] [] h = tt
   items-typed [] (a ∷ atoms) h = absurd (cc)
   items-typed (s ∷ sources) [] h = absurd (cc)
@@ -402,7 +421,7 @@ module _ (known : Source → Option (List ColType)) (value : Source → Rows) (k
       let parts = both (has_atom s a) (pointwise has_atom sources atoms) h in
       (one-source s a.kinds parts.0, items-typed sources atoms parts.1)
 
-  term-typed : (t : TermTree) (columns : List ColType) → is_term known t columns ≡ true → AreOf columns (term_rows value t)
+  pub term-typed : (t : TermTree) (columns : List ColType) → is_term known t columns ≡ true → AreOf columns (term_rows value t)
   term-typed (Same s) columns h = one-source s columns h
   term-typed Empty columns h = All-nil (IsOf columns)
   term-typed (UnionAll s t) columns h =
@@ -410,18 +429,24 @@ module _ (known : Source → Option (List ColType)) (value : Source → Rows) (k
       All-append (IsOf columns) (value s) (value t) (one-source s columns parts.0) (one-source t columns parts.1)
   term-typed (Diff s t) columns h =
       let parts = both (has_kinds (known s) columns) (has_kinds (known t) columns) h in
-      All-filter (λ r. not (has_row (value t) r)) (IsOf columns) (distinct (value s)) (distinct-all (IsOf columns) (value s) (one-source s columns parts.0))
+      All-filter (λ r. not (has_row (value t) r)) (IsOf columns) (distinct (value s))
+      (distinct-all (IsOf columns) (value s) (one-source s columns parts.0))
   term-typed (Distinct s) columns h = distinct-all (IsOf columns) (value s) (one-source s columns h)
   term-typed (Join shape sources) columns h =
-      let parts = three (is_shape shape) (pointwise has_atom sources shape.atoms) (pointwise (λ e k. is_kind k (kind_in (kinds_of shape) e)) shape.emits columns) h in
+      let parts = three (is_shape shape) (pointwise has_atom sources shape.atoms)
+      (pointwise (λ e k. is_kind k (kind_in (kinds_of shape) e)) shape.emits columns) h in
       subst (λ ks. AreOf ks (listed_of shape (map value sources))) (emits-kinds (kinds_of shape) shape.emits columns parts.2)
       (listed-typed shape (map value sources) (items-typed sources shape.atoms parts.1))
   term-typed (Group shape sources kinds) columns h =
-      let parts = three (is_shape shape) (pointwise has_atom sources shape.atoms) (emits_columns (kinds_of shape) kinds shape.emits columns) h in
-      let emits = both (length kinds == length shape.emits) (pointwise (is_emitted (kinds_of shape)) (zip kinds shape.emits) columns) parts.2 in
+      let parts = three (is_shape shape) (pointwise has_atom sources shape.atoms)
+      (emits_columns (kinds_of shape) kinds shape.emits columns) h in
+      let emits = both (length kinds == length shape.emits)
+      (pointwise (is_emitted (kinds_of shape)) (zip kinds shape.emits) columns) parts.2 in
       let long = eqb-true (length kinds) (length shape.emits) emits.0 in
-      subst (λ ks. AreOf ks (groups kinds (listed_of shape (map value sources)))) (group-kinds (kinds_of shape) kinds shape.emits columns long emits.1)
-      (groups-typed kinds (map (value_kind (kinds_of shape)) shape.emits) (long ∙ sym (length-map shape.emits (value_kind (kinds_of shape))))
+      subst (λ ks. AreOf ks (groups kinds (listed_of shape (map value sources))))
+      (group-kinds (kinds_of shape) kinds shape.emits columns long emits.1)
+      (groups-typed kinds (map (value_kind (kinds_of shape)) shape.emits)
+      (long ∙ sym (length-map shape.emits (value_kind (kinds_of shape))))
       (listed_of shape (map value sources)) (listed-typed shape (map value sources) (items-typed sources shape.atoms parts.1)))
 
 -- ---- steps
@@ -445,56 +470,69 @@ module _ (p : Placing) (files : List File) where
       subst (λ kinds. AreOf kinds f.1.rows) (some-same (kinds_of_columns f.1.schema) own e)
       (All-weaker (HasTypes f.1.schema) (IsOf (kinds_of_columns f.1.schema)) (types-of_row f.1.schema) f.1.rows
       (All-head (λ (f : File). All (HasTypes f.1.schema) f.1.rows) f lent typed))
-  file-typed (f ∷ lent) typed (suc place) own e = file-typed lent (All-tail (λ (f : File). All (HasTypes f.1.schema) f.1.rows) f lent typed) place own e
+  file-typed (f ∷ lent) typed (suc place) own e =
+      file-typed lent (All-tail (λ (f : File). All (HasTypes f.1.schema) f.1.rows) f lent typed) place own e
 
-  nothing-known : AreTyped files → Knows (source_kinds files []) (rows-by [])
+  pub nothing-known : AreTyped files → Knows (source_kinds files []) (rows-by [])
   nothing-known typed (source.File place) own e = file-typed files typed place own e
   nothing-known typed (source.Result number) own e = absurd (never own e)
     where
       never : (own : List ColType) → None ≡ Some own → ⊥
       never own e = cc
 
-  more-known : (results : List (ℕ × PlacedRelation)) (earlier : List StepTree) (s : StepTree) (made : PlacedRelation)
+  pub more-known : (results : List (ℕ × PlacedRelation)) (earlier : List StepTree) (s : StepTree) (made : PlacedRelation)
       → Knows (source_kinds files earlier) (rows-by results) → AreOf (kinds_of_columns s.schema) made.relation.rows
       → Knows (source_kinds files (s ∷ earlier)) (rows-by ((s.statement, made) ∷ results))
   more-known results earlier s made h k (source.File place) own e = h (source.File place) own e
   more-known results earlier s made h k (source.Result number) own e = by (s.statement == number) e (h (source.Result number) own)
     where
-      by : (b : Bool) → option_map (λ (s : StepTree). kinds_of_columns s.schema) (cond b (Some s) (find (λ (s : StepTree). s.statement == number) earlier)) ≡ Some own
+      by : (b : Bool) → option_map (λ (s : StepTree). kinds_of_columns s.schema)
+          (cond b (Some s) (find (λ (s : StepTree). s.statement == number) earlier)) ≡ Some own
           → (source_kinds files earlier (source.Result number) ≡ Some own → AreOf own (rows-by results (source.Result number)))
-          → AreOf own (unwrap_or (option_map (λ (r : ℕ × PlacedRelation). r.1) (cond b (Some (s.statement, made)) (find (λ (r : ℕ × PlacedRelation). r.0 == number) results))) (placed_nothing p.workers)).relation.rows
+          → AreOf own (unwrap_or (option_map (λ (r : ℕ × PlacedRelation). r.1)
+          (cond b (Some (s.statement, made)) (find (λ (r : ℕ × PlacedRelation). r.0 == number) results)))
+          (placed_nothing p.workers)).relation.rows
       by true e rest = subst (λ kinds. AreOf kinds made.relation.rows) (some-same (kinds_of_columns s.schema) own e) k
       by false e rest = rest e
 
-  steps-typed : (steps : List StepTree) (last : ℕ) (earlier : List StepTree) (results : List (ℕ × PlacedRelation)) → are_steps files last earlier steps ≡ true
+  steps-typed : (steps : List StepTree) (last : ℕ) (earlier : List StepTree) (results : List (ℕ × PlacedRelation))
+      → are_steps files last earlier steps ≡ true
       → Knows (source_kinds files earlier) (rows-by results) → All (λ (r : ℕ × PlacedRelation). IsTyped r.1) results
-      → All (λ (r : ℕ × PlacedRelation). IsTyped r.1) (fold (λ before (s : StepTree). (s.statement, placed_step p files before s) ∷ before) results steps)
+      → All (λ (r : ℕ × PlacedRelation). IsTyped r.1) (fold
+      (λ before (s : StepTree). (s.statement, placed_step p files before s) ∷ before) results steps)
   steps-typed [] last earlier results h known all = all
   steps-typed (s ∷ steps) last earlier results h known all =
-      let parts = three (nat_lt last s.statement) (is_term (source_kinds files earlier) s.term (kinds_of_columns s.schema)) (are_steps files s.statement (s ∷ earlier) steps) h in
+      let parts = three (nat_lt last s.statement) (is_term (source_kinds files earlier) s.term (kinds_of_columns s.schema))
+      (are_steps files s.statement (s ∷ earlier) steps) h in
       let own = placed_step p files results s in
       let typed = term-typed (source_kinds files earlier) (rows-by results) known s.term (kinds_of_columns s.schema) parts.1 in
-      steps-typed steps s.statement (s ∷ earlier) ((s.statement, own) ∷ results) parts.2 (more-known results earlier s own known typed)
+      steps-typed steps s.statement (s ∷ earlier) ((s.statement, own) ∷ results) parts.2
+      (more-known results earlier s own known typed)
       (All-cons (λ (r : ℕ × PlacedRelation). IsTyped r.1) (s.statement, own) results typed all)
 
-  files-typed : (lent : List File) → AreTyped lent → (place : ℕ) → IsTyped (slice_index_or (placed_files p lent) place (placed_nothing p.workers))
+  files-typed : (lent : List File) → AreTyped lent → (place : ℕ)
+      → IsTyped (slice_index_or (placed_files p lent) place (placed_nothing p.workers))
   files-typed [] typed place = All-nil (IsOf [])
   files-typed (f ∷ lent) typed zero =
       All-weaker (HasTypes f.1.schema) (IsOf (kinds_of_columns f.1.schema)) (types-of_row f.1.schema) f.1.rows
       (All-head (λ (f : File). All (HasTypes f.1.schema) f.1.rows) f lent typed)
-  files-typed (f ∷ lent) typed (suc place) = files-typed lent (All-tail (λ (f : File). All (HasTypes f.1.schema) f.1.rows) f lent typed) place
+  files-typed (f ∷ lent) typed (suc place) =
+      files-typed lent (All-tail (λ (f : File). All (HasTypes f.1.schema) f.1.rows) f lent typed) place
 
   result-typed : (results : List (ℕ × PlacedRelation)) (number : ℕ) → All (λ (r : ℕ × PlacedRelation). IsTyped r.1) results
       → IsTyped (placed_source p files results (source.Result number))
   result-typed [] number all = All-nil (IsOf [])
-  result-typed (r ∷ results) number all = by (r.0 == number) (result-typed results number (All-tail (λ (r : ℕ × PlacedRelation). IsTyped r.1) r results all))
+  result-typed (r ∷ results) number all =
+      by (r.0 == number) (result-typed results number (All-tail (λ (r : ℕ × PlacedRelation). IsTyped r.1) r results all))
     where
       by : (b : Bool) → IsTyped (placed_source p files results (source.Result number))
-          → IsTyped (unwrap_or (option_map (λ (r : ℕ × PlacedRelation). r.1) (cond b (Some r) (find (λ (r : ℕ × PlacedRelation). r.0 == number) results))) (placed_nothing p.workers))
+          → IsTyped (unwrap_or (option_map (λ (r : ℕ × PlacedRelation). r.1)
+          (cond b (Some r) (find (λ (r : ℕ × PlacedRelation). r.0 == number) results))) (placed_nothing p.workers))
       by true rest = All-head (λ (r : ℕ × PlacedRelation). IsTyped r.1) r results all
       by false rest = rest
 
-  pub source-is-typed : (results : List (ℕ × PlacedRelation)) → AreTyped files → All (λ (r : ℕ × PlacedRelation). IsTyped r.1) results
+  pub source-is-typed : (results : List (ℕ × PlacedRelation)) → AreTyped files
+      → All (λ (r : ℕ × PlacedRelation). IsTyped r.1) results
       → (o : Source) → IsTyped (placed_source p files results o)
   source-is-typed results typed all (source.File place) = files-typed files typed place
   source-is-typed results typed all (source.Result number) = result-typed results number all
@@ -503,9 +541,11 @@ pub meant-typed : (p : Placing) (files : List File) (c : CheckedTree) → IsTrue
     → (o : Source) → All (HasTypes (meant p files c o).relation.schema) (meant p files c o).relation.rows
 meant-typed p files c of_files typed o =
     let q = meant p files c o in
-    All-weaker (IsOf (kinds_of_columns q.relation.schema)) (HasTypes q.relation.schema) (typed-fits q.relation.schema) q.relation.rows
+    All-weaker (IsOf (kinds_of_columns q.relation.schema)) (HasTypes q.relation.schema)
+    (typed-fits q.relation.schema) q.relation.rows
     (source-is-typed p files (placed_steps p files c.steps) typed
-    (steps-typed p files c.steps 0 [] [] (checked-steps files c of_files) (nothing-known p files typed) (All-nil (λ (r : ℕ × PlacedRelation). IsTyped r.1))) o)
+    (steps-typed p files c.steps 0 [] [] (checked-steps files c of_files) (nothing-known p files typed)
+    (All-nil (λ (r : ℕ × PlacedRelation). IsTyped r.1))) o)
 
 pub meant_are_placed : MeantArePlaced
 meant_are_placed p files c good of_files typed o known = record {

@@ -2,3 +2,4 @@
 pub mod Values
 pub mod Rewritten
 pub mod Scripts
+pub mod Held

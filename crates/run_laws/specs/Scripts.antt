@@ -12,7 +12,8 @@
 --   IsHeldOf n q parts              lists of rows that are those of a placed relation
 --   HeldAreMeant                    lists with the same bags at each worker as what a source stands for are such
 --   ReadyAreOfBags                  the order of rows changes nothing of what joins ask
-use Rattle.std.specs.Prelude.{◌≡◌, ⊤, ℕ, ◌<◌, ◌==◌, IsTrue, List, [], ◌∷◌, map, length, find, take, All, Option, Some, None, slice_index_or}
+--   NotesAreOfBags                  nor of the lines of a plan
+use Rattle.std.specs.Prelude.{◌≡◌, ℕ, ◌<◌, ◌==◌, IsTrue, List, map, length, find, take, All, Some, None, slice_index_or}
 use Rattle.std.specs.List.{flat_map}
 use Rattle.rel_base.specs.declared.faults.RunFault.{RunFault}
 use Rattle.rel_base.specs.declared.names.Key.{Key}
@@ -20,20 +21,21 @@ use Rattle.rel_base.specs.declared.relations.Column.{Column}
 use Rattle.rel_base.specs.Bags.{SameBag}
 use Rattle.rel_base.specs.Keys.{File}
 use Rattle.rel_base.specs.Relations.{HasTypes}
-use Rattle.myrial_ast.specs.Combinations.{Row, Rows}
+use Rattle.myrial_ast.specs.Combinations.{Rows}
 use Rattle.myrial_ast.specs.CandidateFaults.{PrefixRule}
 use Rattle.bag_laws.specs.Permuted.{SameTables}
 use Rattle.algebra.specs.declared.settings.JoinKind.{JoinKind}
+use Rattle.algebra.specs.declared.settings.Settings.{Settings}
 use Rattle.algebra.specs.declared.terms.Source.{Source}
 use Rattle.algebra.specs.declared.terms.Source.TheVariants as source
 use Rattle.algebra.specs.declared.terms.StoreStep.{StoreStep}
-use Rattle.algebra.specs.Trees.{TermTree, Same, Empty, UnionAll, Diff, Distinct, Join, Group, StepTree, CheckedTree}
+use Rattle.algebra.specs.Trees.{TermTree, Join, Group, StepTree, CheckedTree}
 use Rattle.algebra.specs.Conditions.{is_of}
 use Rattle.algebra.specs.Meanings.{sources_of, stored_by, checked_fault}
 use Rattle.algebra.specs.Rewriting.{AreTables, AreTyped}
 use Rattle.placement.specs.Layouts.{PlacedRelation, Placing, rows_of, together, placed_file, placed_stores}
 use Rattle.placement.specs.Exchanges.{PlacedExchange, term_exchanges, exchanges_of}
-use Rattle.placement.specs.Plans.{step_notes, plan_of}
+use Rattle.placement.specs.Plans.{usual_placing, term_notes, step_notes, plan_of}
 use Rattle.placement.specs.Laws.{IsPlaced, IsPlacing, IsSamePlaced, HasReadyItems}
 use Rattle.run_laws.specs.Values.{meant, rows_meant, result_of, step_fault}
 use Rattle.run_laws.specs.Rewritten.{needed}
@@ -48,7 +50,8 @@ step_exchanges p value s = map (λ e. (s.statement, e)) (term_exchanges p s.stat
 pub record IsOfSteps (p : Placing) (files : List File) (c : CheckedTree) : Type 0 where
   pub plan : (local : JoinKind) → plan_of p local files c ≡ flat_map (step_notes p local (meant p files c)) (needed c)
   pub exchanges : exchanges_of p files c ≡ flat_map (step_exchanges p (meant p files c)) (needed c)
-  pub placed : placed_stores p files c ≡ map {B = Key × PlacedRelation} (λ (t : StoreStep). (t.key, meant p files c t.source)) c.stores
+  pub placed : placed_stores p files c ≡ map {B = Key × PlacedRelation} (λ (t : StoreStep).
+      (t.key, meant p files c t.source)) c.stores
   pub stored : stored_by files c ≡ map {B = File} (λ (t : StoreStep). (t.key, (meant p files c t.source).relation)) c.stores
 
 abbrev pub ScriptsAreOfSteps : Type 0
@@ -132,3 +135,10 @@ ReadyAreOfBags =
     → All (λ o. IsPlaced n (w o)) (sources_of t) → All (λ o. IsSamePlaced (v o) (w o)) (sources_of t)
     → HasReadyItems n v t → HasTypedSources schema v t
     → HasReadyItems n w t × HasTypedSources schema w t
+
+-- over other rows that are the same bags at each worker the lines of a plan are the same
+abbrev pub NotesAreOfBags : Type 0
+NotesAreOfBags =
+    (s : Settings) (local : JoinKind) (number : ℕ) (v w : Source → PlacedRelation) (t : TermTree)
+    → All (λ o. IsSamePlaced (v o) (w o)) (sources_of t)
+    → term_notes (usual_placing s) local number v t ≡ term_notes (usual_placing s) local number w t

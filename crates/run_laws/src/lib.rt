@@ -3,14 +3,16 @@
 //! Each is the contract of a function that does nothing.
 #![tactic(auto)]
 
+mod held;
 mod rewritten;
 mod scripts;
 mod values;
 
+pub use held::{results_are_held, steps_are_ready};
 pub use rewritten::{numbers_rise, rewritten_are_kept, steps_by_place};
 pub use scripts::{
-    faults_are_first, files_are_meant, held_are_meant, needed_are_meant, ready_are_of_bags,
-    results_are_found, scripts_are_of_steps,
+    faults_are_first, files_are_meant, held_are_meant, needed_are_meant, notes_are_of_bags,
+    ready_are_of_bags, results_are_found, scripts_are_of_steps,
 };
 pub use values::{
     faults_are_of_steps, meant_are_placed, needed_are_over_needed, steps_are_meant,

@@ -1,7 +1,7 @@
 //! The laws of scripts, by what their sources stand for.
 ghost use Rattle.run_laws.specs.Scripts.{ScriptsAreOfSteps, FilesAreMeant, ResultsAreFound};
 ghost use Rattle.run_laws.specs.Scripts.{FaultsAreFirst, NeededAreMeant, HeldAreMeant};
-ghost use Rattle.run_laws.specs.Scripts.{ReadyAreOfBags};
+ghost use Rattle.run_laws.specs.Scripts.{ReadyAreOfBags, NotesAreOfBags};
 
 /// Plan and exchanges are those of the needed steps, and a store is what its source stands for.
 pub fn scripts_are_of_steps()
@@ -37,4 +37,9 @@ pub fn held_are_meant()
 /// The order of rows changes nothing of what a term asks of its sources.
 pub fn ready_are_of_bags()
     ensures { ReadyAreOfBags }
+{}
+
+/// Nor does it change the lines of a plan.
+pub fn notes_are_of_bags()
+    ensures { NotesAreOfBags }
 {}
