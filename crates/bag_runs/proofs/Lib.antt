@@ -1,6 +1,7 @@
 -- Proofs of the laws, lowest first.
 pub mod TableLemmas
 pub mod MovedLemmas
+pub mod RunLemmas
 pub mod SendLemmas
 pub mod AlikeLemmas
 pub mod NoteLemmas
