@@ -1,2 +1,4 @@
 -- Lemmas of this crate, lowest first.
 pub mod ListLemmas
+pub mod FaultLemmas
+pub mod JoinLemmas
