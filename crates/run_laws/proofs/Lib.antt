@@ -9,3 +9,4 @@ pub mod BagLemmas
 pub mod NoteLemmas
 pub mod FoundLemmas
 pub mod HeldLemmas
+pub mod LoopLemmas
