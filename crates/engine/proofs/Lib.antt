@@ -1,0 +1,2 @@
+-- Lemmas of this crate, lowest first.
+pub mod ListLemmas
