@@ -1,5 +1,5 @@
 -- A needed step is ready once those before it are held.
-use Rattle.std.proofs.Common.{◌≡◌, ℕ, suc, ◌<◌, List, [], ◌∷◌, length, drop, get_or, refl, sym, subst, arith}
+use Rattle.std.proofs.Common.{◌≡◌, ℕ, suc, ◌<◌, List, [], ◌∷◌, length, drop, get_or, sym, subst, arith}
 use Rattle.std.specs.Prelude.{All, IsTrue, take}
 use Rattle.std.proofs.lemmas.List.Elements.{All-weaker}
 use Rattle.std.proofs.lemmas.List.Sorted.{IsPermutation-refl}
@@ -31,7 +31,7 @@ use Rattle.run_laws.proofs.BagLemmas.{each-of, held_are_meant, ready_are_of_bags
 use Rattle.run_laws.proofs.FoundLemmas.{known-each}
 use Rattle.run_laws.proofs.NoteLemmas.{notes_are_of_bags}
 
-SameTables-refl : (ts : List Rows) → SameTables ts ts
+pub SameTables-refl : (ts : List Rows) → SameTables ts ts
 SameTables-refl [] = no_table
 SameTables-refl (rows ∷ ts) = a_table rows rows ts ts (IsPermutation-refl rows) (SameTables-refl ts)
 
@@ -58,36 +58,38 @@ module _ (schema : List Column) (parts : Source → List Rows) where
   term-wide (Join shape sources) h = tt
   term-wide (Group shape sources kinds) h = tt
 
-module _ (p : Placing) (files : List File) (c : CheckedTree) (good : IsPlacing p) (of_files : IsTrue (is_of files c))
-    (typed : AreTyped files)
-    (parts : Source → List Rows) where
+module _ (p : Placing) (files : List File) (c : CheckedTree) (parts : Source → List Rows) where
   abbrev IsHeldSource : Source → Type 0
   IsHeldSource o = SameTables (meant p files c o).parts (parts o)
 
-  file-held : AreDealt p files parts → (place : ℕ) → place < length files → IsHeldSource (source.File place)
-  file-held dealt place l = by files refl l
+  pub file-held : AreDealt p files parts → (place : ℕ) → place < length files → IsHeldSource (source.File place)
+  file-held dealt place l = by files l
     where
-      by : (lent : List File) → lent ≡ files → place < length lent → IsHeldSource (source.File place)
-      by [] e k = absurd (omega (arith, k))
-      by (f ∷ lent) e k =
+      by : (lent : List File) → place < length lent → IsHeldSource (source.File place)
+      by [] k = absurd (omega (arith, k))
+      by (f ∷ lent) k =
           subst (λ (q : PlacedRelation). SameTables q.parts (parts (source.File place))) (sym (files_are_meant p files c place f l))
           (subst (λ ts. SameTables (placed_file p.workers (get_or files place f).1).parts ts) (sym (dealt place f l))
           (SameTables-refl (placed_file p.workers (get_or files place f).1).parts))
 
-  same-source : (o : Source) → IsHeldSource o → IsSamePlaced (meant p files c o) (held_at parts o)
+module _ (p : Placing) (files : List File) (c : CheckedTree) (good : IsPlacing p) (of_files : IsTrue (is_of files c))
+    (typed : AreTyped files) (parts : Source → List Rows) where
+  same-source : (o : Source) → IsHeldSource p files c parts o → IsSamePlaced (meant p files c o) (held_at parts o)
   same-source o h = record { rows = (held_are_meant p files c good of_files typed o (parts o) h).rows; parts = h }
 
-  placed-source : (o : Source) → IsHeldSource o → IsPlaced p.workers (held_at parts o)
+  placed-source : (o : Source) → IsHeldSource p files c parts o → IsPlaced p.workers (held_at parts o)
   placed-source o h = record {
     each_worker = (held_are_meant p files c good of_files typed o (parts o) h).each_worker;
     all_rows = IsPermutation-refl (together (parts o));
   }
 
-  ready-step : (s : StepTree) → IsMeantStep p files c s → All IsHeldSource (sources_of s.term) → IsReadyStep p files c parts s
+  ready-step : (s : StepTree) → IsMeantStep p files c s → All (IsHeldSource p files c parts) (sources_of s.term)
+      → IsReadyStep p files c parts s
   ready-step s step held =
-      let same = All-weaker IsHeldSource (λ o. IsSamePlaced (meant p files c o) (held_at parts o)) same-source
+      let same = All-weaker (IsHeldSource p files c parts) (λ o. IsSamePlaced (meant p files c o) (held_at parts o)) same-source
       (sources_of s.term) held in
-      let placed = All-weaker IsHeldSource (λ o. IsPlaced p.workers (held_at parts o)) placed-source (sources_of s.term) held in
+      let placed = All-weaker (IsHeldSource p files c parts) (λ o. IsPlaced p.workers (held_at parts o)) placed-source
+      (sources_of s.term) held in
       let both = ready_are_of_bags p.workers s.schema (meant p files c) (held_at parts) s.term placed same step.ready step.typed in
       record { same = same; placed = placed; ready = both.0; typed = both.1; wide = term-wide s.schema parts s.term both.1 }
 
@@ -96,7 +98,7 @@ steps_are_ready p files c good of_files typed parts dealt i a l held =
     let s = get_or (needed c) i a in
     ready-step p files c good of_files typed parts s (needed_are_meant p files c good of_files typed i a l)
     (All-weaker (IsKnown files (take i (needed c))) (λ o. SameTables (meant p files c o).parts (parts o))
-    (known-each (λ o. SameTables (meant p files c o).parts (parts o)) files (file-held p files c good of_files typed parts dealt)
+    (known-each (λ o. SameTables (meant p files c o).parts (parts o)) files (file-held p files c parts dealt)
     (take i (needed c)) held)
     (sources_of s.term)
     (needed_are_over_needed files c of_files (take i (needed c)) s (drop (suc i) (needed c)) (split-at (needed c) i a l)))

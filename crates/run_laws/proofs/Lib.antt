@@ -1,4 +1,4 @@
--- Proofs of the laws, lowest first.
+-- Proofs of the laws, lowest first, and the worked rows.
 pub mod SourceLemmas
 pub mod MeantLemmas
 pub mod NeededLemmas
@@ -9,3 +9,5 @@ pub mod BagLemmas
 pub mod NoteLemmas
 pub mod FoundLemmas
 pub mod HeldLemmas
+pub mod LoopLemmas
+mod WorkedRows

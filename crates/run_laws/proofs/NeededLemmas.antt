@@ -146,7 +146,7 @@ step-of (s ∷ steps) number h = elim (first_or_behind s.statement (map (λ (s :
   | inr others ↦ let found = step-of steps number others in (found.0, behind s steps found.0 found.1, found.2)
 ]
 
-number-of : (steps : List StepTree) (s : StepTree) → Contains steps s
+pub number-of : (steps : List StepTree) (s : StepTree) → Contains steps s
     → Contains (map (λ (s : StepTree). s.statement) steps) s.statement
 number-of [] s h = absurd (nothing_in_none s h)
 number-of (x ∷ steps) s h = elim (first_or_behind x steps s h) [

@@ -125,6 +125,11 @@ split-at [] i a l = absurd (omega arith)
 split-at (x ∷ xs) zero a l = refl
 split-at (x ∷ xs) (suc i) a l = ap (λ ys. x ∷ ys) (split-at xs i a (omega arith))
 
+-- those before a place have lower numbers
+pub needed-lower : (files : List File) (c : CheckedTree) → IsTrue (is_of files c) → (i : ℕ) (a : StepTree) → i < length (needed c)
+    → All (λ (s : StepTree). s.statement < (get_or (needed c) i a).statement) (take i (needed c))
+needed-lower files c h i a l = before-lower (needed c) 0 (needed-rising c.stores c.steps 0 (checked-rising files c h)) i a l
+
 pub numbers_rise : NumbersRise
 numbers_rise files c h i j a b k l =
     rising-pair (needed c) 0 (needed-rising c.stores c.steps 0 (checked-rising files c h)) i j a b k l
@@ -182,7 +187,7 @@ steps_by_place files c d of_files rewritten i a b l =
       sources = sources-same x.term y.term same.term;
       known =
           needed_are_over_needed files c of_files (take i (needed c)) x (drop (suc i) (needed c)) (split-at (needed c) i a within);
-      later = before-lower (needed c) 0 (needed-rising c.stores c.steps 0 rising) i a within;
+      later = needed-lower files c of_files i a within;
     }
 
 known-by-numbers : (files : List File) (xs ys : List StepTree) → numbers_of xs ≡ numbers_of ys → (o : Source) → IsKnown files xs o

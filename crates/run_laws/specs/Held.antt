@@ -9,7 +9,13 @@
 --   IsHeldResult s files c parts x made
 --                                   the result of a step that ran over what is held, and its lines of the plan
 --   ResultsAreHeld                  what a needed step comes to over what is held is such a result
-use Rattle.std.specs.Prelude.{◌≡◌, ⊤, ℕ, ◌<◌, ◌≤◌, IsTrue, List, [], ◌∷◌, length, take, All, slice_index_or}
+--   parts_in dealt results o        what is held for a source, among the rows of files and of numbered results
+--   IsIn dealt results o            it is there
+--   AreHeld p files c steps ..      the files and these steps are held
+--   HeldAreReady                    where those before a needed step are held, its sources are there, and it is ready
+--   OneMoreIsHeld                   with its result at the end one step more is held
+--   StoresAreHeld                   where all needed steps are held, so is what is stored
+use Rattle.std.specs.Prelude.{◌≡◌, ⊤, ℕ, ◌+◌, ◌<◌, ◌≤◌, ◌==◌, IsTrue, List, [], ◌∷◌, ◌++◌, map, length, find, take, All, IsSome, slice_index_or}
 use Rattle.rel_base.specs.Keys.{File}
 use Rattle.myrial_ast.specs.Combinations.{Row, Rows}
 use Rattle.bag_laws.specs.Permuted.{SameTables}
@@ -18,15 +24,16 @@ use Rattle.algebra.specs.declared.settings.JoinKind.{JoinKind}
 use Rattle.algebra.specs.declared.settings.Settings.{Settings}
 use Rattle.algebra.specs.declared.terms.Source.{Source}
 use Rattle.algebra.specs.declared.terms.Source.TheVariants as source
+use Rattle.algebra.specs.declared.terms.StoreStep.{StoreStep}
 use Rattle.algebra.specs.Trees.{TermTree, Join, Group, StepTree, CheckedTree}
 use Rattle.algebra.specs.Conditions.{is_of}
-use Rattle.algebra.specs.Meanings.{sources_of}
+use Rattle.algebra.specs.Meanings.{found, sources_of}
 use Rattle.algebra.specs.Rewriting.{AreTyped}
 use Rattle.placement.specs.Layouts.{PlacedRelation, Placing, together, term_parts, placed_file}
 use Rattle.placement.specs.Plans.{usual_placing, plan_kind, term_notes, step_notes}
 use Rattle.placement.specs.Laws.{IsPlaced, IsPlacing, IsSamePlaced, HasReadyItems}
 use Rattle.run_laws.specs.Values.{meant}
-use Rattle.run_laws.specs.Rewritten.{needed}
+use Rattle.run_laws.specs.Rewritten.{needed, numbers_of}
 use Rattle.run_laws.specs.Scripts.{HasTypedSources}
 
 -- what is held for a source, as a placed relation: all workers' rows together, whatever their columns are named
@@ -87,3 +94,52 @@ ResultsAreHeld =
     All (λ o. IsSamePlaced (value o) (held_at parts o)) (sources_of x.term)
     → (made : List Rows) → SameTables (term_parts (usual_placing s) x.statement value x.term) made
     → IsHeldResult s files c parts x made
+
+-- ---- what is held by number
+
+-- what is held for a source, among the rows of files and of the results of statements
+abbrev pub parts_in : List (List Rows) → List (ℕ × List Rows) → Source → List Rows
+parts_in dealt results o = found [] dealt results o
+
+-- a source is among them
+abbrev pub IsIn : List (List Rows) → List (ℕ × List Rows) → Source → Type 0
+IsIn dealt results (source.File place) = place < length dealt
+IsIn dealt results (source.Result number) = IsSome (find (λ (r : ℕ × List Rows). r.0 == number) results)
+
+-- the files are held, dealt to the workers, and so are the bags that these steps mean, each by its number
+pub record AreHeld (p : Placing) (files : List File) (c : CheckedTree) (steps : List StepTree) (dealt : List (List Rows))
+    (results : List (ℕ × List Rows)) : Type 0 where
+  pub files_dealt : dealt ≡ map (λ (f : File). (placed_file p.workers f.1).parts) files
+  pub numbers : map (λ (r : ℕ × List Rows). r.0) results ≡ numbers_of steps
+  pub rows : All (IsHeldStep p files c (parts_in dealt results)) steps
+
+-- where those before a needed step are held, its sources are there, and it is ready
+abbrev pub HeldAreReady : Type 0
+HeldAreReady =
+    (p : Placing) (files : List File) (c : CheckedTree) → IsPlacing p → IsTrue (is_of files c) → AreTyped files
+    → (dealt : List (List Rows)) (results : List (ℕ × List Rows)) (i : ℕ) (a : StepTree) → i < length (needed c)
+    → AreHeld p files c (take i (needed c)) dealt results
+    → let x = slice_index_or (needed c) i a in
+    All (IsIn dealt results) (sources_of x.term) × IsReadyStep p files c (parts_in dealt results) x
+
+-- with the bags that it means behind the results, it is held as well
+abbrev pub OneMoreIsHeld : Type 0
+OneMoreIsHeld =
+    (p : Placing) (files : List File) (c : CheckedTree) → IsTrue (is_of files c)
+    → (dealt : List (List Rows)) (results : List (ℕ × List Rows)) (i : ℕ) (a : StepTree) → i < length (needed c)
+    → AreHeld p files c (take i (needed c)) dealt results
+    → let x = slice_index_or (needed c) i a in
+    (made : List Rows) → SameTables (meant p files c (source.Result x.statement)).parts made
+    → AreHeld p files c (take (i + 1) (needed c)) dealt (results ++ (x.statement, made) ∷ [])
+
+-- what is stored is there, as the bags that it means
+pub record IsHeldStore (p : Placing) (files : List File) (c : CheckedTree) (dealt : List (List Rows))
+    (results : List (ℕ × List Rows)) (t : StoreStep) : Type 0 where
+  pub there : IsIn dealt results t.source
+  pub rows : SameTables (meant p files c t.source).parts (parts_in dealt results t.source)
+
+abbrev pub StoresAreHeld : Type 0
+StoresAreHeld =
+    (p : Placing) (files : List File) (c : CheckedTree) → IsTrue (is_of files c)
+    → (dealt : List (List Rows)) (results : List (ℕ × List Rows)) → AreHeld p files c (needed c) dealt results
+    → All (IsHeldStore p files c dealt results) c.stores

@@ -46,13 +46,19 @@ use Rattle.run_laws.specs.Rewritten.{needed}
 abbrev pub step_exchanges : Placing → (Source → PlacedRelation) → StepTree → List (ℕ × PlacedExchange)
 step_exchanges p value s = map (λ e. (s.statement, e)) (term_exchanges p s.statement value s.term)
 
+-- a store with what its source stands for, and with the relation alone
+abbrev pub placed_store : Placing → List File → CheckedTree → StoreStep → Key × PlacedRelation
+placed_store p files c t = (t.key, meant p files c t.source)
+
+abbrev pub stored_file : Placing → List File → CheckedTree → StoreStep → File
+stored_file p files c t = (t.key, (meant p files c t.source).relation)
+
 -- plan and exchanges are those of the needed steps, and a store is what its source stands for
 pub record IsOfSteps (p : Placing) (files : List File) (c : CheckedTree) : Type 0 where
   pub plan : (local : JoinKind) → plan_of p local files c ≡ flat_map (step_notes p local (meant p files c)) (needed c)
   pub exchanges : exchanges_of p files c ≡ flat_map (step_exchanges p (meant p files c)) (needed c)
-  pub placed : placed_stores p files c ≡ map {B = Key × PlacedRelation} (λ (t : StoreStep).
-      (t.key, meant p files c t.source)) c.stores
-  pub stored : stored_by files c ≡ map {B = File} (λ (t : StoreStep). (t.key, (meant p files c t.source).relation)) c.stores
+  pub placed : placed_stores p files c ≡ map (placed_store p files c) c.stores
+  pub stored : stored_by files c ≡ map (stored_file p files c) c.stores
 
 abbrev pub ScriptsAreOfSteps : Type 0
 ScriptsAreOfSteps = (p : Placing) (files : List File) (c : CheckedTree) → IsOfSteps p files c

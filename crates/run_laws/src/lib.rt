@@ -8,7 +8,9 @@ mod rewritten;
 mod scripts;
 mod values;
 
-pub use held::{results_are_held, steps_are_ready};
+pub use held::{
+    held_are_ready, one_more_is_held, results_are_held, steps_are_ready, stores_are_held,
+};
 pub use rewritten::{numbers_rise, rewritten_are_kept, steps_by_place};
 pub use scripts::{
     faults_are_first, files_are_meant, held_are_meant, needed_are_meant, notes_are_of_bags,

@@ -1,8 +1,8 @@
 //! The laws of rewritten scripts, step by step.
 ghost use Rattle.run_laws.specs.Rewritten.{StepsByPlace, NumbersRise, RewrittenAreKept};
 
-/// At each place the needed step and the rewritten one are the same but for pushed tests, over steps
-/// at places before.
+/// At each place the needed step and the rewritten one are the same but for pushed tests, over
+/// steps at places before.
 pub fn steps_by_place()
     ensures { StepsByPlace }
 {}

@@ -23,8 +23,8 @@ pub fn faults_are_first()
     ensures { FaultsAreFirst }
 {}
 
-/// The sources of a needed step are placed, typed and ready to be joined, and its result is its term
-/// over them.
+/// The sources of a needed step are placed, typed and ready to be joined, and its result is its
+/// term over them.
 pub fn needed_are_meant()
     ensures { NeededAreMeant }
 {}
