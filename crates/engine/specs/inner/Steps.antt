@@ -15,17 +15,16 @@ use Rattle.bag_laws.specs.Permuted.{SameTables}
 use Rattle.algebra.specs.declared.notes.PlanNote.TheVariants as note
 use Rattle.algebra.specs.declared.settings.Settings.{Settings}
 use Rattle.algebra.specs.declared.terms.Source.{Source}
-use Rattle.algebra.specs.declared.terms.Source.TheVariants as source
-use Rattle.algebra.specs.declared.terms.StoreStep.{StoreStep}
 use Rattle.algebra.specs.Meanings.{term_fault}
 use Rattle.algebra.specs.Trees.{StepTree, CheckedTree}
-use Rattle.placement.specs.Layouts.{placed_file, together, term_parts}
+use Rattle.placement.specs.Layouts.{together, term_parts}
 use Rattle.placement.specs.Exchanges.{PlacedExchange, term_exchanges, traffic_note}
 use Rattle.placement.specs.Plans.{usual_placing, plan_kind, term_notes, step_notes}
 use Rattle.placed_joins.specs.PlacedJoins.{size_of}
 use Rattle.term_runs.specs.TermRuns.{shown_moves, AreShown, AreMoved, AreFair}
 use Rattle.run_laws.specs.Values.{meant}
 use Rattle.run_laws.specs.Scripts.{step_exchanges, IsSound}
+use Rattle.run_laws.specs.Held.{AreHeld, IsHeldStore}
 use Rattle.engine.specs.declared.held.Held.{Held}
 use Rattle.engine.specs.declared.noted.Noted.{Noted}
 use Rattle.engine.specs.Runs.{prefixes_of, IsRunFault}
@@ -78,10 +77,7 @@ bare_exchanges s files c steps = map (λ (e : ℕ × PlacedExchange). e.1) (numb
 -- the taps rose by their exchanges, and nothing is wrong with them
 pub record AreRun {T : Type 0} (s : Settings) (files : List File) (c : CheckedTree) (steps : List StepTree)
     (held : Held) (noted : Noted) (totals : T → Totals) (tag : T → ℕ) (before after : List T) : Type 0 where
-  pub files_dealt : held.files ≡ map (λ (f : File). (placed_file s.workers f.1).parts) files
-  pub numbers : map (λ (r : ℕ × List Rows). r.0) held.results ≡ map (λ (t : StepTree). t.statement) steps
-  pub rows : All (λ (t : StepTree). SameTables (meant (usual_placing s) files c (source.Result t.statement)).parts
-      (parts_held held (source.Result t.statement))) steps
+  pub held_as_meant : AreHeld (usual_placing s) files c steps held.files held.results
   pub plan : noted.plan ≡ flat_map (step_notes (usual_placing s) s.local (meant (usual_placing s) files c)) steps
   pub traffic : noted.traffic ≡ map (traffic_note s.workers) (numbered_exchanges s files c steps)
   pub receipts : AreShown (size_of s) (flat_map shown_moves (bare_exchanges s files c steps)) noted.receipts
@@ -94,6 +90,6 @@ pub record AreRun {T : Type 0} (s : Settings) (files : List File) (c : CheckedTr
 abbrev pub HoldsSource : Settings → List File → CheckedTree → Held → Source → Type 0
 HoldsSource s files c held o = SameTables (meant (usual_placing s) files c o).parts (parts_held held o)
 
--- so is what is held of the source of each store
+-- what is held of the source of each store is what it stands for
 abbrev pub HoldsStores : Settings → List File → CheckedTree → Held → Type 0
-HoldsStores s files c held = All (λ (t : StoreStep). HoldsSource s files c held t.source) c.stores
+HoldsStores s files c held = All (IsHeldStore (usual_placing s) files c held.files held.results) c.stores
