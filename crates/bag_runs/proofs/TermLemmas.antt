@@ -123,7 +123,7 @@ all-not-any p (x ∷ xs) = ap (λ b. p x && b) (all-not-any p xs) ∙ by (p x)
     by true = refl
     by false = refl
 
-sums-same : (kinds : Kinds) (a b : Rows) → SameBag a b → sums_fit kinds a ≡ sums_fit kinds b
+pub sums-same : (kinds : Kinds) (a b : Rows) → SameBag a b → sums_fit kinds a ≡ sums_fit kinds b
 sums-same kinds a b h =
     let fits : Row → Bool = λ row. list_all (λ p. sum_fits p.0 p.1) (zip kinds row) in
     all-not-any fits (groups kinds a)
@@ -261,7 +261,7 @@ rows-exchanged s kind given others parts more h k =
     (homes-alike given others s h) (tables-counts parts more k))
     no_exchange
 
-partials-exchanged : (s : Settings) (kinds : Kinds) (listed others parts more : List Rows) → SameTables listed others
+pub partials-exchanged : (s : Settings) (kinds : Kinds) (listed others parts more : List Rows) → SameTables listed others
     → SameTables parts more
     → AreSameExchanges s.workers (group_exchange (usual_placing s) kinds listed parts ∷ [])
     (group_exchange (usual_placing s) kinds others more ∷ [])

@@ -29,7 +29,7 @@ tables-long : (ts us : List Rows) → SameTables ts us → length us ≡ length 
 tables-long _ _ no_table = refl
 tables-long _ _ (a_table rows others tables rest h hs) = ap suc (tables-long tables rest hs)
 
-together-same : (ts us : List Rows) → SameTables ts us → SameBag (together ts) (together us)
+pub together-same : (ts us : List Rows) → SameTables ts us → SameBag (together ts) (together us)
 together-same _ _ no_table = IsPermutation-refl []
 together-same _ _ (a_table rows others tables rest h hs) =
     IsPermutation-append rows others (together tables) (together rest) h (together-same tables rest hs)
