@@ -2,3 +2,4 @@
 pub mod ListLemmas
 pub mod FaultLemmas
 pub mod JoinLemmas
+pub mod GroupLemmas
