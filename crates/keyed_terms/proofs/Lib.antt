@@ -1,1 +1,5 @@
 pub mod MakingLemmas
+pub mod MoveLemmas
+pub mod SpreadLemmas
+pub mod ConcludeLemmas
+pub mod BagLemmas
