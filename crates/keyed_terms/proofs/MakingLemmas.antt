@@ -1,17 +1,18 @@
 -- Rows that are made worker by worker.
-use Rattle.std.proofs.Common.{◌≡◌, ℕ, zero, suc, ◌+◌, ◌<◌, ◌≤◌, Bool, true, false, List, [], ◌∷◌, ◌++◌, length, get_or, refl, sym, ap, ◌∙◌, subst, arith, length-append, ⊎_elim}
-use Rattle.std.specs.Prelude.{◌&&◌}
+use Rattle.std.proofs.Common.{◌≡◌, ℕ, zero, suc, ◌+◌, ◌*◌, ◌^◌, ◌<◌, ◌≤◌, Bool, true, false, List, [], ◌∷◌, ◌++◌, length, get_or, refl, sym, ap, ◌∙◌, subst, arith, length-append, ⊎_elim}
+use Rattle.std.specs.Prelude.{◌&&◌, sum_by}
 use Rattle.std.specs.List.{list_all, flat_map, range_with_len}
 use Rattle.std.proofs.lemmas.Bool.{cases_lt}
 use Rattle.std.proofs.lemmas.List.{get_or_append_left, get_or_default}
 use Rattle.std.proofs.lemmas.List.{map-id}
 use Rattle.std.proofs.lemmas.List.FromFn.{map-range_with_len_more}
 use Rattle.std.proofs.lemmas.List.Concat.{length-flat_map}
-use Rattle.std.proofs.lemmas.List.Sums.{get_or-le-sum_by}
+use Rattle.std.proofs.lemmas.List.Sums.{get_or-le-sum_by, sum_by-le}
 use Rattle.rel_base.specs.Bags.{SameBag}
+use Rattle.rel_base.specs.Limits.{most_workers}
 use Rattle.myrial_ast.specs.Combinations.{Rows}
 use Rattle.myrial_ast.specs.Groups.{Kinds}
-use Rattle.myrial_ast.specs.Partials.{merged}
+use Rattle.myrial_ast.specs.Partials.{partial_rows, merged}
 use Rattle.aggregate_ops.specs.Forms.{merged_fits}
 use Rattle.placement.specs.Layouts.{together, by_worker}
 use Rattle.keyed_terms.specs.inner.Making.{AreMadeBy}
@@ -54,6 +55,20 @@ more-numbers n =
 pub more-workers : (f : ℕ → Rows) (w : ℕ) (made made' : List Rows) (rows : Rows) → made ≡ by_worker w f → rows ≡ f w → made' ≡ made ++ rows ∷ []
     → made' ≡ by_worker (w + 1) f
 more-workers f w made made' rows so here is = is ∙ (λ i. so i ++ here i ∷ []) ∙ sym (map-range_with_len_more f 0 w w (omega arith))
+
+-- ---- partial rows
+
+-- the first workers' partial rows, of few rows each
+pub record ArePartialSoFar (kinds : Kinds) (w : ℕ) (listed made : List Rows) : Type 0 where
+  pub rows : AreMadeBy w (λ w. partial_rows kinds (get_or listed w [])) made
+  pub few : (v : ℕ) → v < w → length (get_or listed v []) < 2 ^ 32
+
+pub few-together : (parts : List Rows) → length parts ≤ most_workers → ((v : ℕ) → v < length parts → length (get_or parts v []) < 2 ^ 32) → length (together parts) < 2 ^ 63
+few-together parts workers few =
+    let each : sum_by (λ (rows : Rows). length rows) parts ≤ length parts * 4294967296 =
+    sum_by-le (λ (rows : Rows). length rows) 4294967296 parts
+    (λ k d below. subst (λ (rows : Rows). length rows ≤ 4294967296) (get_or_default parts k [] d below) (omega (arith, few k below))) in
+    omega (arith, length-flat_map (λ (rows : Rows). rows) parts, each, workers)
 
 -- ---- merged rows
 

@@ -44,7 +44,15 @@ pub fn run_distinct<R: Threads + Wait + Sync, T: Tap + Send>(
     let (met, receipt) = spread_by_key(rt, alloc, parts, &columns, settings, taps)?;
     let made = distinct_each(alloc, &met)?;
     let receipts = one_receipt(alloc, receipt)?;
-    conclude(alloc, statement, Exchange::Distinct, &since, made, receipts, taps)
+    conclude(
+        alloc,
+        statement,
+        Exchange::Distinct,
+        &since,
+        made,
+        receipts,
+        taps,
+    )
 }
 
 /// The receipt of an exchange that has one.

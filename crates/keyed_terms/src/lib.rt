@@ -13,9 +13,13 @@
 
 mod columns;
 mod concluding;
+mod diffs;
 mod distincts;
+mod grouping;
 mod making;
 mod unions;
 
+pub use diffs::{Operands, run_diff};
 pub use distincts::run_distinct;
+pub use grouping::run_group;
 pub use unions::{empty_parts, union_parts};

@@ -60,7 +60,7 @@ conclude-requires-clause-unlisted g c =
     let totals = g.T.Tap.totals in
     let x = c.spread_by_key.ensures in
     let low : All (λ t. IsLow (totals t)) a.taps.now.items =
-        subst (All (λ t. IsLow (totals t))) c.as_slice.ensures.value (c.have_room.ensures.unlisted (search rules)) in
+    subst (All (λ t. IsLow (totals t))) c.as_slice.ensures.value (c.have_room.ensures.unlisted (search rules)) in
     told-low totals g.T.Tap.tag a.settings.now.workers x.sent_by x.got_by a.taps.now.items c.spread_by_key.new.taps.items x.told low
 
 pub conclude-requires-clause-risen : goal.conclude-requires-clause-risen
@@ -91,12 +91,12 @@ returns g c =
     let x = c.in_ok-met.ensures in
     let room : 2 * s.workers ≤ length before = omega (arith, c.requires.taps, a.taps.now.ok.0) in
     let read : AreSeconds totals s.workers before since =
-        subst (λ (since : List _). AreSeconds totals s.workers before since) (sym c.deref.ensures.value)
-        (subst (λ (taps : List _). AreSeconds totals s.workers taps c.in_ok-since.since.items) c.as_slice-2.ensures.value c.in_ok-since.ensures) in
+    subst (λ (since : List _). AreSeconds totals s.workers before since) (sym c.deref.ensures.value)
+    (subst (λ (taps : List _). AreSeconds totals s.workers taps c.in_ok-since.since.items) c.as_slice-2.ensures.value c.in_ok-since.ensures) in
     let spread =
-        spread-as s.seed (range_with_len 0 a.width) home parts parts (size_of s) x.sent_by x.got_by met c.in_ok-met.receipt (tables-refl parts)
-        (whole-home s.seed s.workers a.width parts c.requires.width)
-        (subst (λ (columns : List ℕ). IsSpread s.seed columns parts (size_of s) x.sent_by x.got_by met c.in_ok-met.receipt) c.in_ok-columns.ensures x.ok) in
+    spread-as s.seed (range_with_len 0 a.width) home parts parts (size_of s) x.sent_by x.got_by met c.in_ok-met.receipt (tables-refl parts)
+    (whole-home s.seed s.workers a.width parts c.requires.width)
+    (subst (λ (columns : List ℕ). IsSpread s.seed columns parts (size_of s) x.sent_by x.got_by met c.in_ok-met.receipt) c.in_ok-columns.ensures x.ok) in
     let rows = distinct-made s.workers (λ w row. home row == w) (together parts) met made spread.rows c.in_ok-made.ensures in
     let e : PlacedExchange = row_exchange (usual_placing s) exchange.Distinct (placed_rows parts ∷ []) (distinct_parts s parts) in
     concluded s a.statement (distinct_parts s parts) e totals tag before middle c.conclude.new.taps.items (λ u. get_or x.sent_by u 0) (λ w. get_or x.got_by w 0)
