@@ -116,3 +116,10 @@ module _ {T : Type 0} (s : Settings) (number : ℕ) (expected : List Rows) (e : 
   concluded fair (Err fault) x =
       run-failed s number expected (e ∷ []) totals tag IsRefused before after fault
       (fair-both totals tag before middle after fair (listed-fair totals tag made middle after listed)) tt
+
+-- where a run has a fault, whatever is answered for it
+pub run-faulty : {T F : Type 0} (s : Settings) (number : ℕ) (expected : List Rows) (exchanges : List PlacedExchange) (totals : T → Totals) (tag : T → ℕ)
+    (IsFault : F → Type 0) (before after : List T) (answer : Result Moved F) (fault : F) → answer ≡ Err fault → AreFair totals tag before after → IsFault fault
+    → IsTermRun s number expected exchanges totals tag IsFault before after answer
+run-faulty s number expected exchanges totals tag IsFault before after answer fault is fair wrong =
+    subst (IsTermRun s number expected exchanges totals tag IsFault before after) (sym is) (run-failed s number expected exchanges totals tag IsFault before after fault fair wrong)
