@@ -1,7 +1,7 @@
 -- A spread by key, as what goes to the homes of rows that are known as bags.
-use Rattle.std.proofs.Common.{◌≡◌, ℕ, zero, suc, ◌+◌, ◌<◌, ◌≤◌, ◌==◌, Bool, true, false, cond, List, [], ◌∷◌, ◌++◌, map, length, get_or, refl, sym, ap, ◌∙◌, subst, arith}
+use Rattle.std.proofs.Common.{◌≡◌, ℕ, ◌<◌, ◌==◌, Bool, cond, List, [], ◌∷◌, length, get_or, refl, sym, ap, ◌∙◌, subst, arith}
 use Rattle.std.specs.Prelude.{All, IsPermutation, filter}
-use Rattle.std.specs.List.{flat_map, range_with_len}
+use Rattle.std.specs.List.{range_with_len}
 use Rattle.std.proofs.lemmas.List.FromFn.{get_or-map-range_with_len, fill_by_all, length-range_with_len, get_or-range_with_len}
 use Rattle.std.proofs.lemmas.List.Elements.{All-head, All-tail, All-weaker}
 use Rattle.std.proofs.lemmas.List.Sorted.{IsPermutation-refl, IsPermutation-trans, IsPermutation-sym}
@@ -13,9 +13,8 @@ use Rattle.myrial_ast.specs.Combinations.{Row, Rows}
 use Rattle.bag_laws.specs.Permuted.{SameTables}
 use Rattle.bag_laws.proofs.RowPermutations.{filter_rows-same}
 use Rattle.hash_partition.specs.Hashing.{key_of, home_of}
-use Rattle.placement.specs.Layouts.{together, by_worker}
+use Rattle.placement.specs.Layouts.{together}
 use Rattle.placement.specs.Moves.{Move, moves_of, sent, received}
-use Rattle.placement.proofs.TogetherLemmas.{same_list}
 use Rattle.regular_shuffle.specs.KeySpreads.{HasColumns, key_home, moves_by_key, IsSpread}
 use Rattle.row_exchange.specs.declared.routes.Size.{Size}
 use Rattle.term_runs.specs.TermRuns.{ShowsRows}

@@ -1,9 +1,9 @@
 -- The rows of two operands that met at the homes of all their columns.
-use Rattle.std.specs.Prelude.{◌≡◌, ℕ, ◌==◌, List, [], ◌∷◌, filter, All, Result, IfOk}
+use Rattle.std.specs.Prelude.{ℕ, ◌==◌, List, [], ◌∷◌, filter, All, Result, IfOk}
 use Rattle.rel_base.specs.declared.failure.Memory.{Memory}
 use Rattle.rel_io.specs.declared.taps.Totals.{Totals}
 use Rattle.exchange_channels.specs.Wirings.{ReceiptState}
-use Rattle.myrial_ast.specs.Combinations.{Row, Rows}
+use Rattle.myrial_ast.specs.Combinations.{Rows}
 use Rattle.algebra.specs.declared.notes.Exchange.TheVariants as exchange
 use Rattle.algebra.specs.declared.settings.Settings.{Settings}
 use Rattle.hash_partition.specs.Hashing.{home_of}

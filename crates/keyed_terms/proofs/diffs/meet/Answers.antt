@@ -1,10 +1,9 @@
-use Rattle.std.proofs.Common.{◌≡◌, ◌*◌, ◌≤◌, ℕ, List, length, All, sym, subst, arith, rules}
+use Rattle.std.proofs.Common.{◌*◌, ◌≤◌, ℕ, List, length, All, sym, subst, arith, rules}
 use Rattle.std.specs.List.{range_with_len}
 use Rattle.myrial_ast.specs.Combinations.{Row}
 use Rattle.hash_partition.specs.Hashing.{home_of}
 use Rattle.placed_joins.specs.PlacedJoins.{size_of}
 use Rattle.regular_shuffle.specs.KeySpreads.{HasColumns, IsSpread}
-use Rattle.worker_joins.specs.Listings.{IsLow}
 use Rattle.term_runs.proofs.TapLemmas.{told-fair, fair-both}
 use Rattle.keyed_terms.proofs.ConcludeLemmas.{told-low}
 use Rattle.keyed_terms.proofs.MeetLemmas.{meeting-failed, have-met}
@@ -109,11 +108,11 @@ returns g c =
     let room : 2 * s.workers ≤ length before = omega (arith, c.requires.taps, a.taps.now.ok.0) in
     let there : 2 * s.workers ≤ length middle = omega (arith, room, x.told.count) in
     let one =
-        spread-as s.seed (range_with_len 0 width) home left left (size_of s) x.sent_by x.got_by met first (tables-refl left) (whole-home s.seed s.workers width left c.requires.left_width)
-        (subst (λ (columns : List ℕ). IsSpread s.seed columns left (size_of s) x.sent_by x.got_by met first) c.requires.columns x.ok) in
+    spread-as s.seed (range_with_len 0 width) home left left (size_of s) x.sent_by x.got_by met first (tables-refl left) (whole-home s.seed s.workers width left c.requires.left_width)
+    (subst (λ (columns : List ℕ). IsSpread s.seed columns left (size_of s) x.sent_by x.got_by met first) c.requires.columns x.ok) in
     let two =
-        spread-as s.seed (range_with_len 0 width) home right right (size_of s) y.sent_by y.got_by others second (tables-refl right) (whole-home s.seed s.workers width right c.requires.right_width)
-        (subst (λ (columns : List ℕ). IsSpread s.seed columns right (size_of s) y.sent_by y.got_by others second) c.requires.columns y.ok) in
+    spread-as s.seed (range_with_len 0 width) home right right (size_of s) y.sent_by y.got_by others second (tables-refl right) (whole-home s.seed s.workers width right c.requires.right_width)
+    (subst (λ (columns : List ℕ). IsSpread s.seed columns right (size_of s) y.sent_by y.got_by others second) c.requires.columns y.ok) in
     record {
       fair =
           fair-both totals tag before middle after (told-fair totals tag s.workers x.sent_by x.got_by before middle room x.told)

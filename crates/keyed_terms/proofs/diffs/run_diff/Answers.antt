@@ -1,4 +1,4 @@
-use Rattle.std.proofs.Common.{◌≡◌, ◌*◌, ◌≤◌, ◌==◌, ℕ, List, [], ◌∷◌, length, get_or, refl, sym, subst, arith}
+use Rattle.std.proofs.Common.{◌*◌, ◌≤◌, ◌==◌, ℕ, List, [], ◌∷◌, length, refl, sym, subst, arith}
 use Rattle.std.specs.Prelude.{filter}
 use Rattle.myrial_ast.specs.Bags.{difference}
 use Rattle.myrial_ast.specs.Combinations.{Row}
@@ -34,8 +34,8 @@ returns g c =
     let x = c.in_ok-met.ensures in
     let room : 2 * s.workers ≤ length before = omega (arith, c.requires.taps, a.taps.now.ok.0) in
     let read : AreSeconds totals s.workers before since =
-        subst (λ (since : List _). AreSeconds totals s.workers before since) (sym c.deref.ensures.value)
-        (subst (λ (taps : List _). AreSeconds totals s.workers taps c.in_ok-since.since.items) c.as_slice-2.ensures.value c.in_ok-since.ensures) in
+    subst (λ (since : List _). AreSeconds totals s.workers before since) (sym c.deref.ensures.value)
+    (subst (λ (taps : List _). AreSeconds totals s.workers taps c.in_ok-since.since.items) c.as_slice-2.ensures.value c.in_ok-since.ensures) in
     let rows = difference-made s.workers (λ w row. home row == w) (together left) (together right) met others made x.ok.met_are x.ok.others_are c.in_ok-made.ensures in
     let e : PlacedExchange = row_exchange (usual_placing s) exchange.Diff (placed_rows left ∷ placed_rows right ∷ []) (diff_parts s left right) in
     concluded s a.statement (diff_parts s left right) e totals tag before middle c.conclude.new.taps.items (sent e.moves) (received e.moves)

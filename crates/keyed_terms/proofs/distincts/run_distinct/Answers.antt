@@ -1,7 +1,6 @@
-use Rattle.std.proofs.Common.{◌≡◌, ◌*◌, ◌<◌, ◌≤◌, ◌==◌, ℕ, List, [], ◌∷◌, length, get_or, All, refl, sym, ap, ◌∙◌, subst, arith, rules}
+use Rattle.std.proofs.Common.{◌*◌, ◌≤◌, ◌==◌, ℕ, List, [], ◌∷◌, length, get_or, All, refl, sym, subst, arith, rules}
 use Rattle.std.specs.Prelude.{filter}
 use Rattle.std.specs.List.{range_with_len}
-use Rattle.exchange_channels.specs.Wirings.{ReceiptState}
 use Rattle.myrial_ast.specs.Combinations.{Row}
 use Rattle.hash_partition.specs.Hashing.{home_of}
 use Rattle.myrial_ast.specs.Bags.{distinct}
@@ -10,10 +9,10 @@ use Rattle.placement.specs.Exchanges.{PlacedExchange, row_exchange}
 use Rattle.placement.specs.Plans.{usual_placing}
 use Rattle.placement.specs.Layouts.{together}
 use Rattle.placed_joins.specs.PlacedJoins.{size_of, placed_rows}
-use Rattle.regular_shuffle.specs.KeySpreads.{HasColumns, IsSpread, IsSpreadByKey}
+use Rattle.regular_shuffle.specs.KeySpreads.{HasColumns, IsSpread}
 use Rattle.worker_joins.specs.Listings.{IsLow}
 use Rattle.term_runs.specs.Notes.{AreSeconds, HaveRisen}
-use Rattle.term_runs.specs.TermRuns.{AreShown, no_receipt, a_receipt, AreFair}
+use Rattle.term_runs.specs.TermRuns.{AreShown, no_receipt, a_receipt}
 use Rattle.term_runs.proofs.TapLemmas.{added-told, told-fair}
 use Rattle.term_runs.proofs.NoteLemmas.{risen-added}
 use Rattle.keyed_terms.specs.KeyedTerms.{distinct_parts, distinct_exchanges}

@@ -1,4 +1,4 @@
-use Rattle.std.proofs.Common.{◌≡◌, ◌+◌, ◌<◌, ◌++◌, [], length, get_or, sym, subst, ℕ, arith}
+use Rattle.std.proofs.Common.{◌+◌, ◌<◌, [], length, get_or, sym, subst, ℕ, arith}
 use Rattle.rel_base.specs.Bags.{SameBag}
 use Rattle.myrial_ast.specs.Bags.{difference}
 use Rattle.myrial_ast.specs.Combinations.{Rows}

@@ -1,4 +1,4 @@
-use Rattle.std.proofs.Common.{◌≡◌, ◌+◌, ◌<◌, ◌^◌, ◌++◌, [], length, map, get_or, sym, ap, subst, ℕ, arith, below_more}
+use Rattle.std.proofs.Common.{◌+◌, ◌<◌, ◌^◌, [], length, map, get_or, sym, subst, ℕ, arith, below_more}
 use Rattle.rel_base.specs.Bags.{SameBag}
 use Rattle.myrial_ast.specs.Combinations.{Rows}
 use Rattle.myrial_ast.specs.Partials.{partial_rows}

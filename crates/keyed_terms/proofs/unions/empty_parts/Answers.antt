@@ -1,4 +1,4 @@
-use Rattle.std.proofs.Common.{[], length, ap, ◌∙◌, ℕ, arith}
+use Rattle.std.proofs.Common.{[], length, ap, arith}
 use Rattle.std.proofs.lemmas.List.FromFn.{length-map-range_with_len}
 use Rattle.myrial_ast.specs.Combinations.{Rows}
 use Rattle.keyed_terms.proofs.MakingLemmas.{more-workers}

@@ -1,6 +1,5 @@
-use Rattle.std.proofs.Common.{◌≡◌, ◌<◌, ◌++◌, [], length, get_or, ap, ◌∙◌, ℕ, arith}
+use Rattle.std.proofs.Common.{◌<◌, ◌++◌, [], length, get_or, ap, ◌∙◌, arith}
 use Rattle.std.proofs.lemmas.List.FromFn.{length-map-range_with_len}
-use Rattle.myrial_ast.specs.Combinations.{Rows}
 use Rattle.keyed_terms.proofs.MakingLemmas.{rows-at, few-at, more-workers}
 use Rattle.keyed_terms.proofs.unions.union_parts.Goals as goal
 
