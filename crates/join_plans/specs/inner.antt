@@ -1,0 +1,3 @@
+-- Words of private functions.
+pub mod Spans
+pub mod Counts
