@@ -1,4 +1,4 @@
--- The shares of least load, and the atom that stays.
+-- The shares of least load.
 use Rattle.std.proofs.Common.{◌≡◌, ℕ, zero, suc, ◌+◌, ◌<◌, ◌≤◌, Bool, true, false, List, [], ◌∷◌, length, get_or, take, refl, sym, ap, ◌∙◌, subst, arith}
 use Rattle.std.specs.Prelude.{◌-◌, find, Some, unwrap_or, not, nat_lt, sum_by}
 use Rattle.std.specs.List.{range_with_len, zip, list_any}
@@ -35,69 +35,3 @@ pub least-is-best : (uses sizes kept : List ℕ) (variables workers : ℕ) (shar
 least-is-best uses sizes kept variables workers shares some long front least =
     (best_is_least uses kept variables workers some).1 shares
     (subst (λ s. IsLeastLoad uses s variables workers shares) (ap (λ n. take n sizes) long ∙ front) (least-taken uses sizes variables workers shares least))
-
--- ---- the atom that stays
-
--- the first number that passes is found
-pub find-first : (p : ℕ → Bool) (a n s : ℕ) → a ≤ s → s < a + n → p s ≡ true → ((k : ℕ) → a ≤ k → k < s → p k ≡ false) → find p (range_with_len a n) ≡ Some s
-find-first p a zero s from to good before = absurd (omega arith)
-find-first p a (suc n) s from to good before =
-    by (nat_lt a s) refl (λ less. find-first p (a + 1) n s (omega arith) (omega arith) good (λ k low high. before k (omega arith) high))
-  where
-    by : (b : Bool) → nat_lt a s ≡ b → (a < s → find p (range_with_len (a + 1) n) ≡ Some s) → find p (range_with_len a (suc n)) ≡ Some s
-    by true e rest = let less = ltb-true a s e in let other = before a (omega arith) less in rw other (rest less)
-    by false e rest =
-        let same : a ≡ s = omega (arith, ltb-false a s e) in
-        let here : p a ≡ true = ap p same ∙ good in
-        rw here (ap Some same)
-
--- no number of a list is over one that none exceeds, and some is over one that is exceeded
-none-over : (m : ℕ) (xs : List ℕ) → ((k : ℕ) → k < length xs → get_or xs k 0 ≤ m) → list_any (nat_lt m) xs ≡ false
-none-over m [] all = refl
-none-over m (x ∷ xs) all =
-    or_from (nat_lt m x) (list_any (nat_lt m) xs) (le-ltb m x (all 0 (omega arith))) (none-over m xs (λ k low. all (suc k) (omega arith)))
-
-some-over : (m : ℕ) (xs : List ℕ) (k : ℕ) → k < length xs → m < get_or xs k 0 → list_any (nat_lt m) xs ≡ true
-some-over m [] k low over = absurd (omega arith)
-some-over m (x ∷ xs) zero low over = or_left (nat_lt m x) (list_any (nat_lt m) xs) (lt-ltb m x over)
-some-over m (x ∷ xs) (suc k) low over = or_right (nat_lt m x) (list_any (nat_lt m) xs) (some-over m xs k (omega arith) over)
-
--- what is known of the atom that stays after the first i sizes
-pub record IsMostOf (kept : List ℕ) (i s : ℕ) : Type 0 where
-  pub low : s ≤ i - 1
-  pub most : (k : ℕ) → k < i → get_or kept k 0 ≤ get_or kept s 0
-  pub first : (k : ℕ) → k < s → get_or kept k 0 < get_or kept s 0
-
-pub most-none : (kept : List ℕ) → IsMostOf kept 0 0
-most-none kept = record { low = omega arith; most = λ k low. absurd (omega arith); first = λ k low. absurd (omega arith) }
-
-one-more : (kept : List ℕ) (i m k : ℕ) → (k < i → get_or kept k 0 ≤ m) → get_or kept i 0 ≤ m → k < i + 1 → get_or kept k 0 ≤ m
-one-more kept i m k before here low = by (nat_lt k i) refl
-  where
-    by : (b : Bool) → nat_lt k i ≡ b → get_or kept k 0 ≤ m
-    by true e = before (ltb-true k i e)
-    by false e = let same : i ≡ k = omega (arith, ltb-false k i e) in subst (λ j. get_or kept j 0 ≤ m) same here
-
-pub most-new : (kept : List ℕ) (i s : ℕ) → get_or kept s 0 < get_or kept i 0 → IsMostOf kept i s → IsMostOf kept (i + 1) i
-most-new kept i s over so = record {
-  low = omega arith;
-  most = λ k low. one-more kept i (get_or kept i 0) k (λ less. omega (arith, so.most k less)) (omega arith) low;
-  first = λ k low. omega (arith, so.most k low);
-}
-
-pub most-old : (kept : List ℕ) (i s : ℕ) → get_or kept i 0 ≤ get_or kept s 0 → IsMostOf kept i s → IsMostOf kept (i + 1) s
-most-old kept i s under so = record {
-  low = omega (arith, so.low);
-  most = λ k low. one-more kept i (get_or kept s 0) k (so.most k) under low;
-  first = so.first;
-}
-
--- after all sizes it is the first of the greatest
-pub most-stays : (kept : List ℕ) (s : ℕ) → IsMostOf kept (length kept) s → s ≡ staying_of kept
-most-stays [] s so = omega (arith, so.low)
-most-stays (size ∷ kept) s so =
-    let all = size ∷ kept in
-    let good : is_most (size ∷ kept) s ≡ true = ap not (none-over (get_or all s 0) all so.most) in
-    let none : (k : ℕ) → 0 ≤ k → k < s → is_most (size ∷ kept) k ≡ false =
-    λ k from low. ap not (some-over (get_or all k 0) all s (omega (arith, so.low)) (so.first k low)) in
-    sym (ap (λ found. unwrap_or found 0) (find-first (is_most all) 0 (length all) s (omega arith) (omega (arith, so.low)) good none))

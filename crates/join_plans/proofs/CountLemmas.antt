@@ -5,7 +5,7 @@ use Rattle.std.specs.List.{enumerate_from, list_any}
 use Rattle.std.proofs.lemmas.List.{take_more, length-take}
 use Rattle.std.proofs.lemmas.List.Elements.{filter-append}
 use Rattle.std.proofs.lemmas.List.Sums.{sum_by_push, sum_by_more}
-use Rattle.std.proofs.lemmas.Simd.{map-map}
+use Rattle.std.proofs.lemmas.Bool.{lt-ltb}
 use Rattle.myrial_ast.specs.declared.scalars.Scalar as code
 use Rattle.myrial_ast.specs.ScalarTrees.{scalar_tree_of}
 use Rattle.myrial_ast.specs.Scalars.{Scalar}
@@ -50,7 +50,7 @@ some-pass p [] = refl
 some-pass p (x ∷ xs) = by (p x) refl (some-pass p xs)
   where
     by : (b : Bool) → p x ≡ b → list_any p xs ≡ nat_lt 0 (length (filter p xs)) → list_any p (x ∷ xs) ≡ nat_lt 0 (length (filter p (x ∷ xs)))
-    by true e rest = rw e refl
+    by true e rest = rw e (sym (lt-ltb 0 (suc (length (filter p xs))) (omega arith)))
     by false e rest = rw e rest
 
 -- the ties of one variable more
