@@ -31,3 +31,4 @@ mod staying;
 
 pub use broadcasting::broadcast_join;
 pub use spreading::spread_by_key;
+pub use staying::staying_atom;

@@ -1,0 +1,3 @@
+-- The words of this crate.
+pub mod JoinPlans
+pub mod inner

@@ -1,0 +1,4 @@
+-- Words of private functions.
+pub mod Spans
+pub mod Counts
+pub mod Lines
