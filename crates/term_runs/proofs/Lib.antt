@@ -1,1 +1,3 @@
-mod TellingLemmas
+pub mod TellingLemmas
+pub mod TapLemmas
+pub mod ReceiptLemmas

@@ -1,2 +1,3 @@
 -- The words of this crate, lowest first.
 pub mod TermRuns
+pub mod Laws

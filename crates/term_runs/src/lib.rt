@@ -4,12 +4,17 @@
 //! Stands on `placement` for exchanges, on `placed_joins` for sizes, and on the crates of the exchange for receipts and taps.
 //!
 //! Promises: `tell_listed` tells the taps what each worker lists; `have_room` says whether every sum of taps is far from its end.
+//! By the laws what exchanges tell one after another is what all of them tell.
 //!
-//! Read `specs/TermRuns.antt`, then `telling.rt`.
+//! Read `specs/TermRuns.antt`, then `telling.rt` and `specs/Laws.antt`.
 #![tactic(auto)]
 
+mod laws;
 mod moved;
 mod telling;
 
+pub use laws::{
+    fairness_is_kept, moves_are_joined, receipts_show_moves, runs_are_joined, told_is_moved,
+};
 pub use moved::Moved;
 pub use telling::{have_room, tell_listed};

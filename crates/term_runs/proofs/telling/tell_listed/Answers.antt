@@ -1,4 +1,4 @@
-use Rattle.std.proofs.Common.{◌≡◌, ◌≤◌, ℕ, List, length, subst, arith, sym, ap}
+use Rattle.std.proofs.Common.{◌≡◌, ℕ, List, length, subst, arith, ap}
 use Rattle.myrial_ast.specs.Combinations.{Rows}
 use Rattle.term_runs.proofs.TellingLemmas.{IsToldSoFar, all-told}
 use Rattle.term_runs.proofs.telling.tell_listed.Goals as goal

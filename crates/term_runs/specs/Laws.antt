@@ -1,0 +1,70 @@
+-- The laws by which what exchanges tell is put together.
+--
+--   MovesAreJoined          taps that rose by some exchanges and then by others rose by all of them
+--   FairnessIsKept          taps that stay even step by step stay even, and so they do in each exchange
+--   ToldIsMoved             what the taps are told of an exchange, and of rows listed behind it, is what it moves
+--   ReceiptsShowMoves       receipts of moves show their rows
+--   RunsAreJoined           receipts and runs, one after another
+use Rattle.std.specs.Prelude.{◌≡◌, ℕ, ◌*◌, ◌<◌, ◌≤◌, List, [], ◌∷◌, ◌++◌, length, All}
+use Rattle.rel_base.specs.Limits.{most_items}
+use Rattle.rel_io.specs.declared.taps.Totals.{Totals}
+use Rattle.exchange_channels.specs.Wirings.{ReceiptState}
+use Rattle.myrial_ast.specs.Combinations.{Rows}
+use Rattle.algebra.specs.declared.settings.Settings.{Settings}
+use Rattle.placement.specs.Exchanges.{PlacedExchange, row_counts}
+use Rattle.placement.specs.Layouts.{by_worker}
+use Rattle.placement.specs.Moves.{Move, sent, received}
+use Rattle.row_exchange.specs.declared.routes.Size.{Size}
+use Rattle.row_exchange.specs.Exchanges.{IsTold}
+use Rattle.route_moves.specs.Moved.{ShowsMoves}
+use Rattle.worker_joins.specs.RouteJoins.{AreCounted}
+use Rattle.term_runs.specs.declared.moved.Moved.{Moved}
+use Rattle.term_runs.specs.TermRuns.{ShowsRows, AreShown, all_sent, all_received, all_listed, AreMoved, AreFair, IsListedAt, IsMoved}
+
+module _ {T : Type 0} (totals : T → Totals) (tag : T → ℕ) where
+  -- taps rise by no exchange where nothing is done, and by all exchanges where by some and then by others
+  pub record MovesAreJoined : Type 0 where
+    pub none : (n : ℕ) (taps : List T) → AreMoved totals tag n [] taps taps
+    pub joined : (n : ℕ) (es fs : List PlacedExchange) (before middle after : List T)
+        → AreMoved totals tag n es before middle → AreMoved totals tag n fs middle after
+        → AreMoved totals tag n (es ++ fs) before after
+
+  -- taps stay even where nothing is done, where they do in each of two steps, in an exchange and where rows are listed
+  pub record FairnessIsKept : Type 0 where
+    pub none : (taps : List T) → AreFair totals tag taps taps
+    pub joined : (before middle after : List T) → AreFair totals tag before middle → AreFair totals tag middle after
+        → AreFair totals tag before after
+    pub told : (n : ℕ) (sent got : List ℕ) (before after : List T) → 2 * n ≤ length before
+        → IsTold totals tag n sent got before after → AreFair totals tag before after
+    pub listed : (parts : List Rows) (before after : List T) → IsListedAt totals tag parts before after
+        → AreFair totals tag before after
+    pub counted : (n : ℕ) (sent got listed : List ℕ) (before after : List T) → 2 * n ≤ length before
+        → AreCounted totals tag n sent got listed before after → AreFair totals tag before after
+
+  -- what the taps are told of an exchange and then of listed rows is what it moves, and so is what they are told of the joins of
+  -- some exchanges
+  pub record ToldIsMoved : Type 0 where
+    pub told : (n : ℕ) (e : PlacedExchange) (sent_by got_by : List ℕ) (parts : List Rows) (before middle after : List T)
+        → IsTold totals tag n sent_by got_by before middle → IsListedAt totals tag parts middle after → length parts ≡ n
+        → sent_by ≡ by_worker n (sent e.moves) → got_by ≡ by_worker n (received e.moves) → e.listed ≡ row_counts parts
+        → AreMoved totals tag n (e ∷ []) before after
+    pub counted : (n : ℕ) (es : List PlacedExchange) (sent_by got_by listed_by : List ℕ) (before after : List T)
+        → AreCounted totals tag n sent_by got_by listed_by before after
+        → sent_by ≡ by_worker n (all_sent es) → got_by ≡ by_worker n (all_received es) → listed_by ≡ by_worker n (all_listed es)
+        → AreMoved totals tag n es before after
+
+-- a receipt of moves, of few atoms, shows their rows
+abbrev pub ReceiptsShowMoves : Type 0
+ReceiptsShowMoves =
+    (moves : List Move) (atoms : ℕ) (size : Size) (receipt : ReceiptState) → atoms ≤ most_items
+    → All (λ (m : Move). m.atom < atoms) moves → ShowsMoves moves atoms size receipt → ShowsRows size moves receipt
+
+-- receipts, and runs, one after another
+pub record RunsAreJoined : Type 0 where
+  pub receipts : (size : Size) (moves others : List (List Move)) (receipts more : List ReceiptState)
+      → AreShown size moves receipts → AreShown size others more → AreShown size (moves ++ others) (receipts ++ more)
+  pub runs : (s : Settings) (number : ℕ) (middle expected : List Rows) (es fs : List PlacedExchange) (first second made : Moved)
+      → IsMoved s number middle es first → IsMoved s number expected fs second
+      → made.parts ≡ second.parts → made.traffic ≡ first.traffic ++ second.traffic
+      → made.receipts ≡ first.receipts ++ second.receipts
+      → IsMoved s number expected (es ++ fs) made
