@@ -1,3 +1,5 @@
 pub mod TellingLemmas
 pub mod TapLemmas
 pub mod ReceiptLemmas
+pub mod NoteLemmas
+pub mod RunLemmas

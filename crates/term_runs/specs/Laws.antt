@@ -3,6 +3,7 @@
 --   MovesAreJoined          taps that rose by some exchanges and then by others rose by all of them
 --   FairnessIsKept          taps that stay even step by step stay even, and so they do in each exchange
 --   ToldIsMoved             what the taps are told of an exchange, and of rows listed behind it, is what it moves
+--   NotesTellMoves          the numbers that are read off the taps are those of the exchange
 --   ReceiptsShowMoves       receipts of moves show their rows
 --   RunsAreJoined           receipts and runs, one after another
 use Rattle.std.specs.Prelude.{◌≡◌, ℕ, ◌*◌, ◌<◌, ◌≤◌, List, [], ◌∷◌, ◌++◌, length, All}
@@ -10,8 +11,9 @@ use Rattle.rel_base.specs.Limits.{most_items}
 use Rattle.rel_io.specs.declared.taps.Totals.{Totals}
 use Rattle.exchange_channels.specs.Wirings.{ReceiptState}
 use Rattle.myrial_ast.specs.Combinations.{Rows}
+use Rattle.algebra.specs.declared.notes.Traffic.{Traffic}
 use Rattle.algebra.specs.declared.settings.Settings.{Settings}
-use Rattle.placement.specs.Exchanges.{PlacedExchange, row_counts}
+use Rattle.placement.specs.Exchanges.{PlacedExchange, row_counts, traffic_note}
 use Rattle.placement.specs.Layouts.{by_worker}
 use Rattle.placement.specs.Moves.{Move, sent, received}
 use Rattle.row_exchange.specs.declared.routes.Size.{Size}
@@ -19,6 +21,7 @@ use Rattle.row_exchange.specs.Exchanges.{IsTold}
 use Rattle.route_moves.specs.Moved.{ShowsMoves}
 use Rattle.worker_joins.specs.RouteJoins.{AreCounted}
 use Rattle.term_runs.specs.declared.moved.Moved.{Moved}
+use Rattle.term_runs.specs.Notes.{AreSeconds, HaveRisen, IsNoteSince}
 use Rattle.term_runs.specs.TermRuns.{ShowsRows, AreShown, all_sent, all_received, all_listed, AreMoved, AreFair, IsListedAt, IsMoved}
 
 module _ {T : Type 0} (totals : T → Totals) (tag : T → ℕ) where
@@ -52,6 +55,15 @@ module _ {T : Type 0} (totals : T → Totals) (tag : T → ℕ) where
         → AreCounted totals tag n sent_by got_by listed_by before after
         → sent_by ≡ by_worker n (all_sent es) → got_by ≡ by_worker n (all_received es) → listed_by ≡ by_worker n (all_listed es)
         → AreMoved totals tag n es before after
+
+  -- where the taps rose by exchanges, sums of second taps that were read before have risen; and the numbers that are read off since
+  -- one exchange are those of its note
+  pub record NotesTellMoves : Type 0 where
+    pub risen : (n : ℕ) (es : List PlacedExchange) (before after : List T) (since : List Totals)
+        → AreSeconds totals n before since → AreMoved totals tag n es before after → HaveRisen totals since after
+    pub note : (n number : ℕ) (e : PlacedExchange) (before after : List T) (since : List Totals) (note : Traffic)
+        → 2 * n ≤ length before → length e.listed ≡ n → AreMoved totals tag n (e ∷ []) before after
+        → AreSeconds totals n before since → IsNoteSince totals number e.kind since after note → note ≡ traffic_note n (number, e)
 
 -- a receipt of moves, of few atoms, shows their rows
 abbrev pub ReceiptsShowMoves : Type 0

@@ -1,5 +1,5 @@
 //! The laws by which what exchanges tell is put together.
-ghost use Rattle.term_runs.specs.Laws.{MovesAreJoined, FairnessIsKept, ToldIsMoved, ReceiptsShowMoves, RunsAreJoined};
+ghost use Rattle.term_runs.specs.Laws.{MovesAreJoined, FairnessIsKept, ToldIsMoved, NotesTellMoves, ReceiptsShowMoves, RunsAreJoined};
 
 use rel_io::Tap;
 
@@ -16,6 +16,11 @@ pub fn fairness_is_kept<T: Tap>()
 /// Law: what the taps are told of an exchange, and of the rows listed behind it, is what it moves.
 pub fn told_is_moved<T: Tap>()
     ensures { ToldIsMoved T.totals T.tag }
+{}
+
+/// Law: the numbers that are read off the taps are those of the exchange.
+pub fn notes_tell_moves<T: Tap>()
+    ensures { NotesTellMoves T.totals T.tag }
 {}
 
 /// Law: receipts of moves show their rows.

@@ -9,7 +9,7 @@ returns g c =
     let totals = g.T.Tap.totals in
     let tag = g.T.Tap.tag in
     let end : c.loop-w.w ≡ length a.parts.now =
-        omega (arith, c.loop-w-test.false, c.loop-w.auto.w-end, ap length c.as_slice-rows-items.ensures.value) in
+    omega (arith, c.loop-w-test.false, c.loop-w.auto.w-end, ap length c.as_slice-rows-items.ensures.value) in
     all-told totals tag a.parts.now a.taps.now.items c.loop-w.taps.items
     (subst (λ (x : ℕ × List Rows). IsToldSoFar totals tag x.0 x.1 a.taps.now.items c.loop-w.taps.items)
     (λ i. (end i, c.as_slice-rows-items.ensures.value i)) c.loop-w.invariant)

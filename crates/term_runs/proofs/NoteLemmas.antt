@@ -1,0 +1,95 @@
+-- Numbers that are read off taps.
+use Rattle.std.proofs.Common.{◌≡◌, ℕ, ◌+◌, ◌*◌, ◌<◌, ◌≤◌, List, [], ◌∷◌, length, get_or, refl, sym, ap, ◌∙◌, arith, ⊎_elim}
+use Rattle.std.proofs.lemmas.Bool.{cases_lt}
+use Rattle.std.proofs.lemmas.List.FromFn.{fill_by_all}
+use Rattle.rel_io.specs.declared.taps.Totals.{Totals}
+use Rattle.exchange_channels.proofs.DeliveryLemmas.{element}
+use Rattle.myrial_ast.specs.Combinations.{Rows}
+use Rattle.algebra.specs.declared.notes.Traffic.{Traffic}
+use Rattle.placement.specs.Exchanges.{PlacedExchange, traffic_note}
+use Rattle.placement.specs.Layouts.{by_worker}
+use Rattle.placement.specs.Moves.{received}
+use Rattle.term_runs.specs.TermRuns.{AreMoved, IsListedAt}
+use Rattle.term_runs.specs.Notes.{AreSeconds, HaveRisen, IsNoteSince}
+use Rattle.term_runs.specs.Laws.{NotesTellMoves}
+use Rattle.term_runs.proofs.TapLemmas.{AreAdded, moved-added}
+
+module _ {T : Type 0} (totals : T → Totals) where
+  -- the numbers of the first workers
+  pub record AreCountedSoFar (told : ℕ) (since : List Totals) (taps : List T) (received_by listed_by : List ℕ) : Type 0 where
+    pub received_by_all : length received_by ≡ told
+    pub listed_by_all : length listed_by ≡ told
+    pub received_is : (w : ℕ) (d : T) (e : Totals) → w < told
+        → (get_or since w e).got + get_or received_by w 0 ≡ (totals (get_or taps (2 * w + 1) d)).got
+    pub listed_is : (w : ℕ) (d : T) (e : Totals) → w < told
+        → (get_or since w e).listed + get_or listed_by w 0 ≡ (totals (get_or taps (2 * w + 1) d)).listed
+
+  -- sums that were read before something was added
+  pub risen-added : (tag : T → ℕ) (n : ℕ) (s g l : ℕ → ℕ) (before after : List T) (since : List Totals) → AreSeconds totals n before since
+      → AreAdded totals tag n s g l before after → HaveRisen totals since after
+  risen-added tag n s g l before after since read x = record {
+    got = λ w d e below.
+        let inside : w < n = omega (arith, below, read.count) in
+        omega (arith, ap (λ (t : Totals). t.got) (read.sums_are w d e inside), ap (λ (t : Totals). t.got) (x.seconds w d inside));
+    listed = λ w d e below.
+        let inside : w < n = omega (arith, below, read.count) in
+        omega (arith, ap (λ (t : Totals). t.listed) (read.sums_are w d e inside), ap (λ (t : Totals). t.listed) (x.seconds w d inside));
+  }
+
+  -- and before rows were listed behind it
+  pub risen-listed : (tag : T → ℕ) (parts : List Rows) (before after : List T) (since : List Totals) → HaveRisen totals since before
+      → IsListedAt totals tag parts before after → HaveRisen totals since after
+  risen-listed tag parts before after since risen l = record {
+    got = λ w d e below.
+        ⊎_elim
+        (λ (h : w < length parts). omega (arith, risen.got w d e below, ap (λ (t : Totals). t.got) (l.seconds w d h)))
+        (λ (h : length parts ≤ w). omega (arith, risen.got w d e below, ap (λ (t : T). (totals t).got) (l.others (2 * w + 1) d (omega (arith, h)))))
+        (cases_lt w (length parts));
+    listed = λ w d e below.
+        ⊎_elim
+        (λ (h : w < length parts). omega (arith, risen.listed w d e below, ap (λ (t : Totals). t.listed) (l.seconds w d h)))
+        (λ (h : length parts ≤ w). omega (arith, risen.listed w d e below, ap (λ (t : T). (totals t).listed) (l.others (2 * w + 1) d (omega (arith, h)))))
+        (cases_lt w (length parts));
+  }
+
+  -- ---- the note of an exchange
+
+  module _ (tag : T → ℕ) (n number : ℕ) (e : PlacedExchange) (before after : List T) (since : List Totals) (note : Traffic)
+      (room : 2 * n ≤ length before) (all_listed : length e.listed ≡ n) (moved : AreMoved totals tag n (e ∷ []) before after)
+      (read : AreSeconds totals n before since) (is : IsNoteSince totals number e.kind since after note) where
+    received-at : (w : ℕ) → w < n → get_or note.received w 0 ≡ received e.moves w
+    received-at w below =
+        let d = element before (2 * w + 1) (omega (arith, below, room)) in
+        let t = totals d in
+        omega (
+          arith,
+          is.received_is w d t (omega (arith, below, read.count)),
+          ap (λ (t : Totals). t.got) (read.sums_are w d t below),
+          ap (λ (t : Totals). t.got) (moved.seconds w d below),
+        )
+
+    listed-at : (w : ℕ) → w < n → get_or note.listed w 0 ≡ get_or e.listed w 0
+    listed-at w below =
+        let d = element before (2 * w + 1) (omega (arith, below, room)) in
+        let t = totals d in
+        omega (
+          arith,
+          is.listed_is w d t (omega (arith, below, read.count)),
+          ap (λ (t : Totals). t.listed) (read.sums_are w d t below),
+          ap (λ (t : Totals). t.listed) (moved.seconds w d below),
+        )
+
+    pub note-is : note ≡ traffic_note n (number, e)
+    note-is =
+        let r : note.received ≡ by_worker n (received e.moves) =
+        fill_by_all (received e.moves) note.received n 0 (omega (arith, is.received_by_all, read.count)) received-at in
+        let l : note.listed ≡ e.listed =
+        fill_by_all (λ w. get_or e.listed w 0) note.listed n 0 (omega (arith, is.listed_by_all, read.count)) listed-at
+        ∙ sym (fill_by_all (λ w. get_or e.listed w 0) e.listed n 0 all_listed (λ w below. refl)) in
+        λ i. record { statement = is.statement_is i; exchange = is.exchange_is i; received = r i; listed = l i }
+
+  pub notes-tell : (tag : T → ℕ) → NotesTellMoves totals tag
+  notes-tell tag = record {
+    risen = λ n es before after since read moved. risen-added tag n _ _ _ before after since read (moved-added totals tag n es before after moved);
+    note = λ n number e before after since note room listed moved read is. note-is tag n number e before after since note room listed moved read is;
+  }
