@@ -1,27 +1,27 @@
 -- What is counted of an atom's columns, one after another.
-use Rattle.std.proofs.Common.{◌≡◌, ℕ, zero, suc, ◌+◌, ◌-◌, ◌*◌, ◌^◌, ◌<◌, ◌≤◌, Bool, true, false, cond, List, [], ◌∷◌, ◌++◌, length, length-append, map, get_or, take, drop, filter, refl, sym, ap, ◌∙◌, arith}
-use Rattle.std.specs.Prelude.{sum_by, nat_lt, Option, Some, None, is_some, is_none}
-use Rattle.std.specs.List.{enumerate_from, list_any, zip}
+use Rattle.std.proofs.Common.{◌≡◌, ◌≢◌, ℕ, zero, suc, ◌+◌, ◌-◌, ◌^◌, ◌<◌, ◌≤◌, Bool, true, false, cond, eqb, List, [], ◌∷◌, ◌++◌, length, length-append, map, get_or, take, drop, filter, refl, sym, ap, ◌∙◌, subst, arith}
+use Rattle.std.specs.Prelude.{set, sum_by, nat_lt, Option, Some, None, is_some, is_none}
+use Rattle.std.specs.List.{enumerate_from, range_with_len, list_any, zip}
 use Rattle.std.proofs.Math.Seq.{drop-cons}
 use Rattle.std.proofs.lemmas.Grind.{flat_map-append}
-use Rattle.std.proofs.lemmas.List.{take_more, length-take, length-map, append-nil, append_assoc, map-append, get_or-map, drop_all}
+use Rattle.std.proofs.lemmas.List.{take_more, length-take, length-map, append-nil, append_assoc, map-append, get_or-map, get_or-set_same, get_or-set_other, drop_all}
 use Rattle.std.proofs.lemmas.List.FromFn.{length-enumerate_from}
 use Rattle.std.proofs.lemmas.Slice.Zip.{length-zip}
 use Rattle.std.proofs.lemmas.List.Elements.{filter-append}
 use Rattle.std.proofs.lemmas.List.Sums.{sum_by_push, sum_by_more}
-use Rattle.std.proofs.lemmas.Bool.{lt-ltb}
+use Rattle.std.proofs.lemmas.Bool.{lt-ltb, eqb-true, eqb-false}
 use Rattle.myrial_ast.specs.declared.scalars.Scalar as code
 use Rattle.myrial_ast.specs.ScalarTrees.{scalar_tree_of}
 use Rattle.myrial_ast.specs.Scalars.{Scalar}
 use Rattle.myrial_ast.specs.Combinations.{Rows}
-use Rattle.myrial_ast.specs.KeptRows.{Span, lies_in, reads_within}
+use Rattle.myrial_ast.specs.KeptRows.{Span, lies_in}
 use Rattle.algebra.specs.declared.notes.PlanNote.{PlanNote}
 use Rattle.algebra.specs.declared.notes.PlanNote.TheVariants as note
 use Rattle.algebra.specs.declared.shapes.Atom.{Atom}
 use Rattle.algebra.specs.Shapes.{keeps_from, shifted, widths_of, kept_of}
 use Rattle.algebra.specs.Trees.{AtomTree, Shape, atom_tree_of}
 use Rattle.placement.specs.Layouts.{PlacedRelation, Shuffle, together, rows_of}
-use Rattle.placement.specs.Plans.{places_of, share_of, kept_sizes}
+use Rattle.placement.specs.Plans.{places_of, share_of, kept_sizes, uses_of, bits_of}
 use Rattle.placed_joins.specs.PlacedJoins.{placed_rows, placed_items}
 use Rattle.join_plans.specs.inner.Counts.{sizes_of, bits_in, ties_within, places_in}
 use Rattle.join_plans.proofs.SpanLemmas.{places-are, all-unmoved}
@@ -83,6 +83,10 @@ pub variable-lines : (shuffle : Shuffle) (shape : Shape) (n : ℕ) (variables : 
 variable-lines shuffle shape n [] = refl
 variable-lines shuffle shape n (v ∷ variables) =
     (λ i. note.Variable (suc n) (places-are shape v i) (share_of shuffle n) ∷ variable-lines shuffle shape (n + 1) variables i)
+
+-- one number more of a list
+pub taken-more : (xs made new : List ℕ) (k x : ℕ) → k < length xs → made ≡ take k xs → x ≡ get_or xs k 0 → new ≡ made ++ x ∷ [] → new ≡ take (k + 1) xs
+taken-more xs made new k x low so_far is added = added ∙ (λ i. so_far i ++ is i ∷ []) ∙ sym (take_more xs k 0 low)
 
 -- ---- rows
 
@@ -190,3 +194,26 @@ tests-done p atoms plain j start count more over so_far is =
     let rest = is ∙ ap (λ ts. length (filter p ts)) (sym (fused 0 plain) ∙ all-unmoved (map scalar_tree_of plain)) in
     let both = ap length (filter-append p (keeps_from 0 trees) (map scalar_tree_of plain)) ∙ length-append (filter p (keeps_from 0 trees)) (filter p (map scalar_tree_of plain)) in
     omega (arith, so_far, none, rest, both)
+
+-- ---- uses
+
+pub uses-long : (shape : Shape) → length (uses_of shape) ≡ length shape.atoms
+uses-long shape = length-map (enumerate_from 0 shape.atoms) (λ (e : ℕ × AtomTree). bits_of shape e.0) ∙ length-enumerate_from 0 shape.atoms
+
+-- by number is with its number
+pub numbered : {X : Type 0} (f : ℕ → ℕ) (n : ℕ) (xs : List X) → map f (range_with_len n (length xs)) ≡ map (λ (e : ℕ × X). f e.0) (enumerate_from n xs)
+numbered f n [] = refl
+numbered f n (x ∷ xs) = ap (λ (l : List ℕ). f n ∷ l) (numbered f (n + 1) xs)
+
+-- numbers that are below, and one more
+pub all-below : (xs : List ℕ) (j x top : ℕ) → j < length xs → x < top → ((k : ℕ) → k < j → get_or xs k 0 < top) → (k : ℕ) → k < j + 1 → get_or (set xs j x) k 0 < top
+all-below xs j x top room low before k below = by (eqb k j) refl
+  where
+    by : (b : Bool) → eqb k j ≡ b → get_or (set xs j x) k 0 < top
+    by true e =
+        let same : k ≡ j = eqb-true k j e in
+        subst (λ (i : ℕ). get_or (set xs j x) i 0 < top) (sym same) (subst (λ (y : ℕ). y < top) (sym (get_or-set_same xs j x 0 room)) low)
+    by false e =
+        let other : k ≢ j = eqb-false k j e in
+        let earlier : k < j = omega (arith, below, other) in
+        subst (λ (y : ℕ). y < top) (sym (get_or-set_other xs j k x 0 other)) (before k earlier)

@@ -1,5 +1,5 @@
 -- The order of rows changes no plan.
-use Rattle.std.proofs.Common.{◌≡◌, ℕ, zero, suc, ◌+◌, List, [], ◌∷◌, ◌++◌, length, map, Bool, refl, sym, ap, ◌∙◌, arith}
+use Rattle.std.proofs.Common.{◌≡◌, ℕ, suc, ◌+◌, List, [], ◌∷◌, ◌++◌, length, map, Bool, refl, sym, ap, ◌∙◌, arith}
 use Rattle.std.specs.Prelude.{find, unwrap_or}
 use Rattle.std.specs.List.{enumerate_from, range_with_len}
 use Rattle.std.proofs.lemmas.List.Sorted.{length_permutation}
@@ -8,7 +8,6 @@ use Rattle.myrial_ast.specs.Combinations.{Row, Rows}
 use Rattle.myrial_ast.specs.KeptRows.{passes_within, span_of_item, put_at}
 use Rattle.bag_laws.specs.Permuted.{SameTables, no_table, a_table}
 use Rattle.bag_laws.proofs.RowPermutations.{filter_rows-same}
-use Rattle.algebra.specs.declared.notes.PlanNote.{PlanNote}
 use Rattle.algebra.specs.declared.notes.PlanNote.TheVariants as note
 use Rattle.algebra.specs.declared.settings.JoinKind.{JoinKind}
 use Rattle.algebra.specs.declared.settings.Settings.{Settings}
@@ -20,7 +19,9 @@ use Rattle.share_chooser.specs.Best.{best_shares}
 use Rattle.share_chooser.specs.Load.{product, load_of}
 use Rattle.placement.specs.Layouts.{PlacedRelation, Shuffle, ByCells, ByKeys, Broadcast, rows_of, is_most, staying_atom}
 use Rattle.placement.specs.Plans.{uses_of, pushed_of, kept_sizes, item_notes, variable_notes, shuffle_note, join_notes, usual_shuffle, usual_placing}
-use Rattle.join_plans.specs.JoinPlans.{PlansIgnoreOrder}
+use Rattle.join_plans.specs.declared.choices.ShuffleChoice.{ShuffleChoice}
+use Rattle.join_plans.specs.declared.choices.ShuffleChoice.TheVariants as choice
+use Rattle.join_plans.specs.JoinPlans.{IsStaying, IsChosen, PlansIgnoreOrder}
 
 -- as many rows are kept
 kept-same : (shape : Shape) (j : ℕ) (rows others : Rows) → SameBag rows others → length (kept_of shape j rows) ≡ length (kept_of shape j others)
@@ -50,6 +51,19 @@ shuffle-same shuffle_kind.Hc workers shape given others same =
     ap (λ (sizes : List ℕ). ByCells (best_shares (uses_of shape) sizes (length shape.variables) workers)) (sizes-same shape given others same)
 shuffle-same shuffle_kind.Rs workers shape given others same = refl
 shuffle-same shuffle_kind.Br workers shape given others same = refl
+
+staying-same : (shape : Shape) (given others : List Rows) (chosen : ShuffleChoice) → SameTables given others
+    → IsStaying shape given chosen → IsStaying shape others chosen
+staying-same shape given others (choice.Cells shares) same is = tt
+staying-same shape given others choice.Keys same is = tt
+staying-same shape given others (choice.Broadcast stays) same is = is ∙ stays-same shape given others same
+
+choice-same : (settings : Settings) (shape : Shape) (given others : List Rows) (chosen : ShuffleChoice) → SameTables given others
+    → IsChosen settings shape given chosen → IsChosen settings shape others chosen
+choice-same settings shape given others chosen same is = record {
+  shuffle = is.shuffle ∙ shuffle-same settings.shuffle settings.workers shape given others same;
+  stays = staying-same shape given others chosen same is.stays;
+}
 
 -- ---- lines
 
@@ -95,5 +109,6 @@ plans_ignore_order = record {
   sizes = sizes-same;
   shuffle = shuffle-same;
   stays = stays-same;
+  choice = choice-same;
   lines = lines-same;
 }

@@ -1,5 +1,5 @@
 -- The spans of atoms, and the places of columns in them.
-use Rattle.std.proofs.Common.{◌≡◌, ℕ, zero, suc, ◌+◌, ◌-◌, ◌<◌, ◌≤◌, Bool, true, false, List, [], ◌∷◌, length, length-append, map, get_or, take, refl, sym, ap, ◌∙◌, arith}
+use Rattle.std.proofs.Common.{◌≡◌, ℕ, suc, ◌+◌, ◌-◌, ◌<◌, ◌≤◌, Bool, true, false, List, [], ◌∷◌, length, length-append, map, get_or, take, refl, sym, ap, ◌∙◌, arith}
 use Rattle.std.specs.Prelude.{nat_lt, nat_le, sum}
 use Rattle.std.specs.List.{flat_map, list_all}
 use Rattle.std.proofs.lemmas.Bool.{ltb-true, leb-true}
@@ -10,7 +10,6 @@ use Rattle.rel_base.specs.Limits.{most_items, most_variables}
 use Rattle.algebra.specs.Trees.{Shape}
 use Rattle.algebra.specs.Shapes.{shifted, widths_of}
 use Rattle.algebra.specs.ShapeConditions.{is_shape, is_atom, is_variable, all_different, are_atoms, are_variables, are_scalars, kinds_of}
-use Rattle.algebra.proofs.ShapeLemmas.{both}
 use Rattle.placement.specs.Plans.{places_of}
 use Rattle.placement.proofs.WidthLemmas.{three}
 use Rattle.join_plans.specs.inner.Counts.{place_in, places_in}

@@ -1,6 +1,5 @@
-use Rattle.std.proofs.Common.{◌≡◌, ◌<◌, ◌++◌, ◌∷◌, [], List, length, get_or, sym, ap, ◌∙◌, arith}
+use Rattle.std.proofs.Common.{◌<◌, ◌++◌, ◌∷◌, [], List, length, get_or, sym, ap, ◌∙◌, arith}
 use Rattle.myrial_ast.specs.Combinations.{Rows}
-use Rattle.placement.specs.Layouts.{together}
 use Rattle.join_plans.proofs.CountLemmas.{sizes-more}
 use Rattle.join_plans.proofs.counts.row_counts.Goals as goal
 

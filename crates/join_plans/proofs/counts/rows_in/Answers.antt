@@ -1,4 +1,4 @@
-use Rattle.std.proofs.Common.{◌≡◌, ◌<◌, List, length, get_or, ap, ◌∙◌, arith}
+use Rattle.std.proofs.Common.{◌<◌, List, length, get_or, ap, ◌∙◌, arith}
 use Rattle.myrial_ast.specs.Combinations.{Rows}
 use Rattle.join_plans.proofs.CountLemmas.{rows-more}
 use Rattle.join_plans.proofs.counts.rows_in.Goals as goal

@@ -1,11 +1,10 @@
-use Rattle.std.proofs.Common.{◌≡◌, ◌+◌, ◌<◌, ◌≤◌, List, length, get_or, map, sym, ap, ◌∙◌, arith}
+use Rattle.std.proofs.Common.{◌<◌, ◌≤◌, List, length, get_or, map, ap, ◌∙◌, arith}
 use Rattle.std.specs.Prelude.{filter}
 use Rattle.myrial_ast.specs.declared.scalars.Scalar as code
 use Rattle.myrial_ast.specs.ScalarTrees.{scalar_tree_of}
 use Rattle.myrial_ast.specs.KeptRows.{reads_within}
 use Rattle.algebra.specs.declared.shapes.Atom.{Atom}
 use Rattle.algebra.specs.Shapes.{shifted}
-use Rattle.algebra.specs.ShapeTrees.{shape_tree_of}
 use Rattle.join_plans.specs.inner.Spans.{span_of}
 use Rattle.join_plans.proofs.CountLemmas.{keeps-next, width-at, tests-done}
 use Rattle.join_plans.proofs.notes.tests_of.Goals as goal

@@ -1,6 +1,5 @@
 -- the keeps of the atoms so far, and those that are left
-use Rattle.std.proofs.Common.{◌≡◌, ◌+◌, ◌*◌, ◌≤◌, length, filter, map, take, drop}
-use Rattle.std.specs.Prelude.{sum}
+use Rattle.std.proofs.Common.{◌≡◌, ◌+◌, ◌*◌, ◌≤◌, length, filter, map, drop}
 use Rattle.myrial_ast.specs.KeptRows.{reads_within}
 use Rattle.algebra.specs.Trees.{atom_tree_of}
 use Rattle.algebra.specs.Shapes.{keeps_from}

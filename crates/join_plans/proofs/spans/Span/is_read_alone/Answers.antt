@@ -1,11 +1,6 @@
-use Rattle.std.proofs.Common.{◌≡◌, ℕ, not, length, ap, sym, ◌∙◌}
-use Rattle.std.specs.Prelude.{◌==◌, ◌&&◌}
-use Rattle.std.specs.List.{list_all}
-use Rattle.myrial_ast.specs.Scalars.{columns_of}
+use Rattle.std.proofs.Common.{ℕ, not, ap, sym, ◌∙◌}
+use Rattle.std.specs.Prelude.{◌==◌}
 use Rattle.myrial_ast.specs.ScalarTrees.{scalar_tree_of}
-use Rattle.myrial_ast.specs.KeptRows.{lies_in}
-use Rattle.algebra.specs.Shapes.{shifted}
-use Rattle.join_plans.specs.inner.Spans.{span_of}
 use Rattle.join_plans.proofs.SpanLemmas.{moved-columns}
 use Rattle.join_plans.proofs.spans.Span.is_read_alone.Goals as goal
 
