@@ -27,22 +27,27 @@ zip-take (u ∷ uses) (s ∷ sizes) = ap (λ rest. (u, s) ∷ rest) (zip-take us
 
 pub load-taken : (uses sizes shares : List ℕ) → load_of uses sizes shares ≡ load_of uses (take (length uses) sizes) shares
 unfolding load_of
-load-taken uses sizes shares = ap (λ pairs. record { num = sum_by (rows_sent shares) pairs; den = product shares }) (zip-take uses sizes)
+load-taken uses sizes shares = ap (λ pairs. record { num = sum_by (rows_sent shares) pairs; den = product shares })
+    (zip-take uses sizes)
 
 least-taken : (uses sizes : List ℕ) (variables workers : ℕ) (shares : List ℕ) → IsLeastLoad uses sizes variables workers shares
     → IsLeastLoad uses (take (length uses) sizes) variables workers shares
 unfolding comes_before
 least-taken uses sizes variables workers shares least = record {
   vector = least.vector;
-  least = λ other among. sym (λ i. is_lt (ordering_then (load_order (load-taken uses sizes other i) (load-taken uses sizes shares i)) (ordering_then (nat_cmp (largest other) (largest shares)) (slice_cmp nat_cmp other shares)))) ∙ least.least other among;
+  least = λ other among. sym
+      (λ i. is_lt (ordering_then (load_order (load-taken uses sizes other i) (load-taken uses sizes shares i))
+      (ordering_then (nat_cmp (largest other) (largest shares)) (slice_cmp nat_cmp other shares)))) ∙ least.least other among;
 }
 
 -- the shares of least load for these sizes, and whatever stands behind them, are the best ones
 pub least-is-best : (uses sizes kept : List ℕ) (variables workers : ℕ) (shares : List ℕ) → 1 ≤ workers → length uses ≡ length kept
-    → take (length kept) sizes ≡ kept → IsLeastLoad uses sizes variables workers shares → shares ≡ best_shares uses kept variables workers
+    → take (length kept) sizes ≡ kept → IsLeastLoad uses sizes variables workers shares
+    → shares ≡ best_shares uses kept variables workers
 least-is-best uses sizes kept variables workers shares some long front least =
     (best_is_least uses kept variables workers some).1 shares
-    (subst (λ s. IsLeastLoad uses s variables workers shares) (ap (λ n. take n sizes) long ∙ front) (least-taken uses sizes variables workers shares least))
+    (subst (λ s. IsLeastLoad uses s variables workers shares) (ap (λ n. take n sizes) long ∙ front)
+    (least-taken uses sizes variables workers shares least))
 
 pub load-den : (uses sizes shares : List ℕ) → (load_of uses sizes shares).den ≡ product shares
 unfolding load_of
@@ -52,7 +57,8 @@ load-den uses sizes shares = refl
 pub load-kept : (uses own sizes kept shares : List ℕ) → uses ≡ own → length own ≡ length kept → take (length kept) sizes ≡ kept
     → load_of uses sizes shares ≡ load_of own kept shares
 load-kept uses own sizes kept shares same long front =
-    ap (λ us. load_of us sizes shares) same ∙ load-taken own sizes shares ∙ ap (λ s. load_of own s shares) (ap (λ n. take n sizes) long ∙ front)
+    ap (λ us. load_of us sizes shares) same ∙ load-taken own sizes shares
+    ∙ ap (λ s. load_of own s shares) (ap (λ n. take n sizes) long ∙ front)
 
 -- what is chosen has shares that so many workers may have
 pub chosen-shares : (settings : Settings) (shape : Shape) (given : List Rows) (chosen : ShuffleChoice) → 1 ≤ settings.workers
@@ -61,7 +67,8 @@ chosen-shares settings shape given chosen some is =
     subst (IsSharing settings.workers shape) (sym is.shuffle) ((usual_is_placing settings some).sharing 0 shape given)
 
 -- what is chosen fits
-pub chosen-fits : (settings : Settings) (shape : Shape) (given : List Rows) (chosen : ShuffleChoice) → 1 ≤ settings.workers → settings.workers ≤ most_workers
+pub chosen-fits : (settings : Settings) (shape : Shape) (given : List Rows) (chosen : ShuffleChoice) → 1 ≤ settings.workers
+    → settings.workers ≤ most_workers
     → staying_atom shape given < length shape.atoms → IsChosen settings shape given chosen → IsFitting shape chosen
 chosen-fits settings shape given (choice.Cells shares) some few inside is =
     let vector = chosen-shares settings shape given (choice.Cells shares) some is in
@@ -71,4 +78,5 @@ chosen-fits settings shape given (choice.Cells shares) some few inside is =
       cells = omega (arith, vector.cells, few);
     }
 chosen-fits settings shape given choice.Keys some few inside is = tt
-chosen-fits settings shape given (choice.Broadcast stays) some few inside is = subst (λ (j : ℕ). j < length shape.atoms) (sym is.stays) inside
+chosen-fits settings shape given (choice.Broadcast stays) some few inside is =
+    subst (λ (j : ℕ). j < length shape.atoms) (sym is.stays) inside

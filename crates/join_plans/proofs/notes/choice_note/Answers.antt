@@ -17,7 +17,13 @@ pub overflow_cast-result : goal.overflow_cast-result
 overflow_cast-result c =
     let shares = shares_of c.in-Cells.shares in
     let fits = subst (IsFitting (shape_tree_of c.args.shape.now)) c.in-Cells.is c.requires.fitting in
-    omega (arith, ap (λ load. load.den) c.load-load.ensures, load-den (share.uses_of c.in_ok-uses-in-Cells.uses) c.in_eight.result shares, fits.cells)
+    omega (
+      arith,
+      ap (λ load. load.den) c.load-load.ensures,
+      load-den (share.uses_of c.in_ok-uses-in-Cells.uses)
+          c.in_eight.result shares,
+      fits.cells,
+    )
 
 pub overflow_add-result : goal.overflow_add-result
 overflow_add-result c =
@@ -31,8 +37,10 @@ returns-in_ok-uses-in-Cells c =
     let shape = shape_tree_of c.args.shape.now in
     let kept = c.args.kept.now in
     let shares = shares_of c.in-Cells.shares in
-    let long : length (uses_of (shape_tree_of c.args.shape.now)) ≡ length c.args.kept.now = uses-long shape ∙ sym (c.requires.kept ∙ sym (length-map c.args.shape.now.atoms atom_tree_of)) in
-    let same = c.load-load.ensures ∙ load-kept (share.uses_of c.in_ok-uses-in-Cells.uses) (uses_of shape) c.in_eight.result kept shares c.in_ok-uses-in-Cells.ensures.uses long c.in_eight.ensures in
+    let long : length (uses_of (shape_tree_of c.args.shape.now)) ≡ length c.args.kept.now = uses-long shape
+    ∙ sym (c.requires.kept ∙ sym (length-map c.args.shape.now.atoms atom_tree_of)) in
+    let same = c.load-load.ensures ∙ load-kept (share.uses_of c.in_ok-uses-in-Cells.uses) (uses_of shape)
+    c.in_eight.result kept shares c.in_ok-uses-in-Cells.ensures.uses long c.in_eight.ensures in
     let den = load-den (uses_of shape) kept shares in
     (λ i. note.Hc c.args.local (same i).den (same i).num (same i).den)
     ∙ (λ i. note.Hc c.args.local (den i) (load_of (uses_of shape) kept shares).num (load_of (uses_of shape) kept shares).den)

@@ -20,10 +20,13 @@ loop-j-preserved c =
     let both : length c.args.rows.now ≡ length c.args.kept.now = omega (arith, c.requires.rows, c.requires.kept) in
     let low : c.loop-j.j < length (zip c.args.rows.now c.args.kept.now) = omega (arith, low_rows, zip-long rows kept both) in
     let one : c.loop-j.j + 1 ≡ suc c.loop-j.j = omega arith in
-    line-more (item_line shape) (zip rows kept) j (get_or rows j 0, get_or kept j 0) c.args.into.now c.loop-j.into c.add_note.new.into
+    line-more (item_line shape) (zip rows kept) j (get_or rows j 0, get_or kept j 0)
+    c.args.into.now c.loop-j.into c.add_note.new.into
     (note.Item (j + 1) (get_or rows j 0) c.in_ok-pushed.pushed (get_or kept j 0)) low
-    (sym (get_or_default (zip rows kept) j (get_or rows j 0, get_or kept j 0) (0, 0) low ∙ get_or-zip rows kept j (0, 0) low_rows low_kept))
-    (λ k. note.Item (one k) (get_or rows j 0) (c.in_ok-pushed.ensures k) (get_or kept j 0)) c.loop-j.invariant c.in_ok-add_note.ensures.ok
+    (sym (get_or_default (zip rows kept) j (get_or rows j 0, get_or kept j 0) (0, 0) low
+    ∙ get_or-zip rows kept j (0, 0) low_rows low_kept))
+    (λ k. note.Item (one k) (get_or rows j 0) (c.in_ok-pushed.ensures k) (get_or kept j 0))
+    c.loop-j.invariant c.in_ok-add_note.ensures.ok
 
 pub returns : goal.returns
 returns c =
@@ -32,5 +35,7 @@ returns c =
     let kept = c.args.kept.now in
     let many = ap length c.requires.widths ∙ widths-long c.args.shape.now.atoms in
     let both : length c.args.rows.now ≡ length c.args.kept.now = omega (arith, c.requires.rows, c.requires.kept) in
-    let over : length (zip c.args.rows.now c.args.kept.now) ≤ c.loop-j.j = omega (arith, c.loop-j-test.false, many, c.requires.rows, zip-long rows kept both) in
-    c.loop-j.invariant ∙ ap (λ es. c.args.into.now ++ map (item_line shape) (enumerate_from 0 es)) (take_all c.loop-j.j (zip rows kept) over)
+    let over : length (zip c.args.rows.now c.args.kept.now) ≤ c.loop-j.j =
+    omega (arith, c.loop-j-test.false, many, c.requires.rows, zip-long rows kept both) in
+    c.loop-j.invariant ∙ ap (λ es. c.args.into.now ++ map (item_line shape) (enumerate_from 0 es))
+    (take_all c.loop-j.j (zip rows kept) over)

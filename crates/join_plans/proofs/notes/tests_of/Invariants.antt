@@ -10,6 +10,7 @@ abbrev pub invariant-loop-j : goal.invariant-loop-j
 invariant-loop-j l = record {
   near : l.start ≤ l.j * 4294967295;
   few : l.count ≤ l.j * 4294967295;
-  so_far : l.count + length (filter (reads_within (span_of l.span)) (keeps_from l.start (drop l.j (map atom_tree_of l.shape.atoms))))
+  so_far : l.count + length
+      (filter (reads_within (span_of l.span)) (keeps_from l.start (drop l.j (map atom_tree_of l.shape.atoms))))
       ≡ length (filter (reads_within (span_of l.span)) (keeps_from 0 (map atom_tree_of l.shape.atoms)));
 }

@@ -13,7 +13,8 @@ loop-i-preserved c =
     let v = c.variable-item.result in
     let i = c.loop-i.i in
     let one : c.loop-i.i + 1 ≡ suc c.loop-i.i = omega arith in
-    line-more (variable_line shuffle c.args.widths.now) c.as_slice-variable-items.result.now i v c.args.into.now c.loop-i.into c.add_note.new.into
+    line-more (variable_line shuffle c.args.widths.now)
+    c.as_slice-variable-items.result.now i v c.args.into.now c.loop-i.into c.add_note.new.into
     (note.Variable (i + 1) c.in_ok-places.places c.share_of.result) c.loop-i-test.true c.variable-item.is
     (λ k. note.Variable (one k) (c.in_ok-places.ensures k) (c.share_of.ensures k)) c.loop-i.invariant c.in_ok-add_note.ensures.ok
 

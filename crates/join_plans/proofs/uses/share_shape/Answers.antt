@@ -21,10 +21,19 @@ loop-j-preserved c =
     let many = ap length c.in_ok-widths.ensures ∙ widths-long c.args.shape.now.atoms in
     let few = small.few_atoms in
     let room : c.loop-j.j < length c.loop-j.uses =
-    omega (arith, c.loop-j-test.true, c.len-j-end.ensures, many, few, length-map c.args.shape.now.atoms atom_tree_of, c.loop-j.invariant.long) in
+    omega (
+      arith,
+      c.loop-j-test.true,
+      c.len-j-end.ensures,
+      many,
+      few,
+      length-map c.args.shape.now.atoms atom_tree_of,
+      c.loop-j.invariant.long,
+    ) in
     let span = c.span_of_atom.ensures.value ∙ ap (λ ws. span_of_item ws c.loop-j.j) c.deref.ensures.value in
     let here = c.bits_in.ensures.value ∙ (λ i. bits_in (span i) (c.as_slice.ensures.value i)) in
-    let low : c.bits_in.result < 2 ^ length c.args.shape.now.variables = omega (arith, c.bits_in.ensures.bound, ap (λ (vs : List (List ℕ)). 2 ^ length vs) c.as_slice.ensures.value) in
+    let low : c.bits_in.result < 2 ^ length c.args.shape.now.variables =
+    omega (arith, c.bits_in.ensures.bound, ap (λ (vs : List (List ℕ)). 2 ^ length vs) c.as_slice.ensures.value) in
     let next : 0 + c.loop-j.j ≡ c.loop-j.j = omega arith in
     record {
       long = length-set c.loop-j.uses j c.bits_in.result ∙ c.loop-j.invariant.long;
