@@ -1,5 +1,5 @@
 -- Worked cases of plans.
-use Rattle.std.proofs.Common.{◌≡◌, ℕ, List, [], ◌∷◌, refl}
+use Rattle.std.proofs.Common.{◌≡◌, [], ◌∷◌, refl}
 use Rattle.std.specs.Prelude.{pos}
 use Rattle.rel_base.specs.declared.values.ColType.TheVariants as kind
 use Rattle.rel_base.specs.declared.values.Value.TheVariants as value
