@@ -1,33 +1,34 @@
 -- What is counted of an atom's columns, one after another.
-use Rattle.std.proofs.Common.{◌≡◌, ℕ, zero, suc, ◌+◌, ◌-◌, ◌*◌, ◌^◌, ◌<◌, ◌≤◌, Bool, true, false, cond, List, [], ◌∷◌, ◌++◌, length, length-append, map, get_or, take, drop, filter, refl, sym, ap, ◌∙◌, arith}
-use Rattle.std.specs.Prelude.{sum_by, nat_lt, Option, Some, None, is_some, is_none}
-use Rattle.std.specs.List.{enumerate_from, list_any, zip}
+use Rattle.std.proofs.Common.{◌≡◌, ◌≢◌, ℕ, zero, suc, ◌+◌, ◌-◌, ◌^◌, ◌<◌, ◌≤◌, Bool, true, false, cond, eqb, List, [], ◌∷◌, ◌++◌, length, length-append, map, get_or, take, drop, filter, refl, sym, ap, ◌∙◌, subst, arith}
+use Rattle.std.specs.Prelude.{set, sum_by, nat_lt, Option, Some, None, is_some, is_none}
+use Rattle.std.specs.List.{enumerate_from, range_with_len, list_any, zip}
 use Rattle.std.proofs.Math.Seq.{drop-cons}
 use Rattle.std.proofs.lemmas.Grind.{flat_map-append}
-use Rattle.std.proofs.lemmas.List.{take_more, length-take, length-map, append-nil, append_assoc, map-append, get_or-map, drop_all}
+use Rattle.std.proofs.lemmas.List.{take_more, length-take, length-map, append-nil, append_assoc, map-append, get_or-map, get_or-set_same, get_or-set_other, drop_all}
 use Rattle.std.proofs.lemmas.List.FromFn.{length-enumerate_from}
 use Rattle.std.proofs.lemmas.Slice.Zip.{length-zip}
 use Rattle.std.proofs.lemmas.List.Elements.{filter-append}
 use Rattle.std.proofs.lemmas.List.Sums.{sum_by_push, sum_by_more}
-use Rattle.std.proofs.lemmas.Bool.{lt-ltb}
+use Rattle.std.proofs.lemmas.Bool.{lt-ltb, eqb-true, eqb-false}
 use Rattle.myrial_ast.specs.declared.scalars.Scalar as code
 use Rattle.myrial_ast.specs.ScalarTrees.{scalar_tree_of}
 use Rattle.myrial_ast.specs.Scalars.{Scalar}
 use Rattle.myrial_ast.specs.Combinations.{Rows}
-use Rattle.myrial_ast.specs.KeptRows.{Span, lies_in, reads_within}
+use Rattle.myrial_ast.specs.KeptRows.{Span, lies_in}
 use Rattle.algebra.specs.declared.notes.PlanNote.{PlanNote}
 use Rattle.algebra.specs.declared.notes.PlanNote.TheVariants as note
 use Rattle.algebra.specs.declared.shapes.Atom.{Atom}
 use Rattle.algebra.specs.Shapes.{keeps_from, shifted, widths_of, kept_of}
 use Rattle.algebra.specs.Trees.{AtomTree, Shape, atom_tree_of}
 use Rattle.placement.specs.Layouts.{PlacedRelation, Shuffle, together, rows_of}
-use Rattle.placement.specs.Plans.{places_of, share_of, kept_sizes}
+use Rattle.placement.specs.Plans.{places_of, share_of, kept_sizes, uses_of, bits_of}
 use Rattle.placed_joins.specs.PlacedJoins.{placed_rows, placed_items}
 use Rattle.join_plans.specs.inner.Counts.{sizes_of, bits_in, ties_within, places_in}
 use Rattle.join_plans.proofs.SpanLemmas.{places-are, all-unmoved}
 
 -- a list with numbers goes on with the next number
-pub enumerate-push : {X : Type 0} (n : ℕ) (xs : List X) (x : X) → enumerate_from n (xs ++ x ∷ []) ≡ enumerate_from n xs ++ (n + length xs, x) ∷ []
+pub enumerate-push : {X : Type 0} (n : ℕ) (xs : List X) (x : X)
+    → enumerate_from n (xs ++ x ∷ []) ≡ enumerate_from n xs ++ (n + length xs, x) ∷ []
 enumerate-push n [] x = let same : n ≡ n + 0 = omega arith in (λ i. (same i, x) ∷ [])
 enumerate-push n (y ∷ xs) x =
     let on : (n + 1) + length xs ≡ n + suc (length xs) = omega arith in
@@ -46,7 +47,8 @@ bits-more span variables i v low at =
 
 -- what one atom's keeps add to those of the atoms before it
 pub keeps-split : (p : Scalar → Bool) (column : ℕ) (a : AtomTree) (atoms : List AtomTree)
-    → length (filter p (keeps_from column (a ∷ atoms))) ≡ length (filter p (map (shifted column) a.keeps)) + length (filter p (keeps_from (column + length a.kinds) atoms))
+    → length (filter p (keeps_from column (a ∷ atoms))) ≡ length (filter p (map (shifted column) a.keeps)) + length
+    (filter p (keeps_from (column + length a.kinds) atoms))
 keeps-split p column a atoms =
     ap length (filter-append p (map (shifted column) a.keeps) (keeps_from (column + length a.kinds) atoms))
     ∙ length-append (filter p (map (shifted column) a.keeps)) (filter p (keeps_from (column + length a.kinds) atoms))
@@ -56,7 +58,8 @@ pub some-pass : {X : Type 0} (p : X → Bool) (xs : List X) → list_any p xs �
 some-pass p [] = refl
 some-pass p (x ∷ xs) = by (p x) refl (some-pass p xs)
   where
-    by : (b : Bool) → p x ≡ b → list_any p xs ≡ nat_lt 0 (length (filter p xs)) → list_any p (x ∷ xs) ≡ nat_lt 0 (length (filter p (x ∷ xs)))
+    by : (b : Bool) → p x ≡ b → list_any p xs ≡ nat_lt 0 (length (filter p xs))
+        → list_any p (x ∷ xs) ≡ nat_lt 0 (length (filter p (x ∷ xs)))
     by true e rest = rw e (sym (lt-ltb 0 (suc (length (filter p xs))) (omega arith)))
     by false e rest = rw e rest
 
@@ -68,7 +71,8 @@ ties-more span variables i v low at =
     ∙ (λ k. ties_within span (take i variables) + (length (filter (lies_in span) (at k)) - 1))
 
 -- each column is a key or has an aggregate
-pub keys-rest : {X : Type 0} (kinds : List (Option X)) → length (filter (λ k. is_none k) kinds) + length (filter (λ k. is_some k) kinds) ≡ length kinds
+pub keys-rest : {X : Type 0} (kinds : List (Option X))
+    → length (filter (λ k. is_none k) kinds) + length (filter (λ k. is_some k) kinds) ≡ length kinds
 keys-rest [] = refl
 keys-rest (Some x ∷ kinds) = let rest = keys-rest kinds in omega (arith, rest)
 keys-rest (None ∷ kinds) = let rest = keys-rest kinds in omega (arith, rest)
@@ -84,6 +88,11 @@ variable-lines shuffle shape n [] = refl
 variable-lines shuffle shape n (v ∷ variables) =
     (λ i. note.Variable (suc n) (places-are shape v i) (share_of shuffle n) ∷ variable-lines shuffle shape (n + 1) variables i)
 
+-- one number more of a list
+pub taken-more : (xs made new : List ℕ) (k x : ℕ) → k < length xs → made ≡ take k xs → x ≡ get_or xs k 0 → new ≡ made ++ x ∷ []
+    → new ≡ take (k + 1) xs
+taken-more xs made new k x low so_far is added = added ∙ (λ i. so_far i ++ is i ∷ []) ∙ sym (take_more xs k 0 low)
+
 -- ---- rows
 
 -- one worker's rows more
@@ -91,20 +100,32 @@ pub rows-more : (parts : List Rows) (k : ℕ) (rows : Rows) → k < length parts
     → length (together (take (k + 1) parts)) ≡ length (together (take k parts)) + length rows
 rows-more parts k rows below at =
     ap (λ (l : List Rows). length (together l)) (take_more parts k rows below ∙ ap (λ (r : Rows). take k parts ++ r ∷ []) (sym at))
-    ∙ ap (λ (l : Rows). length l) (flat_map-append (λ (r : Rows). r) (take k parts) (rows ∷ []) ∙ ap (λ (l : Rows). together (take k parts) ++ l) (append-nil rows))
+    ∙ ap (λ (l : Rows). length l) (flat_map-append (λ (r : Rows). r) (take k parts) (rows ∷ [])
+    ∙ ap (λ (l : Rows). together (take k parts) ++ l) (append-nil rows))
     ∙ length-append (together (take k parts)) rows
 
 sizes-push : (parts : List (List Rows)) (spread : List Rows)
-    → sizes_of (rows_of (placed_items (parts ++ spread ∷ []))) ≡ sizes_of (rows_of (placed_items parts)) ++ length (together spread) ∷ []
+    → sizes_of (rows_of (placed_items (parts ++ spread ∷ []))) ≡ sizes_of (rows_of (placed_items parts)) ++ length
+    (together spread) ∷ []
 sizes-push [] spread = refl
 sizes-push (part ∷ parts) spread = ap (λ (sizes : List ℕ). length (together part) ∷ sizes) (sizes-push parts spread)
 
 -- one atom's rows more
-pub sizes-more : (parts : List (List Rows)) (k : ℕ) (spread : List Rows) → k < length parts → spread ≡ get_or parts k spread
-    → sizes_of (rows_of (placed_items (take (k + 1) parts))) ≡ sizes_of (rows_of (placed_items (take k parts))) ++ length (together spread) ∷ []
+sizes-more : (parts : List (List Rows)) (k : ℕ) (spread : List Rows) → k < length parts → spread ≡ get_or parts k spread
+    → sizes_of (rows_of (placed_items (take (k + 1) parts))) ≡ sizes_of (rows_of (placed_items (take k parts))) ++ length
+    (together spread) ∷ []
 sizes-more parts k spread below at =
-    ap (λ (ps : List (List Rows)). sizes_of (rows_of (placed_items ps))) (take_more parts k spread below ∙ ap (λ (s : List Rows). take k parts ++ s ∷ []) (sym at))
+    ap (λ (ps : List (List Rows)). sizes_of (rows_of (placed_items ps)))
+    (take_more parts k spread below ∙ ap (λ (s : List Rows). take k parts ++ s ∷ []) (sym at))
     ∙ sizes-push (take k parts) spread
+
+-- so are its numbers
+pub sizes-made : (parts : List (List Rows)) (k : ℕ) (spread : List Rows) (made new : List ℕ) (x : ℕ) → k < length parts
+    → spread ≡ get_or parts k spread
+    → made ≡ sizes_of (rows_of (placed_items (take k parts))) → x ≡ length (together spread) → new ≡ made ++ x ∷ []
+    → new ≡ sizes_of (rows_of (placed_items (take (k + 1) parts)))
+sizes-made parts k spread made new x below at so_far is added = added ∙ (λ i. so_far i ++ is i ∷ [])
+    ∙ sym (sizes-more parts k spread below at)
 
 -- the number of kept rows of each atom
 kept-from : (shape : Shape) (n : ℕ) (parts : List (List Rows)) (k : ℕ) → k < length parts
@@ -115,7 +136,8 @@ kept-from shape n (part ∷ parts) zero below =
     let same : n ≡ n + 0 = omega arith in ap (λ (j : ℕ). length (kept_of shape j (together part))) same
 kept-from shape n (part ∷ parts) (suc k) below =
     let same : (n + 1) + k ≡ n + suc k = omega arith in
-    kept-from shape (n + 1) parts k (omega (arith, below)) ∙ ap (λ (j : ℕ). length (kept_of shape j (together (get_or parts k [])))) same
+    kept-from shape (n + 1) parts k (omega (arith, below))
+    ∙ ap (λ (j : ℕ). length (kept_of shape j (together (get_or parts k [])))) same
 
 pub kept-at : (shape : Shape) (parts : List (List Rows)) (k : ℕ) → k < length parts
     → get_or (kept_sizes shape (rows_of (placed_items parts))) k 0 ≡ length (kept_of shape k (together (get_or parts k [])))
@@ -132,7 +154,8 @@ kept-long shape parts =
 -- ---- lines
 
 -- one line more
-pub line-more : {X : Type 0} (line_of : ℕ × X → PlanNote) (xs : List X) (i : ℕ) (x : X) (start old new : List PlanNote) (line : PlanNote)
+pub line-more : {X : Type 0} (line_of : ℕ × X → PlanNote) (xs : List X) (i : ℕ) (x : X) (start old new : List PlanNote)
+    (line : PlanNote)
     → i < length xs → x ≡ get_or xs i x → line ≡ line_of (i, x)
     → old ≡ start ++ map line_of (enumerate_from 0 (take i xs)) → new ≡ old ++ line ∷ []
     → new ≡ start ++ map line_of (enumerate_from 0 (take (i + 1) xs))
@@ -153,34 +176,41 @@ zip-long xs ys same = omega (arith, length-zip xs ys, same)
 pub widths-long : (atoms : List Atom) → length (map (λ (t : AtomTree). length t.kinds) (map atom_tree_of atoms)) ≡ length atoms
 widths-long atoms = length-map (map atom_tree_of atoms) (λ (t : AtomTree). length t.kinds) ∙ length-map atoms atom_tree_of
 
-tree-at : (atoms : List Atom) (j : ℕ) (a : Atom) → j < length atoms → a ≡ get_or atoms j a → get_or (map atom_tree_of atoms) j (atom_tree_of a) ≡ atom_tree_of a
+tree-at : (atoms : List Atom) (j : ℕ) (a : Atom) → j < length atoms → a ≡ get_or atoms j a
+    → get_or (map atom_tree_of atoms) j (atom_tree_of a) ≡ atom_tree_of a
 tree-at atoms j a low at = get_or-map atom_tree_of atoms j a (atom_tree_of a) low ∙ ap atom_tree_of (sym at)
 
 pub width-at : (atoms : List Atom) (j : ℕ) (a : Atom) → j < length atoms → a ≡ get_or atoms j a
     → get_or (map (λ (t : AtomTree). length t.kinds) (map atom_tree_of atoms)) j 0 ≡ length a.kinds
 width-at atoms j a low at =
-    get_or-map (λ (t : AtomTree). length t.kinds) (map atom_tree_of atoms) j (atom_tree_of a) 0 (omega (arith, low, length-map atoms atom_tree_of))
+    get_or-map (λ (t : AtomTree). length t.kinds) (map atom_tree_of atoms) j (atom_tree_of a) 0
+    (omega (arith, low, length-map atoms atom_tree_of))
     ∙ ap (λ (t : AtomTree). length t.kinds) (tree-at atoms j a low at)
 
-fused : (start : ℕ) (ts : List code.Scalar) → map (shifted start) (map scalar_tree_of ts) ≡ map (λ t. shifted start (scalar_tree_of t)) ts
+fused : (start : ℕ) (ts : List code.Scalar)
+    → map (shifted start) (map scalar_tree_of ts) ≡ map (λ t. shifted start (scalar_tree_of t)) ts
 fused start [] = refl
 fused start (t ∷ ts) = ap (λ l. shifted start (scalar_tree_of t) ∷ l) (fused start ts)
 
 -- what the keeps of the next atom add
-pub keeps-next : (p : Scalar → Bool) (atoms : List Atom) (j start width : ℕ) (a : Atom) → j < length atoms → a ≡ get_or atoms j a → width ≡ length a.kinds
+pub keeps-next : (p : Scalar → Bool) (atoms : List Atom) (j start width : ℕ) (a : Atom) → j < length atoms → a ≡ get_or atoms j a
+    → width ≡ length a.kinds
     → length (filter p (keeps_from start (drop j (map atom_tree_of atoms))))
-    ≡ length (filter p (map (λ t. shifted start (scalar_tree_of t)) a.keeps)) + length (filter p (keeps_from (start + width) (drop (j + 1) (map atom_tree_of atoms))))
+    ≡ length (filter p (map (λ t. shifted start (scalar_tree_of t)) a.keeps)) + length
+    (filter p (keeps_from (start + width) (drop (j + 1) (map atom_tree_of atoms))))
 keeps-next p atoms j start width a low at is =
     let trees = map atom_tree_of atoms in
     let one : suc j ≡ j + 1 = omega arith in
-    let first = drop-cons trees j (atom_tree_of a) (omega (arith, low, length-map atoms atom_tree_of)) ∙ (λ k. tree-at atoms j a low at k ∷ drop (one k) trees) in
+    let first = drop-cons trees j (atom_tree_of a) (omega (arith, low, length-map atoms atom_tree_of))
+    ∙ (λ k. tree-at atoms j a low at k ∷ drop (one k) trees) in
     ap (λ ts. length (filter p (keeps_from start ts))) first
     ∙ keeps-split p start (atom_tree_of a) (drop (j + 1) trees)
     ∙ (λ k. length (filter p (fused start a.keeps k)) + length (filter p (keeps_from (start + sym is k) (drop (j + 1) trees))))
 
 -- all tests are counted
 pub tests-done : (p : Scalar → Bool) (atoms : List Atom) (plain : List code.Scalar) (j start count more : ℕ) → length atoms ≤ j
-    → count + length (filter p (keeps_from start (drop j (map atom_tree_of atoms)))) ≡ length (filter p (keeps_from 0 (map atom_tree_of atoms)))
+    → count + length (filter p (keeps_from start (drop j (map atom_tree_of atoms))))
+    ≡ length (filter p (keeps_from 0 (map atom_tree_of atoms)))
     → more ≡ length (filter p (map (λ t. shifted 0 (scalar_tree_of t)) plain))
     → count + more ≡ length (filter p (keeps_from 0 (map atom_tree_of atoms) ++ map scalar_tree_of plain))
 tests-done p atoms plain j start count more over so_far is =
@@ -188,5 +218,33 @@ tests-done p atoms plain j start count more over so_far is =
     let none : length (filter p (keeps_from start (drop j (map atom_tree_of atoms)))) ≡ 0 =
     ap (λ ts. length (filter p (keeps_from start ts))) (drop_all j trees (omega (arith, over, length-map atoms atom_tree_of))) in
     let rest = is ∙ ap (λ ts. length (filter p ts)) (sym (fused 0 plain) ∙ all-unmoved (map scalar_tree_of plain)) in
-    let both = ap length (filter-append p (keeps_from 0 trees) (map scalar_tree_of plain)) ∙ length-append (filter p (keeps_from 0 trees)) (filter p (map scalar_tree_of plain)) in
+    let both = ap length (filter-append p (keeps_from 0 trees) (map scalar_tree_of plain))
+    ∙ length-append (filter p (keeps_from 0 trees)) (filter p (map scalar_tree_of plain)) in
     omega (arith, so_far, none, rest, both)
+
+-- ---- uses
+
+pub uses-long : (shape : Shape) → length (uses_of shape) ≡ length shape.atoms
+uses-long shape = length-map (enumerate_from 0 shape.atoms) (λ (e : ℕ × AtomTree). bits_of shape e.0)
+    ∙ length-enumerate_from 0 shape.atoms
+
+-- by number is with its number
+pub numbered : {X : Type 0} (f : ℕ → ℕ) (n : ℕ) (xs : List X)
+    → map f (range_with_len n (length xs)) ≡ map (λ (e : ℕ × X). f e.0) (enumerate_from n xs)
+numbered f n [] = refl
+numbered f n (x ∷ xs) = ap (λ (l : List ℕ). f n ∷ l) (numbered f (n + 1) xs)
+
+-- numbers that are below, and one more
+pub all-below : (xs : List ℕ) (j x top : ℕ) → j < length xs → x < top → ((k : ℕ) → k < j → get_or xs k 0 < top) → (k : ℕ)
+    → k < j + 1 → get_or (set xs j x) k 0 < top
+all-below xs j x top room low before k below = by (eqb k j) refl
+  where
+    by : (b : Bool) → eqb k j ≡ b → get_or (set xs j x) k 0 < top
+    by true e =
+        let same : k ≡ j = eqb-true k j e in
+        subst (λ (i : ℕ). get_or (set xs j x) i 0 < top) (sym same)
+        (subst (λ (y : ℕ). y < top) (sym (get_or-set_same xs j x 0 room)) low)
+    by false e =
+        let other : k ≢ j = eqb-false k j e in
+        let earlier : k < j = omega (arith, below, other) in
+        subst (λ (y : ℕ). y < top) (sym (get_or-set_other xs j k x 0 other)) (before k earlier)

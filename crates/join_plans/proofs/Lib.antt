@@ -4,3 +4,4 @@ pub mod CountLemmas
 pub mod ChoiceLemmas
 pub mod LineLemmas
 pub mod OrderLemmas
+pub mod WorkedRows

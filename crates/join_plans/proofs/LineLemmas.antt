@@ -1,5 +1,5 @@
 -- The lines by numbers of rows are those that a plan has.
-use Rattle.std.proofs.Common.{◌≡◌, ℕ, zero, suc, ◌+◌, List, [], ◌∷◌, ◌++◌, length, map, refl, sym, ap, ◌∙◌}
+use Rattle.std.proofs.Common.{◌≡◌, ℕ, suc, ◌+◌, List, [], ◌∷◌, ◌++◌, length, map, refl, sym, ap, ◌∙◌}
 use Rattle.std.specs.List.{enumerate_from, zip}
 use Rattle.myrial_ast.specs.Combinations.{Rows}
 use Rattle.algebra.specs.declared.notes.PlanNote.{PlanNote}
@@ -17,11 +17,14 @@ use Rattle.join_plans.specs.inner.Counts.{sizes_of}
 use Rattle.join_plans.specs.inner.Lines.{item_line, item_lines, choice_line, join_lines}
 
 lines-from : (shape : Shape) (n : ℕ) (given : List Rows)
-    → map (λ (e : ℕ × Rows). note.Item (suc e.0) (length e.1) (pushed_of shape e.0) (length (kept_of shape e.0 e.1))) (enumerate_from n given)
-    ≡ map (item_line shape) (enumerate_from n (zip (sizes_of given) (map (λ e. length (kept_of shape e.0 e.1)) (enumerate_from n given))))
+    → map (λ (e : ℕ × Rows). note.Item (suc e.0) (length e.1) (pushed_of shape e.0) (length (kept_of shape e.0 e.1)))
+    (enumerate_from n given)
+    ≡ map (item_line shape)
+    (enumerate_from n (zip (sizes_of given) (map (λ e. length (kept_of shape e.0 e.1)) (enumerate_from n given))))
 lines-from shape n [] = refl
 lines-from shape n (rows ∷ given) =
-    ap (λ (rest : List PlanNote). note.Item (suc n) (length rows) (pushed_of shape n) (length (kept_of shape n rows)) ∷ rest) (lines-from shape (n + 1) given)
+    ap (λ (rest : List PlanNote). note.Item (suc n) (length rows) (pushed_of shape n) (length (kept_of shape n rows)) ∷ rest)
+    (lines-from shape (n + 1) given)
 
 choice-same : (chosen : ShuffleChoice) (local : JoinKind) (shape : Shape) (given : List Rows) → IsStaying shape given chosen
     → shuffle_note (shuffle_of chosen) local shape given ≡ choice_line chosen local shape (kept_sizes shape given)
@@ -36,10 +39,12 @@ lines-of : (shuffle : Shuffle) (chosen : ShuffleChoice) (local : JoinKind) (shap
     ++ choice_line chosen local shape (kept_sizes shape given) ∷ []
 lines-of shuffle chosen local shape given is stays =
     ap (λ s. item_notes shape given ++ variable_notes s shape ++ shuffle_note s local shape given ∷ []) (sym is)
-    ∙ (λ i. lines-from shape 0 given i ++ variable_notes (shuffle_of chosen) shape ++ choice-same chosen local shape given stays i ∷ [])
+    ∙ (λ i. lines-from shape 0 given i ++ variable_notes (shuffle_of chosen)
+    shape ++ choice-same chosen local shape given stays i ∷ [])
 
 -- the lines of a join are those that its plan has, whatever the number of its statement
-pub lines-are-notes : (settings : Settings) (local : JoinKind) (number : ℕ) (shape : Shape) (given : List PlacedRelation) (chosen : ShuffleChoice)
+pub lines-are-notes : (settings : Settings) (local : JoinKind) (number : ℕ) (shape : Shape) (given : List PlacedRelation)
+    (chosen : ShuffleChoice)
     → IsChosen settings shape (rows_of given) chosen
     → join_lines chosen local shape (sizes_of (rows_of given)) (kept_sizes shape (rows_of given))
     ≡ join_notes (usual_placing settings) local number shape given

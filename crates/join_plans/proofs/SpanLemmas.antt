@@ -1,5 +1,5 @@
 -- The spans of atoms, and the places of columns in them.
-use Rattle.std.proofs.Common.{◌≡◌, ℕ, zero, suc, ◌+◌, ◌-◌, ◌<◌, ◌≤◌, Bool, true, false, List, [], ◌∷◌, length, length-append, map, get_or, take, refl, sym, ap, ◌∙◌, arith}
+use Rattle.std.proofs.Common.{◌≡◌, ℕ, suc, ◌+◌, ◌-◌, ◌<◌, ◌≤◌, Bool, true, false, List, [], ◌∷◌, length, length-append, map, get_or, take, refl, sym, ap, ◌∙◌, arith}
 use Rattle.std.specs.Prelude.{nat_lt, nat_le, sum}
 use Rattle.std.specs.List.{flat_map, list_all}
 use Rattle.std.proofs.lemmas.Bool.{ltb-true, leb-true}
@@ -10,7 +10,6 @@ use Rattle.rel_base.specs.Limits.{most_items, most_variables}
 use Rattle.algebra.specs.Trees.{Shape}
 use Rattle.algebra.specs.Shapes.{shifted, widths_of}
 use Rattle.algebra.specs.ShapeConditions.{is_shape, is_atom, is_variable, all_different, are_atoms, are_variables, are_scalars, kinds_of}
-use Rattle.algebra.proofs.ShapeLemmas.{both}
 use Rattle.placement.specs.Plans.{places_of}
 use Rattle.placement.proofs.WidthLemmas.{three}
 use Rattle.join_plans.specs.inner.Counts.{place_in, places_in}
@@ -26,7 +25,8 @@ pub place-behind : (widths : List ℕ) (c : ℕ) → place_in widths c ≡ (item
 place-behind [] c = let none : c ≡ c - sum [] = let z : sum [] ≡ 0 = refl in omega arith in (λ i. (0, none i))
 place-behind (width ∷ widths) c = by (nat_lt c width) refl (place-behind widths (c - width))
   where
-    by : (b : Bool) → nat_lt c width ≡ b → place_in widths (c - width) ≡ (item_of widths (c - width), (c - width) - sum (take (item_of widths (c - width)) widths))
+    by : (b : Bool) → nat_lt c width ≡ b
+        → place_in widths (c - width) ≡ (item_of widths (c - width), (c - width) - sum (take (item_of widths (c - width)) widths))
         → place_in (width ∷ widths) c ≡ (item_of (width ∷ widths) c, c - sum (take (item_of (width ∷ widths) c) (width ∷ widths)))
     by true e rest = rw e (let none : c ≡ c - sum [] = let z : sum [] ≡ 0 = refl in omega arith in (λ i. (0, none i)))
     by false e rest = rw e (
@@ -34,7 +34,8 @@ place-behind (width ∷ widths) c = by (nat_lt c width) refl (place-behind width
         let one : item_of widths (c - width) + 1 ≡ 1 + item_of widths (c - width) = omega arith in
         let next : 1 + item_of widths (c - width) ≡ suc (item_of widths (c - width)) = omega arith in
         let front = ap (λ n. sum (take n (width ∷ widths))) next ∙ sum_by-cons (λ (w : ℕ). w) width (take k widths) in
-        let back : (c - width) - sum (take (item_of widths (c - width)) widths) ≡ c - sum (take (1 + item_of widths (c - width)) (width ∷ widths)) = omega (arith, front) in
+        let back : (c - width) - sum (take (item_of widths (c - width)) widths)
+        ≡ c - sum (take (1 + item_of widths (c - width)) (width ∷ widths)) = omega (arith, front) in
         (λ i. ((rest i).0 + 1, (rest i).1)) ∙ (λ i. (one i, back i)))
 
 -- a scalar that is moved by nothing is itself
@@ -77,9 +78,13 @@ pub record IsSmall (shape : Shape) : Type 0 where
 
 pub shape-small : (shape : Shape) → is_shape shape ≡ true → IsSmall shape
 shape-small shape well =
-    let parts = three (are_atoms shape.atoms) (are_variables (kinds_of shape) (widths_of shape) shape.variables) (are_scalars (kinds_of shape) shape.plain shape.arith shape.emits) well in
-    let atoms = three (nat_lt 0 (length shape.atoms)) (nat_le (length shape.atoms) most_items) (list_all is_atom shape.atoms) parts.0 in
-    let variables = three (nat_le (length shape.variables) most_variables) (list_all (is_variable (kinds_of shape) (widths_of shape)) shape.variables) (all_different (flat_map (λ v. v) shape.variables)) parts.1 in
+    let parts = three (are_atoms shape.atoms) (are_variables (kinds_of shape) (widths_of shape) shape.variables)
+    (are_scalars (kinds_of shape) shape.plain shape.arith shape.emits) well in
+    let atoms = three (nat_lt 0 (length shape.atoms)) (nat_le (length shape.atoms) most_items) (list_all is_atom shape.atoms)
+    parts.0 in
+    let variables = three (nat_le (length shape.variables) most_variables)
+    (list_all (is_variable (kinds_of shape) (widths_of shape)) shape.variables) (all_different (flat_map (λ v. v) shape.variables))
+    parts.1 in
     record {
       some_atom = ltb-true 0 (length shape.atoms) atoms.0;
       few_atoms = leb-true (length shape.atoms) most_items atoms.1;

@@ -36,7 +36,7 @@ pub record IsChosen (settings : Settings) (shape : Shape) (given : List Rows)
   pub stays : IsStaying shape given choice
 
 -- rows in another order: there are as many kept ones, the shuffle of the settings is the same with
--- the same atom that stays, and so are the lines of the join
+-- the same atom that stays, what is chosen is chosen for both, and the lines of the join are the same
 pub record PlansIgnoreOrder : Type 0 where
   pub sizes : (shape : Shape) (given others : List Rows) → SameTables given others
       → kept_sizes shape given ≡ kept_sizes shape others
@@ -45,6 +45,9 @@ pub record PlansIgnoreOrder : Type 0 where
       → usual_shuffle kind workers shape given ≡ usual_shuffle kind workers shape others
   pub stays : (shape : Shape) (given others : List Rows) → SameTables given others
       → staying_atom shape given ≡ staying_atom shape others
+  pub choice : (settings : Settings) (shape : Shape) (given others : List Rows)
+      (chosen : ShuffleChoice) → SameTables given others
+      → IsChosen settings shape given chosen → IsChosen settings shape others chosen
   pub lines : (settings : Settings) (local : JoinKind) (number : ℕ) (shape : Shape)
       (given others : List PlacedRelation) → SameTables (rows_of given) (rows_of others)
       → join_notes (usual_placing settings) local number shape given

@@ -7,7 +7,7 @@
 --   place_in widths column       the item of a column, from 0, and its place there
 --   places_in widths variable    the columns of a variable, by items from 1 and places from 0
 --   most_tests, most_ties        no more than these are counted
-use Rattle.std.specs.Prelude.{ℕ, suc, ◌+◌, ◌-◌, ◌*◌, ◌^◌, nat_lt, if◌then◌else◌, List, [], ◌∷◌, map, filter, length, sum_by}
+use Rattle.std.specs.Prelude.{ℕ, ◌+◌, ◌-◌, ◌*◌, ◌^◌, nat_lt, if◌then◌else◌, List, [], ◌∷◌, map, filter, length, sum_by}
 use Rattle.std.specs.List.{enumerate_from, list_any}
 use Rattle.rel_base.specs.Limits.{most_items, most_variables}
 use Rattle.myrial_ast.specs.Combinations.{Rows}

@@ -14,9 +14,11 @@ loop-row-preserved-then-is_kept c =
     record {
       can = tt;
       finite = tt;
-      counted = counted-next shape c.args.atom c.loop-row.count c.args.rows.now c.loop-row.row-iterator c.next.new.self c.in-Some.row.now true taken
+      counted = counted-next shape c.args.atom c.loop-row.count c.args.rows.now c.loop-row.row-iterator c.next.new.self
+          c.in-Some.row.now true taken
           (sym c.is_kept.ensures ∙ c.if-is_kept.true) inv.counted;
-      known = All-tail (IsPartRow shape c.args.atom) c.in-Some.row.now c.next.new.self (subst (All (IsPartRow shape c.args.atom)) taken inv.known);
+      known = All-tail (IsPartRow shape c.args.atom) c.in-Some.row.now c.next.new.self
+          (subst (All (IsPartRow shape c.args.atom)) taken inv.known);
       few = omega (arith, inv.few, ap length taken);
     }
 
@@ -29,8 +31,10 @@ loop-row-preserved c =
       can = tt;
       finite = tt;
       counted = ap (λ n. n + length (kept_of shape c.args.atom c.next.new.self)) (plus-zero c.loop-row.count)
-          ∙ counted-next shape c.args.atom c.loop-row.count c.args.rows.now c.loop-row.row-iterator c.next.new.self c.in-Some.row.now false taken
+          ∙ counted-next shape c.args.atom c.loop-row.count c.args.rows.now c.loop-row.row-iterator c.next.new.self
+          c.in-Some.row.now false taken
           (sym c.is_kept.ensures ∙ c.if-is_kept.false) inv.counted;
-      known = All-tail (IsPartRow shape c.args.atom) c.in-Some.row.now c.next.new.self (subst (All (IsPartRow shape c.args.atom)) taken inv.known);
+      known = All-tail (IsPartRow shape c.args.atom) c.in-Some.row.now c.next.new.self
+          (subst (All (IsPartRow shape c.args.atom)) taken inv.known);
       few = omega (arith, inv.few, ap length taken);
     }

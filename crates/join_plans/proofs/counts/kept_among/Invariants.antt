@@ -8,7 +8,8 @@ abbrev pub invariant-loop-row : goal.invariant-loop-row
 invariant-loop-row l = record {
   can : (goal.iterator-loop-row).can_next l.row-iterator;
   finite : (goal.iterator-loop-row).is_finite l.row-iterator;
-  counted : l.count + length (kept_of (shape_tree_of l.kept.shape.now) l.atom l.row-iterator) ≡ length (kept_of (shape_tree_of l.kept.shape.now) l.atom l.rows);
+  counted : l.count + length (kept_of (shape_tree_of l.kept.shape.now) l.atom l.row-iterator)
+      ≡ length (kept_of (shape_tree_of l.kept.shape.now) l.atom l.rows);
   known : All (IsPartRow (shape_tree_of l.kept.shape.now) l.atom) l.row-iterator;
   few : l.count + length l.row-iterator ≤ length l.rows;
 }

@@ -1,11 +1,17 @@
-use Rattle.std.proofs.Common.{◌≡◌, ◌<◌, List, length, get_or, ap, ◌∙◌, arith}
+use Rattle.std.proofs.Common.{◌<◌, List, length, get_or, ap, ◌∙◌, arith}
 use Rattle.myrial_ast.specs.Combinations.{Rows}
 use Rattle.join_plans.proofs.CountLemmas.{rows-more}
 use Rattle.join_plans.proofs.counts.rows_in.Goals as goal
 
 pub overflow_add-count : goal.overflow_add-count
 overflow_add-count c =
-    omega (arith, c.loop-rows.invariant.few, c.len.type_inv, c.as_slice-rows-items.ensures.bound, ap length c.as_slice-rows-items.ensures.value)
+    omega (
+      arith,
+      c.loop-rows.invariant.few,
+      c.len.type_inv,
+      c.as_slice-rows-items.ensures.bound,
+      ap length c.as_slice-rows-items.ensures.value,
+    )
 
 pub loop-rows-preserved : goal.loop-rows-preserved
 loop-rows-preserved c =

@@ -1,4 +1,4 @@
-use Rattle.std.proofs.Common.{◌≡◌, ◌+◌, ◌-◌, ◌≤◌, length, map, filter, sym, ap, ◌∙◌, arith}
+use Rattle.std.proofs.Common.{◌≡◌, ◌-◌, ◌≤◌, length, map, filter, ap, ◌∙◌, arith}
 use Rattle.std.specs.Prelude.{is_none, is_some}
 use Rattle.std.proofs.lemmas.List.{take_all, length-map}
 use Rattle.algebra.specs.declared.notes.PlanNote.TheVariants as note

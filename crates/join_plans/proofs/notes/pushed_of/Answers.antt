@@ -1,8 +1,6 @@
-use Rattle.std.proofs.Common.{◌≡◌, ◌+◌, List, ℕ, sym, ap, ◌∙◌, arith}
+use Rattle.std.proofs.Common.{◌+◌, ap, ◌∙◌}
 use Rattle.algebra.specs.ShapeTrees.{shape_tree_of}
-use Rattle.algebra.specs.Shapes.{widths_of}
 use Rattle.myrial_ast.specs.KeptRows.{span_of_item}
-use Rattle.join_plans.specs.inner.Spans.{span_of}
 use Rattle.join_plans.specs.inner.Counts.{tests_within, ties_within}
 use Rattle.join_plans.proofs.notes.pushed_of.Goals as goal
 

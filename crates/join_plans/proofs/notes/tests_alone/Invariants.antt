@@ -9,5 +9,6 @@ use Rattle.join_plans.proofs.notes.tests_alone.Given as goal
 abbrev pub invariant-loop-test : goal.invariant-loop-test
 invariant-loop-test l = record {
   few : l.count ≤ l.test-index;
-  so_far : l.count ≡ length (filter (reads_within (span_of l.span)) (map (λ t. shifted l.start (scalar_tree_of t)) (take l.test-index l.tests)));
+  so_far : l.count ≡ length
+      (filter (reads_within (span_of l.span)) (map (λ t. shifted l.start (scalar_tree_of t)) (take l.test-index l.tests)));
 }

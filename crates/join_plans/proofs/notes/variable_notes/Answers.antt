@@ -1,4 +1,4 @@
-use Rattle.std.proofs.Common.{◌≡◌, ◌+◌, ◌≤◌, ◌<◌, ◌++◌, List, ℕ, suc, length, take, get_or, map, sym, ap, ◌∙◌, arith}
+use Rattle.std.proofs.Common.{◌≡◌, ◌+◌, ◌≤◌, ◌++◌, suc, length, map, ap, ◌∙◌, arith}
 use Rattle.std.specs.List.{enumerate_from}
 use Rattle.std.proofs.lemmas.List.{take_all}
 use Rattle.algebra.specs.declared.notes.PlanNote.TheVariants as note
@@ -13,9 +13,10 @@ loop-i-preserved c =
     let v = c.variable-item.result in
     let i = c.loop-i.i in
     let one : c.loop-i.i + 1 ≡ suc c.loop-i.i = omega arith in
-    let line = λ k. note.Variable (one k) (c.in_ok-places.ensures k) (c.share_of.ensures k) in
-    line-more (variable_line shuffle c.args.widths.now) c.as_slice-variable-items.result.now i v c.args.into.now c.loop-i.into c.add_note.new.into
-    (note.Variable (i + 1) c.in_ok-places.places c.share_of.result) c.loop-i-test.true c.variable-item.is line c.loop-i.invariant c.in_ok-add_note.ensures.ok
+    line-more (variable_line shuffle c.args.widths.now)
+    c.as_slice-variable-items.result.now i v c.args.into.now c.loop-i.into c.add_note.new.into
+    (note.Variable (i + 1) c.in_ok-places.places c.share_of.result) c.loop-i-test.true c.variable-item.is
+    (λ k. note.Variable (one k) (c.in_ok-places.ensures k) (c.share_of.ensures k)) c.loop-i.invariant c.in_ok-add_note.ensures.ok
 
 pub returns : goal.returns
 returns c =

@@ -1,11 +1,9 @@
-use Rattle.std.proofs.Common.{◌≡◌, ◌+◌, ◌*◌, ◌^◌, ◌<◌, ◌≤◌, Bool, true, false, cond, length, filter, sym, ap, ◌∙◌, arith, tests}
-use Rattle.std.specs.Prelude.{nat_lt}
+use Rattle.std.proofs.Common.{◌≡◌, ◌^◌, ◌<◌, true, false, cond, length, filter, sym, ap, ◌∙◌, arith}
 use Rattle.std.specs.List.{list_any}
 use Rattle.std.proofs.lemmas.Nat.{pow-add}
 use Rattle.std.proofs.lemmas.Bool.{lt-ltb, le-ltb}
 use Rattle.myrial_ast.specs.KeptRows.{lies_in}
 use Rattle.join_plans.specs.inner.Spans.{span_of}
-use Rattle.join_plans.specs.inner.Counts.{bits_in}
 use Rattle.join_plans.proofs.CountLemmas.{bits-more, some-pass}
 use Rattle.join_plans.proofs.uses.bits_in.Goals as goal
 use Rattle.join_plans.proofs.uses.bits_in.Goals.{then-count-gt0, else-count-gt0}
