@@ -1,0 +1,36 @@
+//! What references mean.
+ghost use Rattle.std.specs.Prelude.{◌≡◌};
+ghost use Rattle.myrial_scopes.specs.Meanings.{place_in, with_place};
+
+/// What a reference means.
+#[derive(Clone, Copy, Debug, PartialEq, Eq)]
+pub enum Meaning {
+    /// No column.
+    Unknown,
+    /// The one column at this place of the combined row.
+    One(u32),
+    /// Two columns or more.
+    Ambiguous,
+}
+
+impl Meaning {
+    /// The place, where there is just one.
+    pub fn place(self) -> Option<u32>
+        ensures { result ≡ place_in self }
+    {
+        match self {
+            Meaning::One(place) => Some(place),
+            Meaning::Unknown | Meaning::Ambiguous => None,
+        }
+    }
+
+    /// What a reference means that may mean the column at a place besides.
+    pub(crate) fn with(self, place: u32) -> Meaning
+        ensures { result ≡ with_place self place }
+    {
+        match self {
+            Meaning::Unknown => Meaning::One(place),
+            Meaning::One(_) | Meaning::Ambiguous => Meaning::Ambiguous,
+        }
+    }
+}
