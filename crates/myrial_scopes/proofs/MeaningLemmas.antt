@@ -12,7 +12,7 @@ use Rattle.myrial_ast.specs.declared.expressions.ColRef.TheVariants as ref
 use Rattle.myrial_ast.specs.Trees.{Name}
 use Rattle.myrial_scopes.specs.declared.meanings.Meaning.{Meaning}
 use Rattle.myrial_scopes.specs.declared.meanings.Meaning.TheVariants as meaning
-use Rattle.myrial_scopes.specs.Meanings.{meaning_among, place_in, with_place}
+use Rattle.myrial_scopes.specs.Meanings.{is_ambiguous, is_unknown, meaning_among, place_in, with_place}
 use Rattle.myrial_scopes.specs.Scopes.{ItemSchema, ScopeColumn, column_at, columns_of, may_mean, only, same_name, scoped}
 use Rattle.myrial_scopes.specs.inner.Places.{named_from, numbered_from, own_places, places_from, scope_from, with_places}
 
@@ -36,6 +36,17 @@ pub place_in-among : (places : List ℕ) → place_in (meaning_among places) ≡
 place_in-among [] = refl
 place_in-among (p ∷ []) = refl
 place_in-among (p ∷ q ∷ places) = refl
+
+-- no column is meant where there is no place, and several where there are two
+pub is_unknown-among : (places : List ℕ) → is_unknown (meaning_among places) ≡ eqb (length places) 0
+is_unknown-among [] = refl
+is_unknown-among (p ∷ []) = refl
+is_unknown-among (p ∷ q ∷ places) = grind (arith, nat_tests)
+
+pub is_ambiguous-among : (places : List ℕ) → is_ambiguous (meaning_among places) ≡ nat_lt 1 (length places)
+is_ambiguous-among [] = refl
+is_ambiguous-among (p ∷ []) = refl
+is_ambiguous-among (p ∷ q ∷ places) = grind (arith, nat_tests)
 
 -- ---- places from a first one
 

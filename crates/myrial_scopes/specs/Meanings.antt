@@ -2,8 +2,9 @@
 --
 --   meaning_of scope reference    what a reference means
 --   meaning_among places          what one means that may mean the columns at these places
+--   is_unknown, is_ambiguous      no column is meant, or several may be
 --   place_in meaning              the place that a reference means, where there is just one
-use Rattle.std.specs.Prelude.{ℕ, List, [], ◌∷◌, Option, Some, None}
+use Rattle.std.specs.Prelude.{ℕ, Bool, true, false, List, [], ◌∷◌, Option, Some, None}
 use Rattle.myrial_ast.specs.declared.expressions.ColRef.{ColRef}
 use Rattle.myrial_scopes.specs.declared.meanings.Meaning.{Meaning}
 use Rattle.myrial_scopes.specs.declared.meanings.Meaning.TheVariants as meaning
@@ -18,6 +19,16 @@ meaning_among _ = meaning.Ambiguous
 -- what a reference means
 abbrev pub meaning_of : List ScopeColumn → ColRef → Meaning
 meaning_of scope reference = meaning_among (places_of scope reference)
+
+-- whether no column is meant
+abbrev pub is_unknown : Meaning → Bool
+is_unknown meaning.Unknown = true
+is_unknown _ = false
+
+-- whether two columns or more may be meant
+abbrev pub is_ambiguous : Meaning → Bool
+is_ambiguous meaning.Ambiguous = true
+is_ambiguous _ = false
 
 -- the place that a reference means, where there is just one
 abbrev pub place_in : Meaning → Option ℕ

@@ -108,7 +108,7 @@ impl<'a> ItemSchema<'a> {
 }
 
 /// Whether one of the items has this alias.
-fn is_alias(items: &[ItemSchema], alias: &Text) -> bool
+pub fn is_alias(items: &[ItemSchema], alias: &Text) -> bool
     ensures { result ≡ is_alias items.now alias.now }
 {
     items.iter().any(|item| *item.alias == *alias)

@@ -20,6 +20,6 @@ mod scopes;
 
 pub use comprehensions::Comprehension;
 pub use emits::EmittedColumn;
-pub use items::{ItemSchema, has_doubled_alias};
+pub use items::{ItemSchema, has_doubled_alias, is_alias};
 pub use meanings::Meaning;
 pub use scopes::Scope;

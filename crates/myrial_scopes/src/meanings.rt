@@ -1,6 +1,6 @@
 //! What references mean.
 ghost use Rattle.std.specs.Prelude.{◌≡◌};
-ghost use Rattle.myrial_scopes.specs.Meanings.{place_in, with_place};
+ghost use Rattle.myrial_scopes.specs.Meanings.{is_ambiguous, is_unknown, place_in, with_place};
 
 /// What a reference means.
 #[derive(Clone, Copy, Debug, PartialEq, Eq)]
@@ -14,6 +14,20 @@ pub enum Meaning {
 }
 
 impl Meaning {
+    /// Whether no column is meant.
+    pub fn is_unknown(self) -> bool
+        ensures { result ≡ is_unknown self }
+    {
+        matches!(self, Meaning::Unknown)
+    }
+
+    /// Whether two columns or more may be meant.
+    pub fn is_ambiguous(self) -> bool
+        ensures { result ≡ is_ambiguous self }
+    {
+        matches!(self, Meaning::Ambiguous)
+    }
+
     /// The place, where there is just one.
     pub fn place(self) -> Option<u32>
         ensures { result ≡ place_in self }

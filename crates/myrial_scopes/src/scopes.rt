@@ -1,7 +1,7 @@
 //! Columns in scope, and what references mean.
-ghost use Rattle.std.specs.Prelude.{◌≡◌, ◌<◌, length, IfOk};
-ghost use Rattle.myrial_scopes.specs.Meanings.{meaning_of};
-ghost use Rattle.myrial_scopes.specs.Scopes.{same_name, place_of, scope_of, column_at};
+ghost use Rattle.std.specs.Prelude.{◌≡◌, ◌==◌, ◌<◌, length, nat_lt, IfOk};
+ghost use Rattle.myrial_scopes.specs.Meanings.{is_ambiguous, is_unknown, meaning_of, place_in};
+ghost use Rattle.myrial_scopes.specs.Scopes.{same_name, place_of, places_of, scope_of, column_at};
 
 use crate::items::ItemSchema;
 use crate::meanings::Meaning;
@@ -139,7 +139,11 @@ impl<'a> Scope<'a> {
 
     /// What a reference means: no column where it is unknown, two or more where it is ambiguous.
     pub fn meaning_of(&self, reference: &ColRef) -> Meaning
-        ensures { result ≡ meaning_of self.now reference.now }
+        ensures meaning { result ≡ meaning_of self.now reference.now }
+        ensures unknown { is_unknown result ≡ (length (places_of self.now reference.now) == 0) }
+        ensures ambiguous { is_ambiguous result
+            ≡ nat_lt 1 (length (places_of self.now reference.now)) }
+        ensures place { place_in result ≡ place_of self.now reference.now }
     {
         let mut meaning = Meaning::Unknown;
         let mut first = 0;

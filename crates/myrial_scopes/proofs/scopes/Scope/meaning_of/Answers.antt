@@ -1,8 +1,10 @@
-use Rattle.std.proofs.Common.{◌≡◌, ◌∙◌, ◌+◌, ◌<◌, ◌^◌, length, ap, arith}
+use Rattle.std.proofs.Common.{◌≡◌, ◌∙◌, ◌+◌, ◌<◌, ◌^◌, List, length, sym, ap, arith}
+use Rattle.std.proofs.lemmas.List.{at_drop_all}
 use Rattle.myrial_scopes.specs.declared.meanings.Meaning.TheVariants as meaning
-use Rattle.myrial_scopes.specs.Scopes.{may_mean, places_of, scope_of}
+use Rattle.myrial_scopes.specs.Meanings.{is_ambiguous, is_unknown, meaning_among, place_in}
+use Rattle.myrial_scopes.specs.Scopes.{ItemSchema, may_mean, places_of, scope_of}
 use Rattle.myrial_scopes.specs.inner.Places.{places_from, scope_from, with_places}
-use Rattle.myrial_scopes.proofs.MeaningLemmas.{length-scope_from-more, meaning-more, with_places-among}
+use Rattle.myrial_scopes.proofs.MeaningLemmas.{is_ambiguous-among, is_unknown-among, length-scope_from-more, meaning-more, place_in-among, with_places-among}
 use Rattle.myrial_scopes.proofs.scopes.Scope.meaning_of.Goals as goal
 use Rattle.myrial_scopes.proofs.scopes.Scope.meaning_of.Goals.{After-item-item}
 
@@ -41,4 +43,18 @@ loop-item-preserved c =
           (meaning-more items i item c.loop-item-test.true c.item-item.is c.args.reference.now c.loop-item.meaning c.loop-item.first
           ∙ c.loop-item.invariant.meaning);
       first = omega (arith, long, c.loop-item.invariant.first, c.len-first.ensures);
+    }
+
+pub returns : goal.returns
+returns c =
+    let places = places_of c.args.self.now c.args.reference.now in
+    let left = λ (rest : List ItemSchema).
+    with_places c.loop-item.meaning (places_from c.loop-item.first (may_mean c.args.reference.now) (scope_from c.loop-item.item-index rest)) in
+    let meant : c.loop-item.meaning ≡ meaning_among places =
+    sym (at_drop_all left c.deref-item-items.result.now c.loop-item.item-index c.loop-item-test.false) ∙ c.loop-item.invariant.meaning in
+    record {
+      meaning = meant;
+      unknown = ap is_unknown meant ∙ is_unknown-among places;
+      ambiguous = ap is_ambiguous meant ∙ is_ambiguous-among places;
+      place = ap place_in meant ∙ place_in-among places;
     }
