@@ -1,7 +1,8 @@
 //! The items of a comprehension.
 ghost use Rattle.std.specs.Prelude.{◌≡◌, ◌+◌, ◌^◌, ◌<◌, length};
 ghost use Rattle.myrial_scopes.specs.Scopes.{same_name, is_alias, has_doubled_alias};
-ghost use Rattle.myrial_scopes.specs.inner.Places.{named_from, numbered_from, own_places, with_places};
+ghost use Rattle.myrial_scopes.specs.inner.Places.{named_from, numbered_from, own_places};
+ghost use Rattle.myrial_scopes.specs.inner.Places.{with_places};
 
 use crate::meanings::Meaning;
 use myrial_ast::ColRef;

@@ -1,5 +1,6 @@
 -- What is wrong with the parts of a comprehension, one part further.
-use Rattle.std.proofs.Common.{◌≡◌, ◌∙◌, ℕ, ◌+◌, ◌<◌, ◌==◌, Bool, true, false, ◌||◌, not, List, [], ◌∷◌, ◌++◌, length, map, take, get_or, Option, Some, None, refl, sym, ap}
+use Rattle.std.proofs.Common.{◌≡◌, ◌∙◌, ℕ, ◌+◌, ◌<◌, ◌==◌, Bool, true, false, ◌||◌, not, List, [], ◌∷◌, ◌++◌, length, map, take}
+use Rattle.std.proofs.Common.{get_or, Option, Some, None, refl, sym, ap}
 use Rattle.std.specs.Prelude.{is_none, nat_lt}
 use Rattle.std.specs.List.{flat_map, list_any}
 use Rattle.std.proofs.lemmas.List.{append-nil, append_assoc, map_push, take_more}
@@ -14,7 +15,8 @@ use Rattle.myrial_ast.specs.Trees as tree
 use Rattle.myrial_scopes.specs.Scopes.{ItemSchema, is_alias, scope_of}
 use Rattle.algebra.specs.ShapeConditions.{is_kind}
 use Rattle.myrial_types.specs.declared.kinds.Faults.{Faults}
-use Rattle.myrial_types.specs.Kinds.{condition_trees, emitted_alias, emitted_tree, has_any_aggregate, has_inner_aggregate, is_unknown_behind}
+use Rattle.myrial_types.specs.Kinds.{condition_trees, emitted_alias, emitted_tree, has_any_aggregate, has_inner_aggregate}
+use Rattle.myrial_types.specs.Kinds.{is_unknown_behind}
 use Rattle.myrial_types.specs.Kinds.{meanings_of, references, references_in, tree_kind, trees_in}
 use Rattle.myrial_types.specs.inner.Readings.{either_faults, faults_in, reference_faults}
 
@@ -44,7 +46,8 @@ or_middle false b c = refl
 -- ---- references
 
 module _ (items : List ItemSchema) where
-  pub references_of_two : (xs ys : List ColRef) → reference_faults items (xs ++ ys) ≡ either_faults (reference_faults items xs) (reference_faults items ys)
+  pub references_of_two : (xs ys : List ColRef)
+      → reference_faults items (xs ++ ys) ≡ either_faults (reference_faults items xs) (reference_faults items ys)
   references_of_two xs ys = λ i. let f : Faults = record {
     relation = list_any-append (is_unknown_behind items) xs ys i;
     column = list_any-append (λ r. meanings_of items r == 0) xs ys i;
@@ -88,7 +91,8 @@ module _ (items : List ItemSchema) where
   condition_of_one e =
       let alone = append-nil (references e) in
       λ i. let f : Faults = record {
-        relation = (or_false (list_any (is_unknown_behind items) (references e ++ [])) ∙ ap (list_any (is_unknown_behind items)) alone) i;
+        relation = (or_false (list_any (is_unknown_behind items) (references e ++ []))
+            ∙ ap (list_any (is_unknown_behind items)) alone) i;
         column = list_any (λ r. meanings_of items r == 0) (alone i);
         ambiguous = list_any (λ r. nat_lt 1 (meanings_of items r)) (alone i);
         mismatch = no_truth (tree_kind (scope_of items) e) i;
@@ -105,10 +109,12 @@ module _ (items : List ItemSchema) where
   emit_of_one e name =
       let alone = append-nil (references e) in
       λ i. let f : Faults = record {
-        relation = (or_false (list_any (is_unknown_behind items) (references e ++ [])) ∙ ap (list_any (is_unknown_behind items)) alone) i;
+        relation = (or_false (list_any (is_unknown_behind items) (references e ++ []))
+            ∙ ap (list_any (is_unknown_behind items)) alone) i;
         column = list_any (λ r. meanings_of items r == 0) (alone i);
         ambiguous = list_any (λ r. nat_lt 1 (meanings_of items r)) (alone i);
-        mismatch = (or_false (is_none (tree_kind (scope_of items) e) || false) ∙ or_false (is_none (tree_kind (scope_of items) e))) i;
+        mismatch = (or_false (is_none (tree_kind (scope_of items) e) || false)
+            ∙ or_false (is_none (tree_kind (scope_of items) e))) i;
         misplaced = or_false (has_inner_aggregate e) i;
       } in f
 
@@ -140,16 +146,19 @@ trees_in-push condition emits emit =
 references_in-push : (condition : Option Tree) (emits : List EmitTree) (emit : EmitTree)
     → references_in condition (emits ++ emit ∷ []) ≡ references_in condition emits ++ references_in None (emit ∷ [])
 references_in-push condition emits emit =
-    ap (flat_map references) (trees_in-push condition emits emit) ∙ flat_map-append references (trees_in condition emits) (trees_in None (emit ∷ []))
+    ap (flat_map references) (trees_in-push condition emits emit)
+    ∙ flat_map-append references (trees_in condition emits) (trees_in None (emit ∷ []))
 
 module _ (items : List ItemSchema) (condition : Option Tree) where
   faults_in-push : (emits : List EmitTree) (emit : EmitTree)
-      → faults_in items condition (emits ++ emit ∷ []) ≡ either_faults (faults_in items condition emits) (faults_in items None (emit ∷ []))
+      → faults_in items condition (emits ++ emit ∷ [])
+      ≡ either_faults (faults_in items condition emits) (faults_in items None (emit ∷ []))
   faults_in-push emits emit =
       let refs = references_in condition emits in
       let new = references_in None (emit ∷ []) in
       let more = references_in-push condition emits emit in
-      let some : (p : ColRef → Bool) → list_any p (references_in condition (emits ++ emit ∷ [])) ≡ list_any p refs || list_any p new =
+      let some : (p : ColRef → Bool)
+      → list_any p (references_in condition (emits ++ emit ∷ [])) ≡ list_any p refs || list_any p new =
       λ p. ap (list_any p) more ∙ list_any-append p refs new in
       let unknown = λ (alias : Name). not (is_alias items alias) in
       let behind = is_unknown_behind items in
@@ -158,17 +167,21 @@ module _ (items : List ItemSchema) (condition : Option Tree) where
       λ i. let f : Faults = record {
         relation = (ap (λ a. a || list_any unknown (flat_map emitted_alias (emits ++ emit ∷ []))) (some behind)
             ∙ (ap (λ a. (list_any behind refs || list_any behind new) || a)
-            (ap (list_any unknown) (flat_map-append emitted_alias emits (emit ∷ [])) ∙ list_any-append unknown (flat_map emitted_alias emits) (flat_map emitted_alias (emit ∷ [])))
-            ∙ or_or (list_any behind refs) (list_any behind new) (list_any unknown (flat_map emitted_alias emits)) (list_any unknown (flat_map emitted_alias (emit ∷ []))))) i;
+            (ap (list_any unknown) (flat_map-append emitted_alias emits (emit ∷ []))
+            ∙ list_any-append unknown (flat_map emitted_alias emits) (flat_map emitted_alias (emit ∷ [])))
+            ∙ or_or (list_any behind refs) (list_any behind new) (list_any unknown (flat_map emitted_alias emits))
+            (list_any unknown (flat_map emitted_alias (emit ∷ []))))) i;
         column = some (λ r. meanings_of items r == 0) i;
         ambiguous = some (λ r. nat_lt 1 (meanings_of items r)) i;
         mismatch = (ap (λ a. a || no_bool)
-            (ap (list_any untyped) (trees_in-push condition emits emit) ∙ list_any-append untyped (trees_in condition emits) (trees_in None (emit ∷ [])))
+            (ap (list_any untyped) (trees_in-push condition emits emit)
+            ∙ list_any-append untyped (trees_in condition emits) (trees_in None (emit ∷ [])))
             ∙ or_last (list_any untyped (trees_in condition emits)) (list_any untyped (trees_in None (emit ∷ []))) no_bool) i;
         misplaced = (ap (λ a. list_any has_any_aggregate (condition_trees condition) || a)
             (ap (list_any has_inner_aggregate) (flat_map-append emitted_tree emits (emit ∷ []))
             ∙ list_any-append has_inner_aggregate (flat_map emitted_tree emits) (flat_map emitted_tree (emit ∷ [])))
-            ∙ or_middle (list_any has_any_aggregate (condition_trees condition)) (list_any has_inner_aggregate (flat_map emitted_tree emits))
+            ∙ or_middle (list_any has_any_aggregate (condition_trees condition))
+            (list_any has_inner_aggregate (flat_map emitted_tree emits))
             (list_any has_inner_aggregate (flat_map emitted_tree (emit ∷ [])))) i;
       } in f
 

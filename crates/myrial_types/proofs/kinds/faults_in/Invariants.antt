@@ -6,4 +6,5 @@ use Rattle.myrial_types.specs.inner.Readings.{faults_in}
 use Rattle.myrial_types.proofs.kinds.faults_in.Given as goal
 
 abbrev pub invariant-loop-emit : goal.invariant-loop-emit
-invariant-loop-emit l = l.faults ≡ faults_in l.schemas (option_map tree_of l.condition) (map emit_tree_of (take l.emit-index l.emits))
+invariant-loop-emit l = l.faults
+    ≡ faults_in l.schemas (option_map tree_of l.condition) (map emit_tree_of (take l.emit-index l.emits))

@@ -15,7 +15,8 @@ returns-then-own-len c =
     let there : column ≡ get_or item.schema own column =
     c.get.ensures ∙ ap (λ (columns : List Column). get_or columns own column) (ap (λ i. i.schema) c.item.view_is) in
     ap (λ alias. scoped i alias own column) (ap (λ i. i.alias) c.item.view_is)
-    ∙ (sym (column_at-own items i item c.loop-number-test.true c.item-item.is own column within there) ∙ c.loop-number.invariant.column)
+    ∙ (sym (column_at-own items i item c.loop-number-test.true c.item-item.is own column within there)
+    ∙ c.loop-number.invariant.column)
 
 pub loop-number-preserved : goal.loop-number-preserved
 loop-number-preserved c =

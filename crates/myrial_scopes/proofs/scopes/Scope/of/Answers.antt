@@ -15,9 +15,14 @@ loop-item-preserved c =
       alias = (c.new.ensures.alias ∙ ap (λ s. s.alias) c.item.view_is) j;
       schema = (c.new.ensures.schema ∙ ap (λ s. s.schema) c.item.view_is) j;
     } in s in
-    let more : take (i + 1) items ≡ take i items ++ item ∷ [] = rw (take_more items i item c.loop-item-test.true, ← c.item-item.is) refl in
+    let more : take (i + 1) items
+    ≡ take i items ++ item ∷ [] = rw (take_more items i item c.loop-item-test.true, ← c.item-item.is) refl in
     let long : length (scope_of (take (i + 1) items)) ≡ length (scope_of (take i items)) + length item.schema =
-    rw (scope_of-more items i item c.loop-item-test.true c.item-item.is, length-append (scope_of (take i items)) (columns_of i item), length-columns_of i item) refl in
+    rw (
+      scope_of-more items i item c.loop-item-test.true c.item-item.is,
+      length-append (scope_of (take i items)) (columns_of i item),
+      length-columns_of i item,
+    ) refl in
     let sum : c.in-Some.more ≡ c.loop-item.len + c.len.result = search rules in
     record {
       kept = c.in_ok-push.ensures.items
@@ -28,5 +33,8 @@ loop-item-preserved c =
     }
 
 pub invariant_of-result : goal.invariant_of-result
-invariant_of-result c =
-    (c.loop-item.invariant.len ∙ ap (λ (kept : List ItemSchema). length (scope_of kept)) (sym c.loop-item.invariant.kept), c.loop-item.invariant.few)
+invariant_of-result c = (
+  c.loop-item.invariant.len
+      ∙ ap (λ (kept : List ItemSchema). length (scope_of kept)) (sym c.loop-item.invariant.kept),
+  c.loop-item.invariant.few,
+)
