@@ -1,6 +1,6 @@
 -- What is wrong with the parts of a comprehension, one part further.
 use Rattle.std.proofs.Common.{◌≡◌, ◌∙◌, ℕ, ◌+◌, ◌<◌, ◌==◌, Bool, true, false, ◌||◌, not, List, [], ◌∷◌, ◌++◌, length, map, take}
-use Rattle.std.proofs.Common.{get_or, Option, Some, None, refl, sym, ap}
+use Rattle.std.proofs.Common.{get_or, Option, Some, None, refl, ap}
 use Rattle.std.specs.Prelude.{is_none, nat_lt}
 use Rattle.std.specs.List.{flat_map, list_any}
 use Rattle.std.proofs.lemmas.List.{append-nil, append_assoc, map_push, take_more}

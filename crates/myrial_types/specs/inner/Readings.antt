@@ -4,7 +4,7 @@
 --   either_faults faults others       what is wrong with one of two parts
 --   reference_faults items references     what is wrong with references
 --   faults_in items condition emits   what is wrong with a condition and emit items, apart from doubled aliases
-use Rattle.std.specs.Prelude.{ℕ, ◌==◌, false, ◌||◌, nat_lt, List, map, Option}
+use Rattle.std.specs.Prelude.{◌==◌, false, ◌||◌, nat_lt, List, Option}
 use Rattle.std.specs.List.{list_any}
 use Rattle.myrial_ast.specs.declared.expressions.ColRef.{ColRef}
 use Rattle.myrial_ast.specs.Trees.{Tree, EmitTree}
