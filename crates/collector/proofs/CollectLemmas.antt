@@ -2,6 +2,7 @@
 use Rattle.std.proofs.Common.{◌≡◌, ℕ, zero, suc, ◌+◌, ◌<◌, List, [], ◌∷◌, ◌++◌, map, length, All, Ok, refl, sym, ap, ◌∙◌, subst, arith, is_lt}
 use Rattle.std.specs.Prelude.{IsPermutation, IsSorted}
 use Rattle.std.specs.Global.{Vec}
+use Rattle.std.specs.Borrow.{Bor}
 use Rattle.std.specs.List.{flat_map}
 use Rattle.std.proofs.lemmas.List.Sorted.{IsPermutation-refl, IsPermutation-append, IsPermutation-trans, IsPermutation-map}
 use Rattle.std.proofs.lemmas.List.Elements.{All-nil, All-cons}
@@ -66,3 +67,10 @@ merged_rows parts lists all are merged =
     IsSortedBy-part (λ (row : Reference). Unit {0}) (λ (row : Reference). row.now) (λ r s. is_lt (row_order r s)) (λ p q. is_lt (reference_order p q))
     (λ p q one other less. less) all.items (λ k d low. tt) merged.in_order in
     sorted_by-unique row_order row_order_total row_order-IsAntisymmetric (joined parts) (rows_at all.items) same ascending
+
+-- what is merged of what jobs sorted, a job for each part
+pub collected : (parts : List (List (List Value))) (before after : List Sorting) (lists : List (Vec Reference)) (all : Vec Reference)
+    → map (λ job. job.part.now) before ≡ parts → EachHasRun HasSorted before after → map Ok lists ≡ map (λ job. job.sorted) after
+    → IsMerged reference_order lists all → rows_at all.items ≡ sorted (joined parts)
+collected parts before after lists all made run same merged =
+    merged_rows parts lists all (rw made at (sorted_by_jobs before after lists run same)) merged

@@ -1,1 +1,3 @@
+-- Laws of what the crate promises.
 pub mod CollectLemmas
+pub mod MergeLemmas

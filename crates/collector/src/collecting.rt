@@ -54,7 +54,7 @@ fn run_jobs<R: Threads + Wait + Sync>(rt: &R, jobs: &mut Vec<Sorting<'_>>)
 
 /// What the jobs sorted, where there was memory for each.
 fn sorted_lists<'a>(alloc: Global, jobs: Vec<Sorting<'a>>) -> Result<Vec<Vec<&'a Row>>, Memory>
-    ensures { IfOk result (λ lists. map Ok lists.items ≡ map (λ job. job.sorted) jobs.items) }
+    ensures { IfOk result (λ lists. map Ok lists.items ≡ map (λ job. job.sorted) jobs.entry.items) }
 {
     let mut lists = Vec::with_capacity(alloc, jobs.len())?;
     for job in jobs {

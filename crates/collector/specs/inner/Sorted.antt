@@ -6,6 +6,7 @@
 --   HasSorted before after     a sorting job that has run
 use Rattle.std.specs.Prelude.{List, map, IfOk}
 use Rattle.std.specs.Global.{Vec}
+use Rattle.std.specs.Borrow.{Bor}
 use Rattle.std.specs.declared.cmp.Ordering.{Ordering}
 use Rattle.rel_base.specs.declared.values.Value.{Value}
 use Rattle.rel_base.specs.Values.{row_order}

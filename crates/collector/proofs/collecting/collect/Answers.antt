@@ -1,6 +1,5 @@
-use Rattle.std.proofs.Common.{◌≡◌, ◌∙◌, ap, sym}
-use Rattle.rel_base.specs.Picks.{joined}
-use Rattle.collector.proofs.CollectLemmas.{sorted_by_jobs, merged_rows, AreSorted}
+use Rattle.std.proofs.Common.{◌∙◌}
+use Rattle.collector.proofs.CollectLemmas.{collected, sorted_by_jobs}
 use Rattle.collector.proofs.collecting.collect.Goals as goal
 
 pub merge-requires : goal.merge-requires
@@ -8,5 +7,4 @@ merge-requires g c = (sorted_by_jobs _ _ _ c.run_jobs.ensures c.in_ok-lists.ensu
 
 pub returns : goal.returns
 returns g c =
-    let are = sorted_by_jobs _ _ _ c.run_jobs.ensures c.in_ok-lists.ensures in
-    ?
+    collected c.args.parts.now _ _ _ _ (c.in_ok-jobs.ensures ∙ c.as_slice.ensures.value) c.run_jobs.ensures c.in_ok-lists.ensures c.in_ok-rows.ensures
