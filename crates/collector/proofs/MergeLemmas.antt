@@ -1,19 +1,18 @@
 -- What a merge of lists that are in order comes to.
-use Rattle.std.proofs.Common.{◌≡◌, ◌∙◌, ℕ, zero, suc, ◌+◌, ◌<◌, ◌^◌, Bool, true, false, List, [], ◌∷◌, ◌++◌, map, length, Option, Some, None, All, refl, sym, ap, subst, arith, append-nil, length-append, is_lt}
+use Rattle.std.proofs.Common.{◌≡◌, ◌∙◌, zero, suc, ◌<◌, ◌^◌, Bool, true, List, [], ◌∷◌, ◌++◌, map, length, Option, Some, All, refl, sym, ap, arith, append-nil, length-append, is_lt}
 use Rattle.std.specs.Prelude.{IsPermutation, IsSorted, vec_len}
 use Rattle.std.specs.Global.{Vec, Global}
 use Rattle.std.specs.declared.vec.IntoIter.{IntoIter}
 use Rattle.std.specs.declared.cmp.Ordering.{Ordering}
 use Rattle.std.specs.Ordering.{partial_lt}
 use Rattle.std.specs.Cmp.{IsTotalOrder, IsStrictWeakOrder}
-use Rattle.std.specs.List.{flat_map}
 use Rattle.std.specs.List.Sorted.{IsSortedBy}
 use Rattle.std.specs.Iterator.{Drains, DrainsIf}
 use Rattle.std.specs.Iterator.Runs.{Run, YieldsRun, EveryRun, ItemsAre}
 use Rattle.std.specs.Vec.Iter.{into_iter_items, into_iter_len, into_iter_steps}
 use Rattle.std.proofs.lemmas.List.MinMax.{ranks_by}
 use Rattle.std.proofs.lemmas.List.Sorted.{IsPermutation-refl}
-use Rattle.std.proofs.lemmas.Iterator.{YieldsList, items_from_drains}
+use Rattle.std.proofs.lemmas.Iterator.{items_from_drains}
 use Rattle.std.proofs.lemmas.Iterator.Adapters.{YieldsList-from_vec}
 use Rattle.itertools.specs.declared.kmerge_impl.KMergeBy.{KMergeBy}
 use Rattle.itertools.specs.declared.kmerge_impl.KMergeLt.{KMergeLt}

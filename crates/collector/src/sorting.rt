@@ -2,6 +2,7 @@
 ghost use Rattle.std.specs.Prelude.{◌≡◌, map, IfOk};
 ghost use Rattle.collector.specs.inner.Sorted.{IsSortedPart};
 
+use crate::keys::sorted_by_keys;
 use crew::Job;
 use rel_base::{Memory, Row, Rows};
 use std::alloc::Global;
@@ -28,12 +29,17 @@ impl<'a> Job for Sorting<'a> {
     }
 }
 
-/// The rows of a part in ascending order. Where they are in order already, the sort only checks that.
+/// The rows of a part in ascending order. Where they stand so already, they are only compared, each with the next.
 fn sorted_rows<'a>(alloc: Global, part: &'a Rows) -> Result<Vec<&'a Row>, Memory>
     ensures { IfOk result (IsSortedPart part.now) }
 {
-    let mut rows = rows_of(alloc, part)?;
-    rows.sort_unstable();
+    let rows = rows_of(alloc, part)?;
+    if rows.is_sorted() {
+        return Ok(rows);
+    }
+    // The references go before keys are made, so that both need not fit at once.
+    drop(rows);
+    let rows = sorted_by_keys(alloc, part)?;
     Ok(rows)
 }
 

@@ -1,4 +1,4 @@
-use Rattle.std.proofs.Common.{◌≡◌, ◌∙◌, ◌++◌, ◌∷◌, [], length, rules}
+use Rattle.std.proofs.Common.{◌≡◌, length, rules}
 use Rattle.collector.proofs.MergeLemmas.{merged_alone}
 use Rattle.collector.proofs.merging.merge.Goals as goal
 

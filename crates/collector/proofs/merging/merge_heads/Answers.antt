@@ -1,6 +1,4 @@
-use Rattle.std.proofs.Common.{◌≡◌, ◌∙◌, ◌++◌, List, map, sym, ap, arith, rules, length}
-use Rattle.std.specs.Prelude.{IsPermutation, IsSorted}
-use Rattle.std.specs.List.{flat_map}
+use Rattle.std.proofs.Common.{◌≡◌, ◌∙◌, ◌++◌, map, ap, rules, length}
 use Rattle.std.specs.Vec.Iter.{into_iter_items, into_iter_len}
 use Rattle.collector.proofs.MergeLemmas.{all_by_less, all_given, by_order, given_in_order, run_items, sources, strict}
 use Rattle.collector.proofs.merging.merge_heads.Goals as goal
