@@ -16,7 +16,9 @@ state_more k s is =
 -- one more row
 pub rows_more : (n j k : ℕ) {rows more : List (List Value)} {row : List Value} {t : ℕ} → rows ≡ map (trial_row n j) (range_with_len 0 k)
     → t ≡ state_after (2 * k) (4 * n + j) → row ≡ row_behind (n / 8 + 1) t → more ≡ rows ++ row ∷ [] → more ≡ map (trial_row n j) (range_with_len 0 (k + 1))
-rows_more n j k so_far state is next = rw (next, so_far, is, state, map-range_with_len_more (trial_row n j) 0 k k refl) refl
+rows_more n j k so_far state is next =
+    let here : 0 + k ≡ k = omega arith in
+    rw (next, so_far, is, state, map-range_with_len_more (trial_row n j) 0 k k here) refl
 
 -- each row has a number for each column
 pub rows_are_typed : (n j : ℕ) (ks : List ℕ) → All (HasTypes trial_columns) (map (trial_row n j) ks)
@@ -24,6 +26,6 @@ rows_are_typed n j [] k d low = absurd (omega (arith, low))
 rows_are_typed n j (i ∷ ks) zero d low = search rules
 rows_are_typed n j (i ∷ ks) (suc k) d low = rows_are_typed n j ks k d (omega (arith, low))
 
-pub same_file : {n j : ℕ} {name : List ℕ} {key : Key} {r : RelationState} → key ≡ trial_key name → r.schema ≡ trial_columns → r.rows ≡ trial_rows n j
+pub same_file : (n j : ℕ) {name : List ℕ} {key : Key} {r : RelationState} → key ≡ trial_key name → r.schema ≡ trial_columns → r.rows ≡ trial_rows n j
     → (key, r) ≡ trial_file n j name
-same_file key columns rows = λ i. (key i, record { schema = columns i; rows = rows i })
+same_file n j key columns rows = λ i. (key i, record { schema = columns i; rows = rows i })

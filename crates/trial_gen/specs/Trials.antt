@@ -1,5 +1,6 @@
 -- The relations of a trial.
 --
+--   most_trial_rows           the most rows of a relation
 --   next_state t              the state of the generator behind a state
 --   state_after k t           the state behind so many others
 --   number_of bound t         the number below a bound that is made of a state
@@ -14,7 +15,10 @@ use Rattle.rel_base.specs.declared.values.Value.{Value}
 use Rattle.rel_base.specs.declared.values.Value.TheVariants as value
 use Rattle.rel_base.specs.declared.values.ColType.TheVariants as kind
 use Rattle.rel_base.specs.Keys.{File}
-use Rattle.rel_base.specs.Relations.{RelationState}
+
+-- the most rows of a relation of a trial
+abbrev pub most_trial_rows : ℕ
+most_trial_rows = 100000
 
 -- ---- numbers
 

@@ -2,17 +2,15 @@
 //!
 //! Stands on `rel_base` alone.
 //!
-//! Promises: `trial_files` gives the relations of the definitions, which look random and are the same at every run. Not promised:
-//! that memory is there, or anything about how the numbers are spread.
+//! Promises: `trial_files` gives the relations of the definitions, which look random and are the same at every run, and the script
+//! is that of the definitions. Not promised: that memory is there, or anything about how the numbers are spread.
 //!
-//! Read `specs/Trials.antt`, then `relations.rt`.
+//! Read `specs/Trials.antt`, `specs/TrialScript.antt`, then `relations.rt`.
 #![tactic(auto)]
 
 mod numbers;
 mod relations;
 mod script;
-#[cfg(test)]
-mod tests;
 
 pub use relations::trial_files;
-pub use script::TRIAL_SCRIPT;
+pub use script::{MOST_TRIAL_ROWS, TRIAL_SCRIPT, trial_is_as_defined};

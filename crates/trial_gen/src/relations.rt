@@ -1,7 +1,7 @@
 //! The relations of a trial.
 ghost use Rattle.std.specs.Prelude.{◌≡◌, ◌<◌, ◌≤◌, IfOk};
 ghost use Rattle.trial_gen.specs.Trials as spec;
-ghost use Rattle.trial_gen.specs.Trials.{trial_columns, trial_file, trial_key, trial_rows};
+ghost use Rattle.trial_gen.specs.Trials.{most_trial_rows, trial_columns, trial_file, trial_key, trial_rows};
 
 use crate::numbers::{next_state, number_of};
 use rel_base::{ColType, Column, Files, Key, Memory, Relation, Row, Rows, Schema, Text, Value};
@@ -9,7 +9,7 @@ use std::alloc::Global;
 
 /// The three relations of a trial of this size: `E1`, `E2` and `E3`, each with so many rows of two numbers.
 pub fn trial_files(alloc: Global, size: u32) -> Result<Files, Memory>
-    requires { size ≤ 100000 }
+    requires { size ≤ most_trial_rows }
     ensures { IfOk result (λ files. files ≡ spec.trial_files size) }
 {
     let mut files = Files::new(alloc);
@@ -24,7 +24,7 @@ pub fn trial_files(alloc: Global, size: u32) -> Result<Files, Memory>
 
 /// The relation of this number, from 1, under its key.
 fn file_of(alloc: Global, size: u32, number: u32, name: &str) -> Result<(Key, Relation), Memory>
-    requires size { size ≤ 100000 }
+    requires size { size ≤ most_trial_rows }
     requires number { number ≤ 3 }
     ensures { IfOk result (λ file. file ≡ trial_file size number name.now) }
 {
@@ -66,20 +66,21 @@ fn columns_of(alloc: Global) -> Result<Schema, Memory>
     Ok(columns)
 }
 
-/// The rows of the relation of this number.
+/// The rows of the relation of this number. They are shared from the start, since scans view them.
 fn rows_of(alloc: Global, size: u32, number: u32) -> Result<Rows, Memory>
-    requires size { size ≤ 100000 }
+    requires size { size ≤ most_trial_rows }
     requires number { number ≤ 3 }
     ensures { IfOk result (λ rows. rows ≡ trial_rows size number) }
 {
     let bound = size / 8 + 1;
     let mut state = u64::from(4 * size + number);
     let mut rows = Rows::with_capacity(alloc, size)?;
-    for _row in 0..size {
+    for _place in 0..size {
         let row = row_behind(alloc, bound, state)?;
         rows.push(row)?;
         state = next_state(next_state(state));
     }
+    rows.freeze(alloc)?;
     Ok(rows)
 }
 
