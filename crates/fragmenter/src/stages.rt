@@ -1,10 +1,12 @@
 //! Stages: what is done of a step between two exchanges.
 ghost use Rattle.std.specs.Prelude.{◌≡◌, ◌++◌, IfOk, OnOk, Some, map};
-ghost use Rattle.algebra.specs.CheckedTrees.{step_tree_of, term_tree_of};
+ghost use Rattle.algebra.specs.CheckedTrees.{term_tree_of};
+ghost use Rattle.plan_rewrite.specs.Planned.{planned_tree_of};
 ghost use Rattle.algebra.specs.declared.settings.ShuffleKind.TheVariants as shuffle_kind;
 ghost use Rattle.fragmenter.specs.Stages.{join_ends, shuffles, stages_at, stages_of, term_ends};
 
-use algebra::{Exchange, ShuffleKind, StepList, Term};
+use algebra::{Exchange, ShuffleKind, Term};
+use plan_rewrite::Planned;
 use rel_base::{Items, Memory};
 use std::alloc::Global;
 
@@ -22,12 +24,13 @@ pub struct Stage {
 /// Stages, in the order in which they are done.
 pub type Stages = Items<Stage>;
 
-/// The stages of some steps, step by step in their order. Where a list can't hold so many, the answer is `Memory`.
-pub fn fragment(alloc: Global, steps: &StepList, shuffle: ShuffleKind) -> Result<Stages, Memory>
-    ensures { IfOk result (λ stages. stages ≡ stages_of shuffle (map step_tree_of steps.now)) }
+/// The stages of a script, step by step in their order. Where a list can't hold so many, the answer is `Memory`.
+pub fn fragment(alloc: Global, planned: &Planned, shuffle: ShuffleKind) -> Result<Stages, Memory>
+    ensures { IfOk result (λ stages. stages
+        ≡ stages_of shuffle (planned_tree_of planned.now).steps) }
 {
     let mut stages = Stages::new(alloc);
-    for (place, step) in steps.as_slice().iter().enumerate() {
+    for (place, step) in planned.steps.as_slice().iter().enumerate() {
         let ends = ends_of_term(alloc, &step.term, shuffle)?;
         push_stages(step.statement, place as u32, ends.as_slice(), &mut stages)?;
     }
@@ -44,7 +47,7 @@ fn push_stages(
     ensures { OnOk result (stages.new ≡ stages.old ++ stages_at statement step ends.now) }
 {
     for end in ends {
-        if stages.len() == Stages::MOST {
+        if stages.len() == u32::MAX {
             return Err(Memory);
         }
         stages.push(Stage {
@@ -95,13 +98,13 @@ fn ends_of_join(
     }
 }
 
-/// The steps of a join of so many items, two at a time.
+/// The steps of a join of so many items, two at a time: one for each item behind the first, numbered from 2.
 fn step_ends(alloc: Global, items: u32) -> Result<Vec<Option<Exchange>>, Memory>
     ensures { IfOk result (λ ends. ends.items ≡ map Some (shuffles shuffle_kind.Rs items)) }
 {
     let mut ends = Vec::new(alloc);
-    for step in 2..=items {
-        ends.push(Some(Exchange::Rs(step)))?;
+    for place in 0..items.saturating_sub(1) {
+        ends.push(Some(Exchange::Rs(place + 2)))?;
     }
     Ok(ends)
 }

@@ -1,7 +1,7 @@
-use Rattle.std.proofs.Common.{◌≡◌, ◌-◌, map, Some}
-use Rattle.algebra.specs.declared.settings.ShuffleKind.TheVariants as shuffle_kind
-use Rattle.fragmenter.specs.Stages.{shuffles}
+use Rattle.std.proofs.Common.{◌≡◌, map, Some}
+use Rattle.std.specs.List.{range_with_len}
+use Rattle.algebra.specs.declared.notes.Exchange.TheVariants as exchange
 use Rattle.fragmenter.proofs.stages.step_ends.Given as goal
 
-abbrev pub invariant-loop-step : goal.invariant-loop-step
-invariant-loop-step l = l.ends.items ≡ map Some (shuffles shuffle_kind.Rs (l.step - 1))
+abbrev pub invariant-loop-place : goal.invariant-loop-place
+invariant-loop-place l = l.ends.items ≡ map Some (map exchange.Rs (range_with_len 2 l.place))
