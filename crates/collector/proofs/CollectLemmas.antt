@@ -27,7 +27,8 @@ pub record AreSorted (parts : List (List (List Value))) (lists : List (Vec Refer
   pub same_rows : SameBag (joined parts) (joined (map (λ list. rows_at list.items) lists))
   pub ascending : All (IsAscending reference_order) lists
 
-pub sorted_by_jobs : (before after : List Sorting) (lists : List (Vec Reference)) → EachHasRun HasSorted before after → map Ok lists ≡ map (λ job. job.sorted) after
+pub sorted_by_jobs : (before after : List Sorting) (lists : List (Vec Reference)) → EachHasRun HasSorted before after
+    → map Ok lists ≡ map (λ job. job.sorted) after
     → AreSorted (map (λ job. job.part.now) before) lists
 sorted_by_jobs [] [] [] run same = record { same_rows = IsPermutation-refl []; ascending = All-nil _ }
 sorted_by_jobs [] [] (list ∷ lists) run same = cc
@@ -49,27 +50,33 @@ sorted_by_jobs (b ∷ before) (a ∷ after) (list ∷ lists) run same =
 -- the rows that references of lists lead to are those of each list, one list after another
 rows_of_lists : (lists : List (List Reference)) → rows_at (flat_map (λ rows. rows) lists) ≡ joined (map rows_at lists)
 rows_of_lists [] = refl
-rows_of_lists (rows ∷ lists) = map-append (λ (row : Reference). row.now) rows (flat_map (λ rows. rows) lists) ∙ ap (λ more. rows_at rows ++ more) (rows_of_lists lists)
+rows_of_lists (rows ∷ lists) =
+    map-append (λ (row : Reference). row.now) rows (flat_map (λ rows. rows) lists)
+    ∙ ap (λ more. rows_at rows ++ more) (rows_of_lists lists)
 
 map_twice : (lists : List (Vec Reference)) → map rows_at (map (λ list. list.items) lists) ≡ map (λ list. rows_at list.items) lists
 map_twice [] = refl
 map_twice (list ∷ lists) = ap (λ more. rows_at list.items ∷ more) (map_twice lists)
 
 -- the merge of what the jobs sorted is all rows of the parts in ascending order
-pub merged_rows : (parts : List (List (List Value))) (lists : List (Vec Reference)) (all : Vec Reference) → AreSorted parts lists → IsMerged reference_order lists all
+pub merged_rows : (parts : List (List (List Value))) (lists : List (Vec Reference)) (all : Vec Reference) → AreSorted parts lists
+    → IsMerged reference_order lists all
     → rows_at all.items ≡ sorted (joined parts)
 merged_rows parts lists all are merged =
     let moved : IsPermutation (rows_at (flat_map (λ items. items) (map (λ list. list.items) lists))) (rows_at all.items) =
     IsPermutation-map (λ (row : Reference). row.now) _ _ merged.same_items in
     let same : SameBag (joined parts) (rows_at all.items) =
-    IsPermutation-trans _ _ _ are.same_rows (rw (rows_of_lists (map (λ (list : Vec Reference). list.items) lists), map_twice lists) at moved) in
+    IsPermutation-trans _ _ _ are.same_rows
+    (rw (rows_of_lists (map (λ (list : Vec Reference). list.items) lists), map_twice lists) at moved) in
     let ascending : IsSorted row_order (rows_at all.items) =
-    IsSortedBy-part (λ (row : Reference). Unit {0}) (λ (row : Reference). row.now) (λ r s. is_lt (row_order r s)) (λ p q. is_lt (reference_order p q))
+    IsSortedBy-part (λ (row : Reference). Unit {0}) (λ (row : Reference). row.now) (λ r s. is_lt (row_order r s))
+    (λ p q. is_lt (reference_order p q))
     (λ p q one other less. less) all.items (λ k d low. tt) merged.in_order in
     sorted_by-unique row_order row_order_total row_order-IsAntisymmetric (joined parts) (rows_at all.items) same ascending
 
 -- what is merged of what jobs sorted, a job for each part
-pub collected : (parts : List (List (List Value))) (before after : List Sorting) (lists : List (Vec Reference)) (all : Vec Reference)
+pub collected : (parts : List (List (List Value))) (before after : List Sorting) (lists : List (Vec Reference))
+    (all : Vec Reference)
     → map (λ job. job.part.now) before ≡ parts → EachHasRun HasSorted before after → map Ok lists ≡ map (λ job. job.sorted) after
     → IsMerged reference_order lists all → rows_at all.items ≡ sorted (joined parts)
 collected parts before after lists all made run same merged =

@@ -1,5 +1,6 @@
 -- What a merge of lists that are in order comes to.
-use Rattle.std.proofs.Common.{◌≡◌, ◌∙◌, zero, suc, ◌<◌, ◌^◌, Bool, true, List, [], ◌∷◌, ◌++◌, map, length, Option, Some, All, refl, sym, ap, arith, append-nil, length-append, is_lt}
+use Rattle.std.proofs.Common.{◌≡◌, ◌∙◌, zero, suc, ◌<◌, ◌^◌, Bool, true, List, [], ◌∷◌, ◌++◌, map, length, Option, Some, All, refl}
+use Rattle.std.proofs.Common.{sym, ap, arith, append-nil, length-append, is_lt}
 use Rattle.std.specs.Prelude.{IsPermutation, IsSorted, vec_len}
 use Rattle.std.specs.Global.{Vec, Global}
 use Rattle.std.specs.declared.vec.IntoIter.{IntoIter}
@@ -21,14 +22,16 @@ use Rattle.collector.specs.inner.Merged.{IsAscending, IsMerged}
 
 module _ {T : Type 0} (order : T → T → Ordering) where
   -- a lone list in order is merged already
-  pub merged_alone : (lists before : List (Vec T)) (list : Vec T) → lists ≡ before ++ list ∷ [] → length lists ≡ 1 → All (IsAscending order) lists → IsMerged order lists list
+  pub merged_alone : (lists before : List (Vec T)) (list : Vec T) → lists ≡ before ++ list ∷ [] → length lists ≡ 1
+      → All (IsAscending order) lists → IsMerged order lists list
   merged_alone lists [] list is long all =
       let own : IsAscending order list = rw is at all 0 list (omega (arith, long)) in
       record {
         same_items = rw (is, append-nil list.items) (IsPermutation-refl list.items);
         in_order = own.in_order;
       }
-  merged_alone lists (other ∷ before) list is long all = absurd (omega (arith, ap length is, long, length-append before (list ∷ [])))
+  merged_alone lists (other ∷ before) list is long all =
+      absurd (omega (arith, ap length is, long, length-append before (list ∷ [])))
 
 module _ {T : Type 0} (order : T → T → Ordering) (partial : T → T → Option Ordering) (total : IsTotalOrder order)
     (agree : (x y : T) → partial x y ≡ Some (order x y)) where
@@ -50,10 +53,12 @@ module _ {T : Type 0} (order : T → T → Ordering) (partial : T → T → Opti
   pub by_order : (xs : List T) → IsSortedBy (partial_lt partial) xs → IsSorted order xs
   by_order xs sorted k d low high = sym (less_is _ _) ∙ sorted k d low high
 
-  pub all_by_less : (lists : List (Vec T)) → All (IsAscending order) lists → All (IsSortedBy (partial_lt partial)) (map (λ list. list.items) lists)
+  pub all_by_less : (lists : List (Vec T)) → All (IsAscending order) lists
+      → All (IsSortedBy (partial_lt partial)) (map (λ list. list.items) lists)
   all_by_less [] all k d low = absurd (omega (arith, low))
   all_by_less (list ∷ lists) all zero d low = by_less list.items (all 0 list (omega arith)).in_order
-  all_by_less (list ∷ lists) all (suc k) d low = all_by_less lists (λ i e less. all (suc i) e (omega (arith, less))) k d (omega (arith, low))
+  all_by_less (list ∷ lists) all (suc k) d low =
+      all_by_less lists (λ i e less. all (suc i) e (omega (arith, less))) k d (omega (arith, low))
 
 abbrev pub Merge : Type 0 → Type 0
 Merge T = KMergeBy (IntoIter T Global) KMergeLt Global T
@@ -64,7 +69,8 @@ map_same (x ∷ xs) = ap (λ ys. x ∷ ys) (map_same xs)
 
 module _ {T Z : Type 0} where
   -- a whole run of a list's iterator gives the list
-  pub run_items : (xs : List T) (p : Run (into_iter_steps {X = T} {Z = Z})) → p.whole ≡ true → into_iter_items p.from ≡ xs → into_iter_len p.from ≡ length xs
+  pub run_items : (xs : List T) (p : Run (into_iter_steps {X = T} {Z = Z})) → p.whole ≡ true
+      → into_iter_items p.from ≡ xs → into_iter_len p.from ≡ length xs
       → p.items ≡ xs
   unfolding YieldsRun
   run_items xs p whole items long =
@@ -84,8 +90,10 @@ module _ {T : Type 0} {order : T → T → Ordering} where
       → SourcesGive becomes (into_iter_steps {X = T} {Z = Global}) lists (map (λ list. list.items) lists)
   sources [] all = tt
   sources (list ∷ lists) all =
-      let own : IsAscending order list = all 0 list (omega arith) in
-      (λ j given. (YieldsList-from_vec list.items given.0 (given.1 ∙ own.long)).runs, sources lists (λ k d low. all (suc k) d (omega (arith, low))))
+      let own : IsAscending order list = all 0 list (omega arith) in (
+        λ j given. (YieldsList-from_vec list.items given.0 (given.1 ∙ own.long)).runs,
+        sources lists (λ k d low. all (suc k) d (omega (arith, low))),
+      )
 
 module _ {T : Type 0} (partial : T → T → Option Ordering) where
   -- the merge compares by `<`
@@ -101,11 +109,13 @@ module _ {T : Type 0} (partial : T → T → Option Ordering) where
     drains = (drained.1.0, drained.1.1, λ _. (drained.0, drained.1.2))
 
     -- a merge that was drained gave the items of all lists
-    pub all_given : (ls : List (List T)) → MergeGivesAll (into_iter_steps {X = T} {Z = Global}) compares merge ls → IsPermutation (joined_lists ls) xs
+    pub all_given : (ls : List (List T)) → MergeGivesAll (into_iter_steps {X = T} {Z = Global}) compares merge ls
+        → IsPermutation (joined_lists ls) xs
     all_given ls gives =
         let given = gives xs true drains in
         rw (given.2 refl, append-nil xs) at given.1
 
     -- and in order, where it gives in order
-    pub given_in_order : MergeInOrder (into_iter_steps {X = T} {Z = Global}) compares (partial_lt partial) merge → IsSortedBy (partial_lt partial) xs
+    pub given_in_order : MergeInOrder (into_iter_steps {X = T} {Z = Global}) compares (partial_lt partial) merge
+        → IsSortedBy (partial_lt partial) xs
     given_in_order gives = gives xs true drains

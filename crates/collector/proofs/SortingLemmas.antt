@@ -20,10 +20,15 @@ then_Equal Less = refl
 then_Equal Equal = refl
 then_Equal Greater = refl
 
+-- how two rows compare by what they begin with
+abbrev pub by_beginning : List Value → List Value → Ordering
+by_beginning row other =
+    ordering_then (nat_cmp (leading_rank row) (leading_rank other)) (int_cmp (leading_number row) (leading_number other))
+
 -- what compares by what rows begin with and then by the rows, and is not less, is not less by the rows
-pub not_less-keyed : (row other : List Value) → All (λ byte. byte < 256) (leading_bytes row) → All (λ byte. byte < 256) (leading_bytes other)
-    → is_lt (ordering_then (ordering_then (nat_cmp (leading_rank row) (leading_rank other)) (int_cmp (leading_number row) (leading_number other)))
-    (row_order row other)) ≡ false → is_lt (row_order row other) ≡ false
+pub not_less-keyed : (row other : List Value) → All (λ byte. byte < 256) (leading_bytes row)
+    → All (λ byte. byte < 256) (leading_bytes other)
+    → is_lt (ordering_then (by_beginning row other) (row_order row other)) ≡ false → is_lt (row_order row other) ≡ false
 not_less-keyed row other bytes others e = not_less-row row other Equal bytes others (ap is_lt (then_Equal _) ∙ e)
 
 reversed : (first : Ordering) → is_le first ≡ true → is_lt (ordering_reverse first) ≡ false

@@ -13,8 +13,9 @@ use std::alloc::Global;
 use std::sync::Wait;
 use std::thread::Threads;
 
-/// The rows of all parts in ascending order, each where its part has it. The parts are sorted side by side, in a job each, and
-/// then merged; no row is copied, and a part that is in order already is only checked. It may wait as long as its jobs do.
+/// The rows of all parts in ascending order, each where its part has it. The parts are sorted side
+/// by side, in a job each, and then merged; no row is copied, and a part that is in order already
+/// is only checked. It may wait as long as its jobs do.
 pub fn collect<'a, R: Threads + Wait + Sync>(
     rt: &R,
     alloc: Global,

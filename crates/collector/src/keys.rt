@@ -6,8 +6,8 @@ ghost use Rattle.collector.specs.inner.Sorted.{IsSortedPart};
 use rel_base::{Memory, Row, Rows, Value, sort_key};
 use std::alloc::Global;
 
-/// A row behind what it begins with: the rank of its first value's type, 0 where it has none, and the number of an int, the
-/// key of a string, or else 0.
+/// A row behind what it begins with: the rank of its first value's type, 0 where it has none, and
+/// the number of an int, the key of a string, or else 0.
 type KeyedRow<'a> = (u8, i64, &'a Row);
 
 /// The rows of a part in ascending order, each where it stands.

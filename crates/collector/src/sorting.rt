@@ -29,7 +29,8 @@ impl<'a> Job for Sorting<'a> {
     }
 }
 
-/// The rows of a part in ascending order. Where they stand so already, they are only compared, each with the next.
+/// The rows of a part in ascending order. Where they stand so already, they are only compared, each
+/// with the next.
 fn sorted_rows<'a>(alloc: Global, part: &'a Rows) -> Result<Vec<&'a Row>, Memory>
     ensures { IfOk result (IsSortedPart part.now) }
 {

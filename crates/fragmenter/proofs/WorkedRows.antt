@@ -34,12 +34,14 @@ steps =
     step 1 (Join (shape 3) []) ∷ step 3 (Group (shape 2) [] []) ∷ step 4 (Distinct first) ∷ step 5 (UnionAll first first) ∷ []
 
 two_at_a_time : stages_of shuffle.Rs steps
-    ≡ stage 1 0 (Some (exchange.Rs 2)) ∷ stage 1 0 (Some (exchange.Rs 3)) ∷ stage 3 1 (Some (exchange.Rs 2)) ∷ stage 3 1 (Some exchange.Group)
+    ≡ stage 1 0 (Some (exchange.Rs 2)) ∷ stage 1 0 (Some (exchange.Rs 3)) ∷ stage 3 1 (Some (exchange.Rs 2))
+    ∷ stage 3 1 (Some exchange.Group)
     ∷ stage 4 2 (Some exchange.Distinct) ∷ stage 5 3 None ∷ []
 two_at_a_time = refl
 
 all_at_once : stages_of shuffle.Hc steps
-    ≡ stage 1 0 (Some exchange.Hc) ∷ stage 3 1 (Some exchange.Hc) ∷ stage 3 1 (Some exchange.Group) ∷ stage 4 2 (Some exchange.Distinct)
+    ≡ stage 1 0 (Some exchange.Hc) ∷ stage 3 1 (Some exchange.Hc) ∷ stage 3 1 (Some exchange.Group)
+    ∷ stage 4 2 (Some exchange.Distinct)
     ∷ stage 5 3 None ∷ []
 all_at_once = refl
 

@@ -24,7 +24,8 @@ pub struct Stage {
 /// Stages, in the order in which they are done.
 pub type Stages = Items<Stage>;
 
-/// The stages of a script, step by step in their order. Where a list can't hold so many, the answer is `Memory`.
+/// The stages of a script, step by step in their order. Where a list can't hold so many, the answer
+/// is `Memory`.
 pub fn fragment(alloc: Global, planned: &Planned, shuffle: ShuffleKind) -> Result<Stages, Memory>
     ensures { IfOk result (λ stages. stages
         ≡ stages_of shuffle (planned_tree_of planned.now).steps) }
@@ -98,7 +99,8 @@ fn ends_of_join(
     }
 }
 
-/// The steps of a join of so many items, two at a time: one for each item behind the first, numbered from 2.
+/// The steps of a join of so many items, two at a time: one for each item behind the first,
+/// numbered from 2.
 fn step_ends(alloc: Global, items: u32) -> Result<Vec<Option<Exchange>>, Memory>
     ensures { IfOk result (λ ends. ends.items ≡ map Some (shuffles shuffle_kind.Rs items)) }
 {

@@ -14,8 +14,10 @@ state_more k s is =
     rw (is, twice) refl
 
 -- one more row
-pub rows_more : (n j k : ℕ) {rows more : List (List Value)} {row : List Value} {t : ℕ} → rows ≡ map (trial_row n j) (range_with_len 0 k)
-    → t ≡ state_after (2 * k) (4 * n + j) → row ≡ row_behind (n / 8 + 1) t → more ≡ rows ++ row ∷ [] → more ≡ map (trial_row n j) (range_with_len 0 (k + 1))
+pub rows_more : (n j k : ℕ) {rows more : List (List Value)} {row : List Value} {t : ℕ}
+    → rows ≡ map (trial_row n j) (range_with_len 0 k)
+    → t ≡ state_after (2 * k) (4 * n + j) → row ≡ row_behind (n / 8 + 1) t → more ≡ rows ++ row ∷ []
+    → more ≡ map (trial_row n j) (range_with_len 0 (k + 1))
 rows_more n j k so_far state is next =
     let here : 0 + k ≡ k = omega arith in
     rw (next, so_far, is, state, map-range_with_len_more (trial_row n j) 0 k k here) refl
@@ -26,6 +28,7 @@ rows_are_typed n j [] k d low = absurd (omega (arith, low))
 rows_are_typed n j (i ∷ ks) zero d low = search rules
 rows_are_typed n j (i ∷ ks) (suc k) d low = rows_are_typed n j ks k d (omega (arith, low))
 
-pub same_file : (n j : ℕ) {name : List ℕ} {key : Key} {r : RelationState} → key ≡ trial_key name → r.schema ≡ trial_columns → r.rows ≡ trial_rows n j
+pub same_file : (n j : ℕ) {name : List ℕ} {key : Key} {r : RelationState} → key ≡ trial_key name → r.schema ≡ trial_columns
+    → r.rows ≡ trial_rows n j
     → (key, r) ≡ trial_file n j name
 same_file n j key columns rows = λ i. (key i, record { schema = columns i; rows = rows i })

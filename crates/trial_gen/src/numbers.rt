@@ -1,7 +1,8 @@
 //! Numbers that look random and are the same at every run.
 //!
-//! Source: the linear congruential generator of Knuth's MMIX (The Art of Computer Programming, volume 2, section 3.3.4), whose
-//! states are numbers of 64 bits. Only their high bits are used, since the low ones have short periods.
+//! Source: the linear congruential generator of Knuth's MMIX (The Art of Computer Programming,
+//! volume 2, section 3.3.4), whose states are numbers of 64 bits. Only their high bits are used,
+//! since the low ones have short periods.
 ghost use Rattle.std.specs.Prelude.{◌≡◌, ◌<◌, pos};
 ghost use Rattle.trial_gen.specs.Trials as spec;
 

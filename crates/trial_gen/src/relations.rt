@@ -1,13 +1,15 @@
 //! The relations of a trial.
 ghost use Rattle.std.specs.Prelude.{◌≡◌, ◌<◌, ◌≤◌, IfOk};
 ghost use Rattle.trial_gen.specs.Trials as spec;
-ghost use Rattle.trial_gen.specs.Trials.{most_trial_rows, trial_columns, trial_file, trial_key, trial_rows};
+ghost use Rattle.trial_gen.specs.Trials.{most_trial_rows, trial_columns, trial_file, trial_key};
+ghost use Rattle.trial_gen.specs.Trials.{trial_rows};
 
 use crate::numbers::{next_state, number_of};
 use rel_base::{ColType, Column, Files, Key, Memory, Relation, Row, Rows, Schema, Text, Value};
 use std::alloc::Global;
 
-/// The three relations of a trial of this size: `E1`, `E2` and `E3`, each with so many rows of two numbers.
+/// The three relations of a trial of this size: `E1`, `E2` and `E3`, each with so many rows of two
+/// numbers.
 pub fn trial_files(alloc: Global, size: u32) -> Result<Files, Memory>
     requires { size ≤ most_trial_rows }
     ensures { IfOk result (λ files. files ≡ spec.trial_files size) }

@@ -7,4 +7,5 @@ merge-requires g c = (sorted_by_jobs _ _ _ c.run_jobs.ensures c.in_ok-lists.ensu
 
 pub returns : goal.returns
 returns g c =
-    collected c.args.parts.now _ _ _ _ (c.in_ok-jobs.ensures ∙ c.as_slice.ensures.value) c.run_jobs.ensures c.in_ok-lists.ensures c.in_ok-rows.ensures
+    let parts = c.in_ok-jobs.ensures ∙ c.as_slice.ensures.value in
+    collected c.args.parts.now _ _ _ _ parts c.run_jobs.ensures c.in_ok-lists.ensures c.in_ok-rows.ensures

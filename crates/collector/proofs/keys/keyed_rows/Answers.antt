@@ -11,7 +11,8 @@ loop-row-preserved c =
     let row = c.in-Some.row.now in
     let left = c.next.new.self in
     let item = c.keyed_row.result in
-    let whole : map (λ e. e.2.now) pairs ++ (row ∷ left) ≡ c.args.part.now = rw c.in-Some.ensures.steps at c.loop-row.invariant.2 in (
+    let done = map (λ e. e.2.now) pairs in
+    let whole : done ++ (row ∷ left) ≡ c.args.part.now = rw c.in-Some.ensures.steps at c.loop-row.invariant.2 in (
       tt,
       tt,
       rw (c.in_ok-push.ensures.items, map-append, append_assoc, c.keyed_row.ensures.row) whole,

@@ -15,7 +15,8 @@ returns c =
     let moved = IsPermutation-map (λ e. e.2.now) _ _ c.sort_unstable.ensures.permutation in
     let sorted = IsSortedBy-part (λ e. BeginsWith e.2.now e.0 e.1) (λ e. e.2.now) (λ r s. is_lt (row_order r s))
     (λ p q. is_lt (ordering_then (ordering_then (nat_cmp p.0 q.0) (int_cmp p.1 q.1)) (row_order p.2.now q.2.now)))
-    (λ p q one other e. not_less-keyed p.2.now q.2.now one.is_text other.is_text (rw (one.is_rank, one.is_number, other.is_rank, other.is_number) at e))
+    (λ p q one other e. not_less-keyed p.2.now q.2.now one.is_text other.is_text
+    (rw (one.is_rank, one.is_number, other.is_rank, other.is_number) at e))
     pairs (All-permutation (λ e. BeginsWith e.2.now e.0 e.1) _ _ c.sort_unstable.ensures.permutation c.in_ok-keyed.ensures.keys)
     c.sort_unstable.ensures.sorted in
     record {

@@ -10,7 +10,8 @@ returns-then-is_sorted c =
     record {
       same_rows = rw c.in_ok-rows.ensures (IsPermutation-refl c.args.part.now);
       ascending = record {
-        in_order = in_order_by_neighbours reference_order ordered_references rows (rw c.deref.ensures.value at c.if-is_sorted.ensures.cases);
+        in_order = in_order_by_neighbours reference_order ordered_references rows
+            (rw c.deref.ensures.value at c.if-is_sorted.ensures.cases);
         long = search rules;
       };
     }

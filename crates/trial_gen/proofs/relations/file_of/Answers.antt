@@ -6,4 +6,7 @@ pub new-requires : goal.new-requires
 new-requires c = rw (c.in_ok-columns.ensures, c.in_ok-rows.ensures) (rows_are_typed _ _ _)
 
 pub returns : goal.returns
-returns c = same_file c.args.size c.args.number c.in_ok-key.ensures (c.new.ensures.schema ∙ c.in_ok-columns.ensures) (c.new.ensures.rows ∙ c.in_ok-rows.ensures)
+returns c =
+    let columns = c.new.ensures.schema ∙ c.in_ok-columns.ensures in
+    let rows = c.new.ensures.rows ∙ c.in_ok-rows.ensures in
+    same_file c.args.size c.args.number c.in_ok-key.ensures columns rows

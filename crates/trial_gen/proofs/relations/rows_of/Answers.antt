@@ -9,7 +9,8 @@ use Rattle.trial_gen.proofs.relations.rows_of.Goals as goal
 pub push-requires : goal.push-requires
 push-requires c =
     let places = range_with_len 0 c.loop-place._place in
-    omega (arith, ap length c.loop-place.invariant.0, length-map places (trial_row c.args.size c.args.number), length-range_with_len 0 c.loop-place._place)
+    let rows = length-map places (trial_row c.args.size c.args.number) in
+    omega (arith, ap length c.loop-place.invariant.0, rows, length-range_with_len 0 c.loop-place._place)
 
 pub loop-place-preserved : goal.loop-place-preserved
 loop-place-preserved c =

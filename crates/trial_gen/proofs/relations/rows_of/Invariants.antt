@@ -5,4 +5,5 @@ use Rattle.trial_gen.proofs.relations.rows_of.Given as goal
 
 abbrev pub invariant-loop-place : goal.invariant-loop-place
 invariant-loop-place l =
-    (l.rows ≡ map (trial_row l.size l.number) (range_with_len 0 l._place)) × (l.state ≡ state_after (2 * l._place) (4 * l.size + l.number))
+    (l.rows ≡ map (trial_row l.size l.number) (range_with_len 0 l._place))
+    × (l.state ≡ state_after (2 * l._place) (4 * l.size + l.number))
