@@ -6,3 +6,7 @@ pub mod TapLemmas
 pub mod ColumnLemmas
 pub mod BroadcastLemmas
 pub mod WorkedRows
+pub mod VariableLemmas
+pub mod StepLemmas
+pub mod KeyLemmas
+pub mod ShapedLemmas

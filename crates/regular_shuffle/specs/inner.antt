@@ -1,3 +1,4 @@
 -- Words of private functions.
 pub mod KeyRoutes
 pub mod Broadcasts
+pub mod Steps

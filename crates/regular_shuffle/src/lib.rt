@@ -28,6 +28,7 @@ mod key_route;
 mod moving;
 mod spreading;
 mod staying;
+mod trial;
 
 pub use broadcasting::broadcast_join;
 pub use spreading::spread_by_key;
