@@ -10,3 +10,5 @@ pub mod VariableLemmas
 pub mod StepLemmas
 pub mod KeyLemmas
 pub mod ShapedLemmas
+pub mod FrontLemmas
+pub mod LastLemmas
