@@ -143,7 +143,7 @@ module _ (shape : Shape) (shaped : is_shape shape ≡ true) (i : ℕ) (end : suc
 
 -- ---- all rows of a step
 
-combined-two : (fronts lasts : Rows) → combined_rows (fronts ∷ lasts ∷ []) ≡ flat_map (λ front. behind_it front lasts) fronts
+pub combined-two : (fronts lasts : Rows) → combined_rows (fronts ∷ lasts ∷ []) ≡ flat_map (λ front. behind_it front lasts) fronts
 combined-two fronts lasts =
     combined-before (flat_map (λ row. map (λ rest. row ∷ rest) ([] ∷ [])) lasts) fronts
     ∙ ap (λ rows. flat_map (λ front. behind_it front rows) fronts) (combined-before ([] ∷ []) lasts ∙ alone lasts)

@@ -12,3 +12,4 @@ pub mod KeyLemmas
 pub mod ShapedLemmas
 pub mod FrontLemmas
 pub mod LastLemmas
+pub mod StepRouteLemmas

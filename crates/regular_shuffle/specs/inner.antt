@@ -2,3 +2,4 @@
 pub mod KeyRoutes
 pub mod Broadcasts
 pub mod Steps
+pub mod StepRuns
