@@ -13,3 +13,4 @@ pub mod ShapedLemmas
 pub mod FrontLemmas
 pub mod LastLemmas
 pub mod StepRouteLemmas
+pub mod StepRunLemmas
