@@ -14,3 +14,4 @@ pub mod FrontLemmas
 pub mod LastLemmas
 pub mod StepRouteLemmas
 pub mod StepRunLemmas
+pub mod StepShapeLemmas

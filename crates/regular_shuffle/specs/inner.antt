@@ -3,3 +3,4 @@ pub mod KeyRoutes
 pub mod Broadcasts
 pub mod Steps
 pub mod StepRuns
+pub mod StepScalars

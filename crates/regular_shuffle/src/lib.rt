@@ -28,6 +28,9 @@ mod key_route;
 mod moving;
 mod spreading;
 mod staying;
+mod step_pairs;
+mod step_scalars;
+mod step_shapes;
 mod trial;
 
 pub use broadcasting::broadcast_join;
