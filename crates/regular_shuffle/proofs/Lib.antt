@@ -15,3 +15,4 @@ pub mod LastLemmas
 pub mod StepRouteLemmas
 pub mod StepRunLemmas
 pub mod StepShapeLemmas
+pub mod ReadingLemmas

@@ -4,3 +4,4 @@ pub mod Broadcasts
 pub mod Steps
 pub mod StepRuns
 pub mod StepScalars
+pub mod Counts

@@ -24,11 +24,14 @@
 
 mod broadcast_route;
 mod broadcasting;
+mod counting;
 mod key_route;
 mod moving;
+mod reading;
 mod spreading;
 mod staying;
 mod step_pairs;
+mod step_route;
 mod step_scalars;
 mod step_shapes;
 mod trial;
