@@ -16,3 +16,4 @@ pub mod StepRouteLemmas
 pub mod StepRunLemmas
 pub mod StepShapeLemmas
 pub mod ReadingLemmas
+pub mod StepReadyLemmas

@@ -5,3 +5,4 @@ pub mod Steps
 pub mod StepRuns
 pub mod StepScalars
 pub mod Counts
+pub mod StepJoins

@@ -34,6 +34,7 @@ mod step_pairs;
 mod step_route;
 mod step_scalars;
 mod step_shapes;
+mod stepping;
 mod trial;
 
 pub use broadcasting::broadcast_join;
