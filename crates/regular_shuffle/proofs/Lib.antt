@@ -17,3 +17,4 @@ pub mod StepRunLemmas
 pub mod StepShapeLemmas
 pub mod ReadingLemmas
 pub mod StepReadyLemmas
+pub mod StepJoinLemmas
