@@ -6,3 +6,4 @@ pub mod StepRuns
 pub mod StepScalars
 pub mod Counts
 pub mod StepJoins
+pub mod Progress

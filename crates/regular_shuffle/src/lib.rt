@@ -36,6 +36,8 @@ mod step_scalars;
 mod step_shapes;
 mod stepping;
 mod trial;
+mod two_way;
 
 pub use broadcasting::broadcast_join;
 pub use spreading::spread_by_key;
+pub use two_way::two_way_join;
