@@ -18,3 +18,4 @@ pub mod StepShapeLemmas
 pub mod ReadingLemmas
 pub mod StepReadyLemmas
 pub mod StepJoinLemmas
+pub mod SumLemmas
