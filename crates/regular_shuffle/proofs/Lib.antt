@@ -19,3 +19,4 @@ pub mod ReadingLemmas
 pub mod StepReadyLemmas
 pub mod StepJoinLemmas
 pub mod SumLemmas
+pub mod ProgressLemmas

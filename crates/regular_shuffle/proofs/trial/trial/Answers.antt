@@ -1,6 +1,6 @@
 use Rattle.std.proofs.Common.{refl}
 use Rattle.regular_shuffle.proofs.LastLemmas.{last-candidates}
-use Rattle.regular_shuffle.proofs.SumLemmas.{over-more}
+use Rattle.regular_shuffle.proofs.ProgressLemmas.{at-end}
 use Rattle.regular_shuffle.proofs.trial.trial.Goals as goal
 
 pub returns : goal.returns
