@@ -29,8 +29,11 @@ sum-both : (f g : ℕ → ℕ) (a n : ℕ) → sum (map (λ w. f w + g w) (range
 sum-both f g a zero = refl
 sum-both f g a (suc n) =
     omega (
-      arith, sum_by-cons (λ (k : ℕ). k) (f a + g a) (map (λ w. f w + g w) (range_with_len (a + 1) n)), sum_by-cons (λ (k : ℕ). k) (f a) (map f (range_with_len (a + 1) n)),
-      sum_by-cons (λ (k : ℕ). k) (g a) (map g (range_with_len (a + 1) n)), sum-both f g (a + 1) n,
+      arith,
+      sum_by-cons (λ (k : ℕ). k) (f a + g a) (map (λ w. f w + g w) (range_with_len (a + 1) n)),
+      sum_by-cons (λ (k : ℕ). k) (f a) (map f (range_with_len (a + 1) n)),
+      sum_by-cons (λ (k : ℕ). k) (g a) (map g (range_with_len (a + 1) n)),
+      sum-both f g (a + 1) n,
     )
 
 by-places : (n : ℕ) (xs : List ℕ) → length xs ≡ n → xs ≡ map (λ w. get_or xs w 0) (range_with_len 0 n)

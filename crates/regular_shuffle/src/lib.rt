@@ -35,7 +35,6 @@ mod step_route;
 mod step_scalars;
 mod step_shapes;
 mod stepping;
-mod trial;
 mod two_way;
 
 pub use broadcasting::broadcast_join;

@@ -1,8 +1,0 @@
-//! Trial.
-ghost use Rattle.std.specs.Prelude.{◌≡◌, true};
-
-fn trial() -> bool
-    ensures { result ≡ true }
-{
-    true
-}
