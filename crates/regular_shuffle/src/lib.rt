@@ -13,9 +13,9 @@
 //! kept rows stays, the first one at a tie, and costs neither a message nor a copy of shared rows.
 //! A join two at a time gives each worker's part of the definitions, as a bag, with a note of
 //! traffic and a receipt for each of its steps; the candidates of each prefix count to the limit of
-//! rows. Too many rows and overflow are answered exactly where a run over the whole tables has these
-//! faults. The taps, and on Ok the receipt, tell just the moves of the definitions. No memory is
-//! taken for a row.
+//! rows. Too many rows and overflow are answered exactly where a run over the whole tables has
+//! these faults. The taps, and on Ok the receipt, tell just the moves of the definitions. No memory
+//! is taken for a row.
 //!
 //! Not promised: that memory is there; that a call returns, since jobs wait for one another; that
 //! keys spread evenly.
