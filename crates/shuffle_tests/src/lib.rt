@@ -7,6 +7,8 @@
 #[cfg(test)]
 mod cells;
 #[cfg(test)]
+mod homes;
+#[cfg(test)]
 mod locals;
 #[cfg(test)]
 mod numbers;
