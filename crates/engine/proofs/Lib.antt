@@ -3,3 +3,4 @@ pub mod ListLemmas
 pub mod FaultLemmas
 pub mod JoinLemmas
 pub mod GroupLemmas
+pub mod TermLemmas
