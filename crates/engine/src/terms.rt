@@ -12,7 +12,7 @@ use crate::groups::run_step_group;
 use crate::held::Held;
 use crate::joins::{StepJoin, at_rest, rows_in, run_step_join};
 use algebra::{PlanNotes, Settings, Step, Term};
-use keyed_terms::{empty_parts, run_diff, run_distinct, union_parts};
+use keyed_terms::{Operands, empty_parts, run_diff, run_distinct, union_parts};
 use rel_base::{Duplicate, MOST_ROWS, RunFault, Spread};
 use rel_io::Tap;
 use std::alloc::Global;
@@ -59,9 +59,12 @@ pub(crate) fn run_term<R: Threads + Wait + Sync, T: Tap + Send>(
             Ok(at_rest(alloc, parts))
         }
         (Term::Diff(left, right), _) => {
-            let width = run.step.schema.len();
-            let (left, right) = (held.parts_of(*left), held.parts_of(*right));
-            let moved = run_diff(rt, alloc, statement, left, right, width, settings, taps)?;
+            let operands = Operands {
+                left: held.parts_of(*left),
+                right: held.parts_of(*right),
+                width: run.step.schema.len(),
+            };
+            let moved = run_diff(rt, alloc, statement, &operands, settings, taps)?;
             Ok(moved)
         }
         (Term::Distinct(source), _) => {
