@@ -12,3 +12,7 @@ mod locals;
 mod numbers;
 #[cfg(test)]
 mod plans;
+#[cfg(test)]
+mod positives;
+#[cfg(test)]
+mod runs;
