@@ -12,7 +12,8 @@ pub fn counts_are_of_same_exchanges()
     ensures { CountsAreOfSameExchanges }
 {}
 
-/// A term over the same bags comes to the same bags, by exchanges that tell the same, with the same fault.
+/// A term over the same bags comes to the same bags, by exchanges that tell the same, with the same
+/// fault and the same lines of a plan.
 pub fn terms_are_of_bags()
     ensures { TermsAreOfBags }
 {}

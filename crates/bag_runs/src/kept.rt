@@ -1,5 +1,6 @@
 //! The laws of kept rows.
 ghost use Rattle.bag_runs.specs.KeptRuns.{KeptRowsAreEnough, KeptRowsAreListed};
+ghost use Rattle.bag_runs.specs.KeptRuns.{KeptSpreadsAreListed, KeptRowsAreParts};
 
 /// A pushed join of kept rows comes to the bags of the join, and tells the same.
 pub fn kept_rows_are_enough()
@@ -9,4 +10,14 @@ pub fn kept_rows_are_enough()
 /// So does a join of one item.
 pub fn kept_rows_are_listed()
     ensures { KeptRowsAreListed }
+{}
+
+/// So does a join of one item at each worker.
+pub fn kept_spreads_are_listed()
+    ensures { KeptSpreadsAreListed }
+{}
+
+/// A local join may be given the kept rows of a pushed join.
+pub fn kept_rows_are_parts()
+    ensures { KeptRowsAreParts }
 {}

@@ -1,22 +1,28 @@
 -- The shares of least load.
-use Rattle.std.proofs.Common.{◌≡◌, ℕ, ◌<◌, ◌≤◌, List, [], ◌∷◌, length, take, refl, sym, ap, ◌∙◌, subst, arith}
-use Rattle.std.specs.Prelude.{sum_by}
-use Rattle.std.specs.List.{zip}
+use Rattle.std.proofs.Common.{◌≡◌, ℕ, zero, suc, ◌+◌, ◌<◌, ◌≤◌, Bool, true, false, cond, List, [], ◌∷◌, length, get_or, take, refl, sym, ap, ◌∙◌, subst, arith}
+use Rattle.std.specs.Prelude.{◌-◌, find, Some, unwrap_or, not, nat_lt, sum_by}
+use Rattle.std.specs.List.{range_with_len, enumerate_from, zip, list_any}
 use Rattle.std.specs.Ordering.{nat_cmp, ordering_then, is_lt}
 use Rattle.std.specs.Cmp.Lexicographic.{slice_cmp}
+use Rattle.std.proofs.lemmas.Bool.{ltb-true, ltb-false, lt-ltb, le-ltb, or_from, or_left, or_right}
+use Rattle.std.proofs.lemmas.List.{length-map}
+use Rattle.std.proofs.lemmas.List.FromFn.{length-enumerate_from}
 use Rattle.share_chooser.specs.Load.{load_of, load_order, largest, product, rows_sent, comes_before, IsLeastLoad}
 use Rattle.share_chooser.specs.Best.{best_shares}
 use Rattle.share_chooser.proofs.BestLemmas.{best_is_least}
 use Rattle.rel_base.specs.Limits.{most_workers}
 use Rattle.myrial_ast.specs.Combinations.{Rows}
 use Rattle.algebra.specs.declared.settings.Settings.{Settings}
+use Rattle.algebra.specs.declared.settings.ShuffleKind.{ShuffleKind}
+use Rattle.algebra.specs.declared.settings.ShuffleKind.TheVariants as shuffle_kind
 use Rattle.algebra.specs.Trees.{Shape}
+use Rattle.algebra.specs.Shapes.{kept_of}
 use Rattle.placement.specs.Laws.{IsSharing}
-use Rattle.placement.specs.Layouts.{staying_atom}
-use Rattle.placement.proofs.UsualLemmas.{usual_is_placing}
+use Rattle.placement.specs.Layouts.{is_most, staying_atom}
+use Rattle.placement.specs.Plans.{uses_of, kept_sizes, usual_shuffle}
 use Rattle.join_plans.specs.declared.choices.ShuffleChoice.{ShuffleChoice}
 use Rattle.join_plans.specs.declared.choices.ShuffleChoice.TheVariants as choice
-use Rattle.join_plans.specs.JoinPlans.{shuffle_of, IsChosen}
+use Rattle.join_plans.specs.JoinPlans.{shuffle_of, chosen, staying_of, IsChosenFor, ChosenAreUsual}
 use Rattle.join_plans.specs.inner.Lines.{IsFitting}
 
 -- what stands behind the sizes of all atoms is not read
@@ -60,23 +66,125 @@ load-kept uses own sizes kept shares same long front =
     ap (λ us. load_of us sizes shares) same ∙ load-taken own sizes shares
     ∙ ap (λ s. load_of own s shares) (ap (λ n. take n sizes) long ∙ front)
 
+-- ---- the shuffle of the settings
+
+pub chosen-usual : (kind : ShuffleKind) (workers : ℕ) (shape : Shape) (given : List Rows)
+    → chosen kind workers shape (kept_sizes shape given) ≡ usual_shuffle kind workers shape given
+chosen-usual shuffle_kind.Hc workers shape given = refl
+chosen-usual shuffle_kind.Rs workers shape given = refl
+chosen-usual shuffle_kind.Br workers shape given = refl
+
+sizes-long : (shape : Shape) (given : List Rows) → length (kept_sizes shape given) ≡ length given
+sizes-long shape given =
+    length-map (enumerate_from 0 given) (λ (e : ℕ × Rows). length (kept_of shape e.0 e.1)) ∙ length-enumerate_from 0 given
+
+pub staying-same : (shape : Shape) (given : List Rows) → staying_of (kept_sizes shape given) ≡ staying_atom shape given
+staying-same shape given =
+    ap (λ n. unwrap_or (find (is_most (kept_sizes shape given)) (range_with_len 0 n)) 0) (sizes-long shape given)
+
+pub chosen_are_usual : ChosenAreUsual
+chosen_are_usual = record { shuffle = chosen-usual; stays = staying-same }
+
 -- what is chosen has shares that so many workers may have
-pub chosen-shares : (settings : Settings) (shape : Shape) (given : List Rows) (chosen : ShuffleChoice) → 1 ≤ settings.workers
-    → IsChosen settings shape given chosen → IsSharing settings.workers shape (shuffle_of chosen)
-chosen-shares settings shape given chosen some is =
-    subst (IsSharing settings.workers shape) (sym is.shuffle) ((usual_is_placing settings some).sharing 0 shape given)
+pub chosen-shares : (settings : Settings) (shape : Shape) (kept : List ℕ) (made : ShuffleChoice) → 1 ≤ settings.workers
+    → IsChosenFor settings shape kept made → IsSharing settings.workers shape (shuffle_of made)
+chosen-shares settings shape kept made some is =
+    subst (IsSharing settings.workers shape) (sym is.shuffle) (shares settings.shuffle)
+  where
+    shares : (kind : ShuffleKind) → IsSharing settings.workers shape (chosen kind settings.workers shape kept)
+    shares shuffle_kind.Hc = (best_is_least (uses_of shape) kept (length shape.variables) settings.workers some).0.vector
+    shares shuffle_kind.Rs = tt
+    shares shuffle_kind.Br = tt
+
+found-below : (p : ℕ → Bool) (d m a n : ℕ) → d < m → a + n ≤ m → unwrap_or (find p (range_with_len a n)) d < m
+found-below p d m a zero low room = low
+found-below p d m a (suc n) low room = by (p a) (found-below p d m (a + 1) n low (omega arith))
+  where
+    by : (b : Bool) → unwrap_or (find p (range_with_len (a + 1) n)) d < m
+        → unwrap_or (cond b (Some a) (find p (range_with_len (a + 1) n))) d < m
+    by true rest = omega (arith, room)
+    by false rest = rest
+
+staying-inside : (kept : List ℕ) → 0 < length kept → staying_of kept < length kept
+staying-inside kept some = found-below (is_most kept) 0 (length kept) 0 (length kept) some (omega arith)
 
 -- what is chosen fits
-pub chosen-fits : (settings : Settings) (shape : Shape) (given : List Rows) (chosen : ShuffleChoice) → 1 ≤ settings.workers
-    → settings.workers ≤ most_workers
-    → staying_atom shape given < length shape.atoms → IsChosen settings shape given chosen → IsFitting shape chosen
-chosen-fits settings shape given (choice.Cells shares) some few inside is =
-    let vector = chosen-shares settings shape given (choice.Cells shares) some is in
+pub chosen-fits : (settings : Settings) (shape : Shape) (kept : List ℕ) (made : ShuffleChoice) → 1 ≤ settings.workers
+    → settings.workers ≤ most_workers → length kept ≡ length shape.atoms → 0 < length shape.atoms
+    → IsChosenFor settings shape kept made → IsFitting shape made
+chosen-fits settings shape kept (choice.Cells shares) some few long here is =
+    let vector = chosen-shares settings shape kept (choice.Cells shares) some is in
     record {
       one_each = vector.one_each;
       positive = vector.positive;
       cells = omega (arith, vector.cells, few);
     }
-chosen-fits settings shape given choice.Keys some few inside is = tt
-chosen-fits settings shape given (choice.Broadcast stays) some few inside is =
-    subst (λ (j : ℕ). j < length shape.atoms) (sym is.stays) inside
+chosen-fits settings shape kept choice.Keys some few long here is = tt
+chosen-fits settings shape kept (choice.Broadcast stays) some few long here is =
+    omega (arith, is.stays, staying-inside kept (omega (arith, long, here)), long)
+
+-- ---- the atom that stays
+
+-- the first number that passes is found
+pub find-first : (p : ℕ → Bool) (a n s : ℕ) → a ≤ s → s < a + n → p s ≡ true → ((k : ℕ) → a ≤ k → k < s → p k ≡ false) → find p (range_with_len a n) ≡ Some s
+find-first p a zero s from to good before = absurd (omega arith)
+find-first p a (suc n) s from to good before =
+    by (nat_lt a s) refl (λ less. find-first p (a + 1) n s (omega arith) (omega arith) good (λ k low high. before k (omega arith) high))
+  where
+    by : (b : Bool) → nat_lt a s ≡ b → (a < s → find p (range_with_len (a + 1) n) ≡ Some s) → find p (range_with_len a (suc n)) ≡ Some s
+    by true e rest = let less = ltb-true a s e in let other = before a (omega arith) less in rw other (rest less)
+    by false e rest =
+        let same : a ≡ s = omega (arith, ltb-false a s e) in
+        let here : p a ≡ true = ap p same ∙ good in
+        rw here (ap Some same)
+
+-- no number of a list is over one that none exceeds, and some is over one that is exceeded
+none-over : (m : ℕ) (xs : List ℕ) → ((k : ℕ) → k < length xs → get_or xs k 0 ≤ m) → list_any (nat_lt m) xs ≡ false
+none-over m [] all = refl
+none-over m (x ∷ xs) all =
+    or_from (nat_lt m x) (list_any (nat_lt m) xs) (le-ltb m x (all 0 (omega arith))) (none-over m xs (λ k low. all (suc k) (omega arith)))
+
+some-over : (m : ℕ) (xs : List ℕ) (k : ℕ) → k < length xs → m < get_or xs k 0 → list_any (nat_lt m) xs ≡ true
+some-over m [] k low over = absurd (omega arith)
+some-over m (x ∷ xs) zero low over = or_left (nat_lt m x) (list_any (nat_lt m) xs) (lt-ltb m x over)
+some-over m (x ∷ xs) (suc k) low over = or_right (nat_lt m x) (list_any (nat_lt m) xs) (some-over m xs k (omega arith) over)
+
+-- what is known of the atom that stays after the first i sizes
+pub record IsMostOf (kept : List ℕ) (i s : ℕ) : Type 0 where
+  pub low : s ≤ i - 1
+  pub most : (k : ℕ) → k < i → get_or kept k 0 ≤ get_or kept s 0
+  pub first : (k : ℕ) → k < s → get_or kept k 0 < get_or kept s 0
+
+pub most_none : (kept : List ℕ) → IsMostOf kept 0 0
+most_none kept = record { low = omega arith; most = λ k low. absurd (omega arith); first = λ k low. absurd (omega arith) }
+
+one-more : (kept : List ℕ) (i m k : ℕ) → (k < i → get_or kept k 0 ≤ m) → get_or kept i 0 ≤ m → k < i + 1 → get_or kept k 0 ≤ m
+one-more kept i m k before here low = by (nat_lt k i) refl
+  where
+    by : (b : Bool) → nat_lt k i ≡ b → get_or kept k 0 ≤ m
+    by true e = before (ltb-true k i e)
+    by false e = let same : i ≡ k = omega (arith, ltb-false k i e) in subst (λ j. get_or kept j 0 ≤ m) same here
+
+pub most_new : (kept : List ℕ) (i s : ℕ) → get_or kept s 0 < get_or kept i 0 → IsMostOf kept i s → IsMostOf kept (i + 1) i
+most_new kept i s over so = record {
+  low = omega arith;
+  most = λ k low. one-more kept i (get_or kept i 0) k (λ less. omega (arith, so.most k less)) (omega arith) low;
+  first = λ k low. omega (arith, so.most k low);
+}
+
+pub most_old : (kept : List ℕ) (i s : ℕ) → get_or kept i 0 ≤ get_or kept s 0 → IsMostOf kept i s → IsMostOf kept (i + 1) s
+most_old kept i s under so = record {
+  low = omega (arith, so.low);
+  most = λ k low. one-more kept i (get_or kept s 0) k (so.most k) under low;
+  first = so.first;
+}
+
+-- after all sizes it is the first of the greatest
+pub most-stays : (kept : List ℕ) (s : ℕ) → IsMostOf kept (length kept) s → s ≡ staying_of kept
+most-stays [] s so = omega (arith, so.low)
+most-stays (size ∷ kept) s so =
+    let all = size ∷ kept in
+    let good : is_most (size ∷ kept) s ≡ true = ap not (none-over (get_or all s 0) all so.most) in
+    let none : (k : ℕ) → 0 ≤ k → k < s → is_most (size ∷ kept) k ≡ false =
+    λ k from low. ap not (some-over (get_or all k 0) all s (omega (arith, so.low)) (so.first k low)) in
+    sym (ap (λ found. unwrap_or found 0) (find-first (is_most all) 0 (length all) s (omega arith) (omega (arith, so.low)) good none))

@@ -20,10 +20,9 @@ use Rattle.algebra.specs.declared.notes.PlanNote.TheVariants as note
 use Rattle.algebra.specs.declared.shapes.Atom.{Atom}
 use Rattle.algebra.specs.Shapes.{keeps_from, shifted, widths_of, kept_of}
 use Rattle.algebra.specs.Trees.{AtomTree, Shape, atom_tree_of}
-use Rattle.placement.specs.Layouts.{PlacedRelation, Shuffle, together, rows_of}
+use Rattle.placement.specs.Layouts.{Shuffle}
 use Rattle.placement.specs.Plans.{places_of, share_of, kept_sizes, uses_of, bits_of}
-use Rattle.placed_joins.specs.PlacedJoins.{placed_rows, placed_items}
-use Rattle.join_plans.specs.inner.Counts.{sizes_of, bits_in, ties_within, places_in}
+use Rattle.join_plans.specs.inner.Counts.{bits_in, ties_within, places_in}
 use Rattle.join_plans.proofs.SpanLemmas.{places-are, all-unmoved}
 
 -- a list with numbers goes on with the next number
@@ -87,69 +86,6 @@ pub variable-lines : (shuffle : Shuffle) (shape : Shape) (n : ℕ) (variables : 
 variable-lines shuffle shape n [] = refl
 variable-lines shuffle shape n (v ∷ variables) =
     (λ i. note.Variable (suc n) (places-are shape v i) (share_of shuffle n) ∷ variable-lines shuffle shape (n + 1) variables i)
-
--- one number more of a list
-pub taken-more : (xs made new : List ℕ) (k x : ℕ) → k < length xs → made ≡ take k xs → x ≡ get_or xs k 0 → new ≡ made ++ x ∷ []
-    → new ≡ take (k + 1) xs
-taken-more xs made new k x low so_far is added = added ∙ (λ i. so_far i ++ is i ∷ []) ∙ sym (take_more xs k 0 low)
-
--- ---- rows
-
--- one worker's rows more
-pub rows-more : (parts : List Rows) (k : ℕ) (rows : Rows) → k < length parts → rows ≡ get_or parts k rows
-    → length (together (take (k + 1) parts)) ≡ length (together (take k parts)) + length rows
-rows-more parts k rows below at =
-    ap (λ (l : List Rows). length (together l)) (take_more parts k rows below ∙ ap (λ (r : Rows). take k parts ++ r ∷ []) (sym at))
-    ∙ ap (λ (l : Rows). length l) (flat_map-append (λ (r : Rows). r) (take k parts) (rows ∷ [])
-    ∙ ap (λ (l : Rows). together (take k parts) ++ l) (append-nil rows))
-    ∙ length-append (together (take k parts)) rows
-
-sizes-push : (parts : List (List Rows)) (spread : List Rows)
-    → sizes_of (rows_of (placed_items (parts ++ spread ∷ []))) ≡ sizes_of (rows_of (placed_items parts)) ++ length
-    (together spread) ∷ []
-sizes-push [] spread = refl
-sizes-push (part ∷ parts) spread = ap (λ (sizes : List ℕ). length (together part) ∷ sizes) (sizes-push parts spread)
-
--- one atom's rows more
-sizes-more : (parts : List (List Rows)) (k : ℕ) (spread : List Rows) → k < length parts → spread ≡ get_or parts k spread
-    → sizes_of (rows_of (placed_items (take (k + 1) parts))) ≡ sizes_of (rows_of (placed_items (take k parts))) ++ length
-    (together spread) ∷ []
-sizes-more parts k spread below at =
-    ap (λ (ps : List (List Rows)). sizes_of (rows_of (placed_items ps)))
-    (take_more parts k spread below ∙ ap (λ (s : List Rows). take k parts ++ s ∷ []) (sym at))
-    ∙ sizes-push (take k parts) spread
-
--- so are its numbers
-pub sizes-made : (parts : List (List Rows)) (k : ℕ) (spread : List Rows) (made new : List ℕ) (x : ℕ) → k < length parts
-    → spread ≡ get_or parts k spread
-    → made ≡ sizes_of (rows_of (placed_items (take k parts))) → x ≡ length (together spread) → new ≡ made ++ x ∷ []
-    → new ≡ sizes_of (rows_of (placed_items (take (k + 1) parts)))
-sizes-made parts k spread made new x below at so_far is added = added ∙ (λ i. so_far i ++ is i ∷ [])
-    ∙ sym (sizes-more parts k spread below at)
-
--- the number of kept rows of each atom
-kept-from : (shape : Shape) (n : ℕ) (parts : List (List Rows)) (k : ℕ) → k < length parts
-    → get_or (map (λ (e : ℕ × Rows). length (kept_of shape e.0 e.1)) (enumerate_from n (rows_of (placed_items parts)))) k 0
-    ≡ length (kept_of shape (n + k) (together (get_or parts k [])))
-kept-from shape n [] k below = absurd (omega (arith, below))
-kept-from shape n (part ∷ parts) zero below =
-    let same : n ≡ n + 0 = omega arith in ap (λ (j : ℕ). length (kept_of shape j (together part))) same
-kept-from shape n (part ∷ parts) (suc k) below =
-    let same : (n + 1) + k ≡ n + suc k = omega arith in
-    kept-from shape (n + 1) parts k (omega (arith, below))
-    ∙ ap (λ (j : ℕ). length (kept_of shape j (together (get_or parts k [])))) same
-
-pub kept-at : (shape : Shape) (parts : List (List Rows)) (k : ℕ) → k < length parts
-    → get_or (kept_sizes shape (rows_of (placed_items parts))) k 0 ≡ length (kept_of shape k (together (get_or parts k [])))
-kept-at shape parts k below =
-    let same : 0 + k ≡ k = omega arith in
-    kept-from shape 0 parts k below ∙ ap (λ (j : ℕ). length (kept_of shape j (together (get_or parts k [])))) same
-
-pub kept-long : (shape : Shape) (parts : List (List Rows)) → length (kept_sizes shape (rows_of (placed_items parts))) ≡ length parts
-kept-long shape parts =
-    length-map (enumerate_from 0 (rows_of (placed_items parts))) (λ (e : ℕ × Rows). length (kept_of shape e.0 e.1))
-    ∙ length-enumerate_from 0 (rows_of (placed_items parts))
-    ∙ length-map (placed_items parts) (λ (p : PlacedRelation). p.relation.rows) ∙ length-map parts placed_rows
 
 -- ---- lines
 

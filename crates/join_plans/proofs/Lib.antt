@@ -3,5 +3,4 @@ pub mod SpanLemmas
 pub mod CountLemmas
 pub mod ChoiceLemmas
 pub mod LineLemmas
-pub mod OrderLemmas
 pub mod WorkedRows

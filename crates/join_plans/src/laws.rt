@@ -1,7 +1,7 @@
 //! The law of plans.
-ghost use Rattle.join_plans.specs.JoinPlans.{PlansIgnoreOrder};
+ghost use Rattle.join_plans.specs.JoinPlans.{ChosenAreUsual};
 
-/// The order of rows changes neither the shuffle of a join nor the lines of its plan.
-pub fn plans_ignore_order()
-    ensures { PlansIgnoreOrder }
+/// What is chosen by the numbers of kept rows is the shuffle of the settings.
+pub fn chosen_are_usual()
+    ensures { ChosenAreUsual }
 {}

@@ -9,7 +9,7 @@ use std::alloc::Global;
 fn first_place(alloc: Global, alias: &Text, schema: &Schema) -> Result<Option<u32>, Memory> {
     let items = vec![in alloc; ItemSchema::new(alias, schema)]?;
     let scope = Scope::of(alloc, &items)?;
-    scope.place_of(alloc, &ColRef::ByPlace(0))
+    Ok(scope.place_of(&ColRef::ByPlace(0)))
 }
 
 #[test]

@@ -1,2 +1,3 @@
 pub mod ScopeLemmas
+pub mod MeaningLemmas
 mod WorkedRows

@@ -14,7 +14,7 @@ use Rattle.myrial_scopes.specs.Emits.{Emit, emit_at, emits_of, emits_of_item, nu
 use Rattle.myrial_scopes.specs.declared.emits.EmittedColumn.{EmittedColumn}
 use Rattle.myrial_scopes.specs.Resolutions.{emit_of}
 use Rattle.myrial_scopes.specs.inner.Columns.{emits_first, emits_under, is_emitted}
-use Rattle.myrial_scopes.specs.Scopes.{ItemSchema, ScopeColumn, columns_of, scope_of, scoped, places_where, column_at}
+use Rattle.myrial_scopes.specs.Scopes.{ItemSchema, ScopeColumn, columns_of, scope_of, places_where, column_at}
 
 -- ---- lists with their numbers
 
@@ -33,16 +33,6 @@ enumerated-more {X} xs i x low at =
     rw (take_more xs i x low, ← at, enumerate_from-push 0 (take i xs) x, e) refl
 
 -- ---- columns of items
-
--- one column of an item further
-pub columns_of-more : (number : ℕ) (alias : Name) (columns : List Column) (i : ℕ) (column : Column) → i < length columns → column ≡ get_or columns i column
-    → columns_of number (record { alias = alias; schema = take (i + 1) columns })
-    ≡ columns_of number (record { alias = alias; schema = take i columns }) ++ scoped number alias i column ∷ []
-columns_of-more number alias columns i column low at =
-    rw (
-      enumerated-more columns i column low at,
-      map-append (λ (p : ℕ × Column). scoped number alias p.0 p.1) (enumerate_from 0 (take i columns)) ((i, column) ∷ []),
-    ) refl
 
 -- one item further
 pub scope_of-more : (items : List ItemSchema) (i : ℕ) (item : ItemSchema) → i < length items → item ≡ get_or items i item

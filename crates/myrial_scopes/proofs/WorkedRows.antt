@@ -1,5 +1,5 @@
 -- What references and emit items mean, computed from the definitions: a wrong place, name or type does not check.
-use Rattle.std.proofs.Common.{◌≡◌, ℕ, Bool, true, false, List, [], ◌∷◌, Option, Some, None, option_map, refl}
+use Rattle.std.proofs.Common.{◌≡◌, true, false, List, [], ◌∷◌, Option, Some, None, option_map, refl}
 use Rattle.std.specs.Prelude.{pos, map, codes}
 use Rattle.std.specs.Fmt.{digits}
 use Rattle.rel_base.specs.declared.relations.Column.{Column}

@@ -19,7 +19,7 @@ impl Scope<'_> {
     {
         match expression {
             Expr::Lit(value) => Ok(Some(Scalar::Lit(value.copy(alloc)?))),
-            Expr::Col(reference) => match self.place_of(alloc, reference)? {
+            Expr::Col(reference) => match self.place_of(reference) {
                 Some(place) => Ok(Some(Scalar::At(place))),
                 None => Ok(None),
             },

@@ -1,10 +1,12 @@
-//! Columns in scope, and the places that references mean.
-ghost use Rattle.std.specs.Prelude.{◌≡◌, ◌++◌, ◌<◌, length, IfOk, OnOk};
-ghost use Rattle.myrial_scopes.specs.Scopes.{same_name, may_mean, only, place_of, places_of, scope_of, columns_of, column_at};
+//! Columns in scope, and what references mean.
+ghost use Rattle.std.specs.Prelude.{◌≡◌, ◌==◌, ◌<◌, length, nat_lt, IfOk};
+ghost use Rattle.myrial_scopes.specs.Meanings.{is_ambiguous, is_unknown, meaning_of, place_in};
+ghost use Rattle.myrial_scopes.specs.Scopes.{same_name, place_of, places_of, scope_of, column_at};
 
 use crate::items::ItemSchema;
+use crate::meanings::Meaning;
 use myrial_ast::ColRef;
-use rel_base::{ColType, Column, Duplicate, Items, Memory, Places, Text};
+use rel_base::{ColType, Column, Duplicate, Memory, Text};
 use std::alloc::Global;
 use std::marker::Model;
 
@@ -13,7 +15,7 @@ use std::marker::Model;
 pub(crate) struct ScopedColumn<'a> {
     item: usize,
     alias: &'a Text,
-    place: usize,
+    place: u32,
     column: &'a Column,
 }
 
@@ -46,33 +48,27 @@ impl<'a> ScopedColumn<'a> {
     {
         *self.alias == *alias
     }
-
-    /// Whether a reference may mean the column, which stands at this place of the combined row.
-    fn may_be(&self, place: u32, reference: &ColRef) -> bool
-        ensures { result ≡ may_mean reference.now place self.now }
-    {
-        match reference {
-            ColRef::ByName(name) => self.column.name == *name,
-            ColRef::ByPlace(given) => place as u64 == *given,
-            ColRef::OfName(alias, name) => self.is_under(alias) && self.column.name == *name,
-            ColRef::OfPlace(alias, given) => self.is_under(alias) && self.place as u64 == *given,
-        }
-    }
 }
 
 /// The columns of all items of a comprehension, in the order of the combined row.
+///
+/// It keeps the items, so that a reference is looked for item by item: in time of the items, and of the columns of those
+/// that its alias allows. There are at most 8 items in a text.
 #[derive(Drop)]
 pub struct Scope<'a> {
-    columns: Items<ScopedColumn<'a>>,
+    items: Vec<ItemSchema<'a>>,
+    len: u32,
 }
 
 impl<'a> Model for Scope<'a> {
-    ghost use Rattle.std.specs.Prelude.{List};
-    ghost use Rattle.myrial_scopes.specs.Scopes.{ScopeColumn};
+    ghost use Rattle.std.specs.Prelude.{List, ◌≡◌, ◌<◌, ◌^◌, length};
+    ghost use Rattle.myrial_scopes.specs.Scopes.{ScopeColumn, scope_of};
 
     ghost Value = { List ScopeColumn };
 
-    ghost view = { λ s. s.columns };
+    ghost view = { λ s. scope_of s.items.items };
+
+    ghost invariant = { λ s. (s.len ≡ length (scope_of s.items.items)) × (s.len < 2 ^ 32) };
 }
 
 impl<'a> Scope<'a> {
@@ -80,26 +76,43 @@ impl<'a> Scope<'a> {
     pub fn of(alloc: Global, items: &[ItemSchema<'a>]) -> Result<Scope<'a>, Memory>
         ensures { IfOk result (λ scope. scope ≡ scope_of items.now) }
     {
-        let mut columns = Items::new(alloc);
-        for (number, item) in items.iter().enumerate() {
-            push_columns(number, item, &mut columns)?;
+        let mut kept = Vec::with_capacity(alloc, items.len())?;
+        let mut len = 0u32;
+        for item in items {
+            kept.push(ItemSchema::new(item.alias, item.schema))?;
+            let Some(more) = len.checked_add(item.len()) else {
+                return Err(Memory);
+            };
+            len = more;
         }
-        Ok(Scope { columns })
+        Ok(Scope { items: kept, len })
     }
 
     /// The number of columns.
     pub(crate) fn len(&self) -> u32
         ensures { result ≡ length self.now }
     {
-        self.columns.len()
+        self.len
     }
 
     /// The column at a place.
-    pub(crate) fn column(&self, place: u32) -> &ScopedColumn<'a>
+    pub(crate) fn column(&self, place: u32) -> ScopedColumn<'a>
         requires { place < length self.now }
-        ensures { result.now ≡ column_at self.now place }
+        ensures { result ≡ column_at self.now place }
     {
-        self.columns.get(place)
+        let mut own = place;
+        for (number, item) in self.items.iter().enumerate() {
+            if own < item.len() {
+                return ScopedColumn {
+                    item: number,
+                    alias: item.alias,
+                    place: own,
+                    column: item.schema.get(own),
+                };
+            }
+            own -= item.len();
+        }
+        unreachable!()
     }
 
     /// The type of the column at a place; past the end ints.
@@ -124,56 +137,27 @@ impl<'a> Scope<'a> {
         }
     }
 
-    /// The places of the columns that a reference may mean: none where it is unknown, two or more where it is ambiguous.
-    pub fn places_of(&self, alloc: Global, reference: &ColRef) -> Result<Places, Memory>
-        ensures { IfOk result (λ found. found ≡ places_of self.now reference.now) }
+    /// What a reference means: no column where it is unknown, two or more where it is ambiguous.
+    pub fn meaning_of(&self, reference: &ColRef) -> Meaning
+        ensures meaning { result ≡ meaning_of self.now reference.now }
+        ensures unknown { is_unknown result ≡ (length (places_of self.now reference.now) == 0) }
+        ensures ambiguous { is_ambiguous result
+            ≡ nat_lt 1 (length (places_of self.now reference.now)) }
+        ensures place { place_in result ≡ place_of self.now reference.now }
     {
-        let mut found = Places::new(alloc);
-        for place in 0..self.columns.len() {
-            if self.columns.get(place).may_be(place, reference) {
-                found.push(place)?;
-            }
+        let mut meaning = Meaning::Unknown;
+        let mut first = 0;
+        for item in &self.items {
+            meaning = item.with_own(meaning, first, reference);
+            first += item.len();
         }
-        Ok(found)
+        meaning
     }
 
     /// The place of the one column that a reference means; `None` where it may mean none, or more than one.
-    pub fn place_of(&self, alloc: Global, reference: &ColRef) -> Result<Option<u32>, Memory>
-        ensures { IfOk result (λ place. place ≡ place_of self.now reference.now) }
+    pub fn place_of(&self, reference: &ColRef) -> Option<u32>
+        ensures { result ≡ place_of self.now reference.now }
     {
-        let found = self.places_of(alloc, reference)?;
-        Ok(only(found.as_slice()))
-    }
-}
-
-/// Adds the columns of an item of this number.
-fn push_columns<'a>(
-    number: usize,
-    item: &ItemSchema<'a>,
-    columns: &mut Items<ScopedColumn<'a>>,
-) -> Result<(), Memory>
-    ensures { OnOk result (columns.new ≡ columns.old ++ columns_of number item.now) }
-{
-    for (place, column) in item.schema.as_slice().iter().enumerate() {
-        if columns.len() == u32::MAX {
-            return Err(Memory);
-        }
-        columns.push(ScopedColumn {
-            item: number,
-            alias: item.alias,
-            place,
-            column,
-        })?;
-    }
-    Ok(())
-}
-
-/// The place, where there is just one.
-fn only(places: &[u32]) -> Option<u32>
-    ensures { result ≡ only places.now }
-{
-    match places {
-        [place] => Some(*place),
-        _ => None,
+        self.meaning_of(reference).place()
     }
 }

@@ -4,6 +4,7 @@ mod KindLemmas
 mod TypingLemmas
 mod TermLemmas
 mod RangeLemmas
+mod ReadingLemmas
 mod ClassesLemmas
 mod AssignLemmas
 mod ComprehensionLemmas

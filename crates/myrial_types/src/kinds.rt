@@ -1,42 +1,99 @@
 //! The kinds of fault of a comprehension.
-ghost use Rattle.std.specs.Prelude.{◌≡◌, ◌==◌, ◌++◌, ◌||◌, nat_lt, not, is_none, IfOk, OnOk};
-ghost use Rattle.std.specs.Prelude.{map, length, option_map};
-ghost use Rattle.std.specs.List.{flat_map, list_any};
-ghost use Rattle.rel_base.specs.declared.values.ColType.TheVariants as coltype;
+//!
+//! Each expression is read once, whatever is looked for in it.
+ghost use Rattle.std.specs.Prelude.{◌≡◌, ◌||◌, ◌∷◌, [], None, map, option_map};
 ghost use Rattle.myrial_ast.specs.Trees.{tree_of, emit_tree_of};
-ghost use Rattle.myrial_scopes.specs.Scopes.{is_alias, places_of, same_name, scope_of};
-ghost use Rattle.algebra.specs.ShapeConditions.{is_kind};
+ghost use Rattle.myrial_ast.specs.Trees as tree;
+ghost use Rattle.myrial_scopes.specs.Scopes.{scope_of};
 ghost use Rattle.rel_base.specs.Relations.{type_of};
-ghost use Rattle.myrial_types.specs.Kinds.{aggregate_type, comprehension_kind, condition_trees};
-ghost use Rattle.myrial_types.specs.Kinds.{emitted_alias, emitted_tree, first_of};
+ghost use Rattle.myrial_types.specs.Kinds.{aggregate_type, comprehension_kind, first_of};
 ghost use Rattle.myrial_types.specs.Kinds.{has_any_aggregate, has_inner_aggregate};
 ghost use Rattle.myrial_types.specs.Kinds.{is_unknown_behind, references, tree_kind};
-ghost use Rattle.myrial_types.specs.Resolving.{schemas_of};
+ghost use Rattle.myrial_types.specs.inner.Readings.{either_faults, faults_in, no_faults};
+ghost use Rattle.myrial_types.specs.inner.Readings.{reference_faults};
 
 use crate::faults::TypeKind;
-use crate::names::MeantItem;
 use algebra::{is_kind, kind_of_op, where_both};
 use myrial_ast::{AggOp, ColRef, EmitItem, EmitItems, Expr, Scalar};
-use myrial_scopes::{ItemSchema, Scope, has_doubled_alias};
-use rel_base::{ColType, Memory, Text, Value};
-use std::alloc::Global;
+use myrial_scopes::{ItemSchema, Scope, has_doubled_alias, is_alias};
+use rel_base::{ColType, Value};
 
-/// Adds the references of an expression, from left to right.
-fn push_references<'a>(expression: &'a Expr, into: &mut Vec<&'a ColRef>) -> Result<(), Memory>
-    ensures { OnOk result (map (λ r. r.now) into.new.items
-        ≡ map (λ r. r.now) into.old.items ++ references (tree_of expression.entry.now)) }
-{
-    match expression {
-        Expr::Lit(_) | Expr::Agg(_, None) => {}
-        Expr::Col(reference) => into.push(reference)?,
-        Expr::Not(operand) | Expr::Neg(operand) => push_references(operand, into)?,
-        Expr::Bin(_, left, right) => {
-            push_references(left, into)?;
-            push_references(right, into)?;
+/// What is wrong with a part of a comprehension.
+#[derive(Clone, Copy)]
+struct Faults {
+    /// A name before a `.` is no alias.
+    relation: bool,
+    /// A reference finds no column.
+    column: bool,
+    /// A reference finds two columns or more.
+    ambiguous: bool,
+    /// A part has another type than it needs.
+    mismatch: bool,
+    /// An aggregate is no whole emit item.
+    misplaced: bool,
+}
+
+impl Faults {
+    /// Nothing is wrong.
+    fn none() -> Faults
+        ensures { result ≡ no_faults }
+    {
+        Faults {
+            relation: false,
+            column: false,
+            ambiguous: false,
+            mismatch: false,
+            misplaced: false,
         }
-        Expr::Agg(_, Some(argument)) => push_references(argument, into)?,
     }
-    Ok(())
+
+    /// What is wrong with this part or with another one.
+    fn or(self, other: Faults) -> Faults
+        ensures { result ≡ either_faults self other }
+    {
+        Faults {
+            relation: either(self.relation, other.relation),
+            column: either(self.column, other.column),
+            ambiguous: either(self.ambiguous, other.ambiguous),
+            mismatch: either(self.mismatch, other.mismatch),
+            misplaced: either(self.misplaced, other.misplaced),
+        }
+    }
+
+    /// The kind that is told: the first in their order.
+    fn first(self) -> Option<TypeKind>
+        ensures { result
+            ≡ first_of self.relation self.column self.ambiguous self.mismatch self.misplaced }
+    {
+        if self.relation {
+            Some(TypeKind::UnknownRelation)
+        } else if self.column {
+            Some(TypeKind::UnknownColumn)
+        } else if self.ambiguous {
+            Some(TypeKind::AmbiguousColumn)
+        } else if self.mismatch {
+            Some(TypeKind::TypeMismatch)
+        } else if self.misplaced {
+            Some(TypeKind::Misplaced)
+        } else {
+            None
+        }
+    }
+}
+
+/// What is found in an expression: what is wrong with its references, and its type, if all its parts have the types that
+/// they need.
+#[derive(Clone, Copy)]
+struct Reading {
+    faults: Faults,
+    kind: Option<ColType>,
+}
+
+/// Whether one of two facts holds.
+fn either(first: bool, second: bool) -> bool
+    ensures { result ≡ (first || second) }
+{
+    first || second
 }
 
 /// The type of a value.
@@ -64,37 +121,6 @@ fn aggregate_type(op: AggOp, argument: Option<ColType>) -> Option<ColType>
     }
 }
 
-/// The type of an expression, if all its parts have the types that they need.
-fn tree_kind(alloc: Global, scope: &Scope, expression: &Expr) -> Result<Option<ColType>, Memory>
-    ensures { IfOk result (λ kind. kind ≡ tree_kind scope.now (tree_of expression.now)) }
-{
-    match expression {
-        Expr::Lit(value) => Ok(Some(type_of(value))),
-        Expr::Col(reference) => match scope.place_of(alloc, reference)? {
-            Some(place) => Ok(Some(scope.kind_of(&Scalar::At(place)))),
-            None => Ok(None),
-        },
-        Expr::Not(operand) => {
-            let kind = tree_kind(alloc, scope, operand)?;
-            Ok(where_both(ColType::Bool, ColType::Bool, kind, kind))
-        }
-        Expr::Neg(operand) => {
-            let kind = tree_kind(alloc, scope, operand)?;
-            Ok(where_both(ColType::Int, ColType::Int, kind, kind))
-        }
-        Expr::Bin(op, left, right) => {
-            let left = tree_kind(alloc, scope, left)?;
-            let right = tree_kind(alloc, scope, right)?;
-            Ok(kind_of_op(*op, left, right))
-        }
-        Expr::Agg(op, None) => Ok(aggregate_type(*op, Some(ColType::Bool))),
-        Expr::Agg(op, Some(argument)) => {
-            let kind = tree_kind(alloc, scope, argument)?;
-            Ok(aggregate_type(*op, kind))
-        }
-    }
-}
-
 /// Whether an aggregate stands in an expression.
 fn has_any_aggregate(expression: &Expr) -> bool
     ensures { result ≡ has_any_aggregate (tree_of expression.now) }
@@ -118,238 +144,159 @@ fn has_inner_aggregate(expression: &Expr) -> bool
     }
 }
 
-/// The expressions that a comprehension emits.
-fn emitted_of<'a>(alloc: Global, emits: &'a [EmitItem]) -> Result<Vec<&'a Expr>, Memory>
-    ensures { IfOk result (λ found. map (λ e. tree_of e.now) found.items
-        ≡ flat_map emitted_tree (map emit_tree_of emits.entry.now)) }
-{
-    let mut found = Vec::new(alloc);
-    for emit in emits {
-        if let EmitItem::One(expression, _) = emit {
-            found.push(expression)?;
-        }
-    }
-    Ok(found)
-}
-
-/// The expressions of a comprehension: its condition and what it emits.
-fn expressions_of<'a>(
-    alloc: Global,
-    condition: &'a Option<Expr>,
-    emitted: &[&'a Expr],
-) -> Result<Vec<&'a Expr>, Memory>
-    ensures { IfOk result (λ found. map (λ e. tree_of e.now) found.items
-        ≡ condition_trees (option_map tree_of condition.entry.now)
-        ++ map (λ e. tree_of e.now) emitted.entry.now) }
-{
-    let mut found = Vec::new(alloc);
-    if let Some(condition) = condition {
-        found.push(condition)?;
-    }
-    found.extend_from_slice(emitted)?;
-    Ok(found)
-}
-
-/// The references of expressions, in order.
-fn references_of<'a>(alloc: Global, expressions: &[&'a Expr]) -> Result<Vec<&'a ColRef>, Memory>
-    ensures { IfOk result (λ found. map (λ r. r.now) found.items
-        ≡ flat_map references (map (λ e. tree_of e.now) expressions.entry.now)) }
-{
-    let mut found = Vec::new(alloc);
-    for expression in expressions {
-        push_references(expression, &mut found)?;
-    }
-    Ok(found)
-}
-
-/// Whether an item has this alias.
-fn has_alias(items: &[MeantItem], alias: &Text) -> bool
-    ensures { result ≡ list_any (λ i. same_name i.alias alias.now) items.now }
-{
-    items.iter().any(|item| *item.alias() == *alias)
-}
-
-/// Whether an alias is that of an item.
-fn is_alias(items: &[MeantItem], alias: &Text) -> bool
-    ensures { result ≡ is_alias (schemas_of items.now) alias.now }
-{
-    has_alias(items, alias)
-}
-
 /// Whether the alias of a reference is that of no item.
-fn is_unknown_behind(items: &[MeantItem], reference: &ColRef) -> bool
-    ensures { result ≡ is_unknown_behind (schemas_of items.now) reference.now }
+fn is_unknown_behind(schemas: &[ItemSchema], reference: &ColRef) -> bool
+    ensures { result ≡ is_unknown_behind schemas.now reference.now }
 {
     match reference {
-        ColRef::OfName(alias, _) | ColRef::OfPlace(alias, _) => !is_alias(items, alias),
+        ColRef::OfName(alias, _) | ColRef::OfPlace(alias, _) => !is_alias(schemas, alias),
         ColRef::ByName(_) | ColRef::ByPlace(_) => false,
     }
 }
 
-/// Whether the alias of a reference is that of no item.
-fn has_unknown_reference(items: &[MeantItem], references: &[&ColRef]) -> bool
-    ensures { result
-        ≡ list_any (λ r. is_unknown_behind (schemas_of items.now) r.now) references.now }
+/// What is found in a reference.
+#[tactic(auto, using(crate::proofs::ReadingLemmas::reference_of_one))]
+fn read_reference(schemas: &[ItemSchema], scope: &Scope, reference: &ColRef) -> Reading
+    requires { scope.now ≡ scope_of schemas.now }
+    ensures faults { result.faults ≡ reference_faults schemas.now (reference.now ∷ []) }
+    ensures kind { result.kind ≡ tree_kind scope.now (tree.Col reference.now) }
 {
-    references
-        .iter()
-        .any(|reference| is_unknown_behind(items, reference))
+    let meaning = scope.meaning_of(reference);
+    let faults = Faults {
+        relation: is_unknown_behind(schemas, reference),
+        column: meaning.is_unknown(),
+        ambiguous: meaning.is_ambiguous(),
+        mismatch: false,
+        misplaced: false,
+    };
+    let kind = match meaning.place() {
+        Some(place) => Some(scope.kind_of(&Scalar::At(place))),
+        None => None,
+    };
+    Reading { faults, kind }
 }
 
-/// Whether the alias of an emit item `T.*` is that of no item.
-fn is_unknown_emit(items: &[MeantItem], emit: &EmitItem) -> bool
-    ensures { result ≡ list_any (λ alias. not (is_alias (schemas_of items.now) alias))
-        (emitted_alias (emit_tree_of emit.now)) }
+/// What is found in an expression.
+#[tactic(auto, using(crate::proofs::ReadingLemmas::references_of_two))]
+fn read(schemas: &[ItemSchema], scope: &Scope, expression: &Expr) -> Reading
+    requires { scope.now ≡ scope_of schemas.now }
+    ensures faults { result.faults
+        ≡ reference_faults schemas.now (references (tree_of expression.now)) }
+    ensures kind { result.kind ≡ tree_kind scope.now (tree_of expression.now) }
+{
+    match expression {
+        Expr::Lit(value) => Reading {
+            faults: Faults::none(),
+            kind: Some(type_of(value)),
+        },
+        Expr::Col(reference) => read_reference(schemas, scope, reference),
+        Expr::Not(operand) => {
+            let Reading { faults, kind } = read(schemas, scope, operand);
+            let kind = where_both(ColType::Bool, ColType::Bool, kind, kind);
+            Reading { faults, kind }
+        }
+        Expr::Neg(operand) => {
+            let Reading { faults, kind } = read(schemas, scope, operand);
+            let kind = where_both(ColType::Int, ColType::Int, kind, kind);
+            Reading { faults, kind }
+        }
+        Expr::Bin(op, left, right) => {
+            let left = read(schemas, scope, left);
+            let right = read(schemas, scope, right);
+            Reading {
+                faults: left.faults.or(right.faults),
+                kind: kind_of_op(*op, left.kind, right.kind),
+            }
+        }
+        Expr::Agg(op, None) => Reading {
+            faults: Faults::none(),
+            kind: aggregate_type(*op, Some(ColType::Bool)),
+        },
+        Expr::Agg(op, Some(argument)) => {
+            let Reading { faults, kind } = read(schemas, scope, argument);
+            let kind = aggregate_type(*op, kind);
+            Reading { faults, kind }
+        }
+    }
+}
+
+/// What is wrong with a condition.
+#[tactic(auto, using(crate::proofs::ReadingLemmas::condition_of_one))]
+fn condition_faults(schemas: &[ItemSchema], scope: &Scope, condition: &Option<Expr>) -> Faults
+    requires { scope.now ≡ scope_of schemas.now }
+    ensures { result ≡ faults_in schemas.now (option_map tree_of condition.now) [] }
+{
+    match condition {
+        None => Faults::none(),
+        Some(condition) => {
+            let Reading { faults, kind } = read(schemas, scope, condition);
+            Faults {
+                mismatch: !is_kind(ColType::Bool, kind),
+                misplaced: has_any_aggregate(condition),
+                ..faults
+            }
+        }
+    }
+}
+
+/// What is wrong with an emit item.
+#[tactic(auto, using(crate::proofs::ReadingLemmas::emit_of_one, crate::proofs::ReadingLemmas::emit_of_alias))]
+fn emit_faults(schemas: &[ItemSchema], scope: &Scope, emit: &EmitItem) -> Faults
+    requires { scope.now ≡ scope_of schemas.now }
+    ensures { result ≡ faults_in schemas.now None (emit_tree_of emit.now ∷ []) }
 {
     match emit {
-        EmitItem::AllOf(alias) => !is_alias(items, alias),
-        EmitItem::All | EmitItem::One(_, _) => false,
-    }
-}
-
-/// Whether the alias of an emit item `T.*` is that of no item.
-fn has_unknown_emit(items: &[MeantItem], emits: &[EmitItem]) -> bool
-    ensures { result
-        ≡ list_any (λ e. list_any (λ alias. not (is_alias (schemas_of items.now) alias))
-        (emitted_alias (emit_tree_of e))) emits.now }
-{
-    emits.iter().any(|emit| is_unknown_emit(items, emit))
-}
-
-/// How many columns each reference may mean.
-fn counts_of(alloc: Global, scope: &Scope, references: &[&ColRef]) -> Result<Vec<u32>, Memory>
-    ensures { IfOk result (λ counts. counts.items
-        ≡ map (λ r. length (places_of scope.now r.now)) references.now) }
-{
-    let mut counts = Vec::with_capacity(alloc, references.len())?;
-    for reference in references {
-        let places = scope.places_of(alloc, reference)?;
-        counts.push(places.len())?;
-    }
-    Ok(counts)
-}
-
-/// Whether an expression has no type.
-fn has_untyped(alloc: Global, scope: &Scope, expressions: &[&Expr]) -> Result<bool, Memory>
-    ensures { IfOk result (λ found. found
-        ≡ list_any (λ e. is_none (tree_kind scope.now (tree_of e.now))) expressions.now) }
-{
-    for expression in expressions {
-        if tree_kind(alloc, scope, expression)?.is_none() {
-            return Ok(true);
-        }
-    }
-    Ok(false)
-}
-
-/// Whether a condition is no boolean.
-fn is_no_truth(alloc: Global, scope: &Scope, condition: &Option<Expr>) -> Result<bool, Memory>
-    ensures { IfOk result (λ found. found
-        ≡ list_any (λ e. not (is_kind coltype.Bool (tree_kind scope.now e)))
-        (condition_trees (option_map tree_of condition.now))) }
-{
-    match condition {
-        None => Ok(false),
-        Some(condition) => {
-            let kind = tree_kind(alloc, scope, condition)?;
-            Ok(!is_kind(ColType::Bool, kind))
+        EmitItem::All => Faults::none(),
+        EmitItem::AllOf(alias) => Faults {
+            relation: !is_alias(schemas, alias),
+            ..Faults::none()
+        },
+        EmitItem::One(expression, _) => {
+            let Reading { faults, kind } = read(schemas, scope, expression);
+            Faults {
+                mismatch: kind.is_none(),
+                misplaced: has_inner_aggregate(expression),
+                ..faults
+            }
         }
     }
 }
 
-/// Whether an aggregate stands in a condition.
-fn has_tested_aggregate(condition: &Option<Expr>) -> bool
-    ensures { result
-        ≡ list_any has_any_aggregate (condition_trees (option_map tree_of condition.now)) }
+/// What is wrong with a comprehension, apart from its aliases.
+#[tactic(auto, using(crate::proofs::ReadingLemmas::faults_of_next))]
+fn faults_in(
+    schemas: &[ItemSchema],
+    scope: &Scope,
+    condition: &Option<Expr>,
+    emits: &[EmitItem],
+) -> Faults
+    requires { scope.now ≡ scope_of schemas.now }
+    ensures { result ≡ faults_in schemas.now (option_map tree_of condition.now)
+        (map emit_tree_of emits.now) }
 {
-    match condition {
-        None => false,
-        Some(condition) => has_any_aggregate(condition),
+    let mut faults = condition_faults(schemas, scope, condition);
+    for emit in emits {
+        faults = faults.or(emit_faults(schemas, scope, emit));
     }
-}
-
-/// Whether an aggregate stands inside of what is emitted.
-fn has_inner_aggregates(emitted: &[&Expr]) -> bool
-    ensures { result ≡ list_any (λ e. has_inner_aggregate (tree_of e.now)) emitted.now }
-{
-    emitted
-        .iter()
-        .any(|expression| has_inner_aggregate(expression))
-}
-
-/// Whether a reference may mean no column.
-fn has_none(counts: &[u32]) -> bool
-    ensures { result ≡ list_any (λ n. n == 0) counts.now }
-{
-    counts.iter().any(|count| *count == 0)
-}
-
-/// Whether a reference may mean two columns or more.
-fn has_more(counts: &[u32]) -> bool
-    ensures { result ≡ list_any (λ n. nat_lt 1 n) counts.now }
-{
-    counts.iter().any(|count| 1 < *count)
-}
-
-/// Whether one of two facts holds.
-fn either(first: bool, second: bool) -> bool
-    ensures { result ≡ (first || second) }
-{
-    first || second
-}
-
-/// The first kind of those that a comprehension has.
-fn first_kind(
-    unknown_relation: bool,
-    unknown_column: bool,
-    ambiguous: bool,
-    mismatch: bool,
-    misplaced: bool,
-) -> Option<TypeKind>
-    ensures { result ≡ first_of unknown_relation unknown_column ambiguous mismatch misplaced }
-{
-    if unknown_relation {
-        Some(TypeKind::UnknownRelation)
-    } else if unknown_column {
-        Some(TypeKind::UnknownColumn)
-    } else if ambiguous {
-        Some(TypeKind::AmbiguousColumn)
-    } else if mismatch {
-        Some(TypeKind::TypeMismatch)
-    } else if misplaced {
-        Some(TypeKind::Misplaced)
-    } else {
-        None
-    }
+    faults
 }
 
 /// The first kind of a comprehension over these items, before its limits.
 pub(crate) fn comprehension_kind(
-    alloc: Global,
-    items: &[MeantItem],
     schemas: &[ItemSchema],
     scope: &Scope,
     condition: &Option<Expr>,
     emits: &EmitItems,
-) -> Result<Option<TypeKind>, Memory>
-    requires schemas { schemas.now ≡ schemas_of items.now }
-    requires scope { scope.now ≡ scope_of schemas.now }
-    ensures { IfOk result (λ kind. kind
-        ≡ comprehension_kind schemas.now (option_map tree_of condition.now)
-        (map emit_tree_of emits.now)) }
+) -> Option<TypeKind>
+    requires { scope.now ≡ scope_of schemas.now }
+    ensures { result ≡ comprehension_kind schemas.now (option_map tree_of condition.now)
+        (map emit_tree_of emits.now) }
 {
-    let emitted = emitted_of(alloc, emits.as_slice())?;
-    let expressions = expressions_of(alloc, condition, &emitted)?;
-    let references = references_of(alloc, &expressions)?;
-    let counts = counts_of(alloc, scope, &references)?;
-    let behind = has_unknown_reference(items, &references);
-    let relation = either(behind, has_unknown_emit(items, emits.as_slice()));
-    let column = has_none(&counts);
-    let more = has_more(&counts);
-    let ambiguous = either(more, has_doubled_alias(schemas));
-    let untyped = has_untyped(alloc, scope, &expressions)?;
-    let mismatch = either(untyped, is_no_truth(alloc, scope, condition)?);
-    let tested = has_tested_aggregate(condition);
-    let misplaced = either(tested, has_inner_aggregates(&emitted));
-    Ok(first_kind(relation, column, ambiguous, mismatch, misplaced))
+    let faults = faults_in(schemas, scope, condition, emits.as_slice());
+    let ambiguous = either(faults.ambiguous, has_doubled_alias(schemas));
+    Faults {
+        ambiguous,
+        ..faults
+    }
+    .first()
 }

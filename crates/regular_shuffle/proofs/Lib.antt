@@ -6,3 +6,17 @@ pub mod TapLemmas
 pub mod ColumnLemmas
 pub mod BroadcastLemmas
 pub mod WorkedRows
+pub mod VariableLemmas
+pub mod StepLemmas
+pub mod KeyLemmas
+pub mod ShapedLemmas
+pub mod FrontLemmas
+pub mod LastLemmas
+pub mod StepRouteLemmas
+pub mod StepRunLemmas
+pub mod StepShapeLemmas
+pub mod ReadingLemmas
+pub mod StepReadyLemmas
+pub mod StepJoinLemmas
+pub mod SumLemmas
+pub mod ProgressLemmas

@@ -5,12 +5,16 @@ use Rattle.rel_base.specs.declared.values.ColType.TheVariants as kind
 use Rattle.rel_base.specs.declared.values.Value.TheVariants as value
 use Rattle.myrial_ast.specs.Scalars.{At}
 use Rattle.myrial_ast.specs.Combinations.{Row, Rows}
+use Rattle.algebra.specs.declared.notes.Exchange.TheVariants as exchange
+use Rattle.algebra.specs.declared.notes.Traffic.{Traffic}
 use Rattle.algebra.specs.Trees.{Shape}
-use Rattle.placement.specs.Layouts.{Broadcast, rows_of, staying_atom, join_parts}
+use Rattle.placement.specs.Exchanges.{PlacedExchange}
+use Rattle.placement.specs.Layouts.{Broadcast, ByKeys, rows_of, staying_atom, join_parts}
 use Rattle.placement.specs.Moves.{sent, received, rows_given}
 use Rattle.placed_joins.specs.PlacedJoins.{placed_items}
 use Rattle.regular_shuffle.specs.KeySpreads.{key_home, moves_by_key}
 use Rattle.regular_shuffle.specs.BroadcastJoins.{moves_to_all}
+use Rattle.regular_shuffle.specs.TwoWayJoins.{notes_of, over_steps, steps_of}
 
 abbrev number : ℕ → Row
 number n = value.Int (pos n) ∷ []
@@ -60,3 +64,11 @@ given-all = refl
 
 pub parts-all : join_parts 2 0 Broadcast joined (placed_items (fours ∷ fours ∷ [])) ≡ numbers (0 ∷ 2 ∷ []) ∷ numbers (1 ∷ 3 ∷ []) ∷ []
 parts-all = refl
+
+-- the one step of a join two at a time
+pub notes-steps : notes_of 2 0 joined (fours ∷ fours ∷ [])
+    ≡ record { statement = 0; exchange = exchange.Rs 2; received = 4 ∷ 4 ∷ []; listed = 2 ∷ 2 ∷ [] } ∷ []
+notes-steps = refl
+
+pub sent-steps : over_steps 2 (λ (step : PlacedExchange). sent step.moves) (steps_of 2 0 joined (fours ∷ fours ∷ [])) ≡ 4 ∷ 4 ∷ []
+sent-steps = refl

@@ -1,2 +1,5 @@
 -- The words of this crate, lowest first.
 pub mod Values
+pub mod Rewritten
+pub mod Scripts
+pub mod Held

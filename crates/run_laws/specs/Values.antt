@@ -18,9 +18,9 @@ use Rattle.algebra.specs.declared.terms.Source.TheVariants as source
 use Rattle.algebra.specs.declared.terms.StoreStep.{StoreStep}
 use Rattle.algebra.specs.Trees.{StepTree, CheckedTree}
 use Rattle.algebra.specs.Conditions.{is_of}
-use Rattle.algebra.specs.Meanings.{sources_of, needed_steps, term_rows, term_fault, checked_fault, relations_of}
+use Rattle.algebra.specs.Meanings.{sources_of, needed_steps, term_rows, term_fault, checked_fault}
 use Rattle.algebra.specs.Rewriting.{AreTyped}
-use Rattle.placement.specs.Layouts.{PlacedRelation, Placing, term_parts, placed_source, placed_steps, placed_files}
+use Rattle.placement.specs.Layouts.{PlacedRelation, Placing, term_parts, placed_source, placed_steps}
 use Rattle.placement.specs.Laws.{IsPlaced, IsPlacing}
 
 -- what each source of a checked script stands for

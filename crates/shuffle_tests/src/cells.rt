@@ -9,18 +9,18 @@ use std::alloc::Global;
 use std::sync::Wait;
 use std::thread::Threads;
 
-const FOUR: Numbers = Numbers {
+pub(crate) const FOUR: Numbers = Numbers {
     first: &[0, 1, 2, 3],
     second: &[0, 1, 2, 3],
 };
 
-const SEVENS: Numbers = Numbers {
+pub(crate) const SEVENS: Numbers = Numbers {
     first: &[7, 7, 7],
     second: &[7, 7],
 };
 
 /// How many rows all workers have.
-fn size_of(answer: Result<(Spread, Receipt), JoinFault>) -> Result<u64, JoinFault> {
+pub(crate) fn size_of(answer: Result<(Spread, Receipt), JoinFault>) -> Result<u64, JoinFault> {
     let (parts, _receipt) = answer?;
     let mut size = 0u64;
     for rows in parts.as_slice() {
@@ -30,7 +30,7 @@ fn size_of(answer: Result<(Spread, Receipt), JoinFault>) -> Result<u64, JoinFaul
 }
 
 /// The sums of the taps of two workers.
-fn sums_of_two(taps: &[CountTap]) -> Option<[Totals; 4]> {
+pub(crate) fn sums_of_two(taps: &[CountTap]) -> Option<[Totals; 4]> {
     match taps {
         [first, second, third, fourth] => Some([
             first.totals(),
@@ -43,7 +43,7 @@ fn sums_of_two(taps: &[CountTap]) -> Option<[Totals; 4]> {
 }
 
 /// So many rows sent, received and listed.
-fn told(sent: u64, got: u64, listed: u64) -> Totals {
+pub(crate) fn told(sent: u64, got: u64, listed: u64) -> Totals {
     Totals { sent, got, listed }
 }
 

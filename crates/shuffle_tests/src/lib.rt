@@ -1,17 +1,17 @@
 //! Tests of the joins between workers, over numbers that are dealt to the workers in turn.
 //!
-//! They stand in a crate of their own, above the shuffles, the plans of joins and the join through
-//! hash tables, which is what a worker does alone.
+//! They stand in a crate of their own, above the shuffles and the join through hash tables, which
+//! is what a worker does alone.
 #![tactic(auto)]
 
 #[cfg(test)]
 mod cells;
 #[cfg(test)]
+mod homes;
+#[cfg(test)]
 mod locals;
 #[cfg(test)]
 mod numbers;
-#[cfg(test)]
-mod plans;
 #[cfg(test)]
 mod positives;
 #[cfg(test)]

@@ -1,7 +1,16 @@
-//! Tests of the texts that a run prints of its plan and its traffic: each call, once, with ample memory.
+//! Tests of what stands around a run: its stages, the texts that it prints of its plan and its
+//! traffic, the collecting of its rows, and trials. Each call is run once, with ample memory, and
+//! those that may wait are seen to return.
 //!
-//! Stands on `plan_printer`, and on what its notes are made of. Nothing here is called.
+//! Stands on the crates that it runs, and on what their notes and steps are made of. Nothing here
+//! is called.
 #![tactic(auto)]
 
 #[cfg(test)]
+mod collecting;
+#[cfg(test)]
 mod printing;
+#[cfg(test)]
+mod stages;
+#[cfg(test)]
+mod trials;

@@ -1,6 +1,5 @@
 -- What is counted of an atom's columns, by their span.
 --
---   sizes_of given               the numbers of rows
 --   bits_in span variables       the variables with a column in the span, as bits
 --   tests_within span shape      how many tests read columns of the span and no others
 --   ties_within span variables   how many columns of variables lie in it, but for the first of each
@@ -10,14 +9,9 @@
 use Rattle.std.specs.Prelude.{ℕ, ◌+◌, ◌-◌, ◌*◌, ◌^◌, nat_lt, if◌then◌else◌, List, [], ◌∷◌, map, filter, length, sum_by}
 use Rattle.std.specs.List.{enumerate_from, list_any}
 use Rattle.rel_base.specs.Limits.{most_items, most_variables}
-use Rattle.myrial_ast.specs.Combinations.{Rows}
 use Rattle.myrial_ast.specs.KeptRows.{Span, lies_in, reads_within}
 use Rattle.algebra.specs.Trees.{Shape}
 use Rattle.algebra.specs.Shapes.{tests_of}
-
--- the numbers of rows
-abbrev pub sizes_of : List Rows → List ℕ
-sizes_of given = map (λ rows. length rows) given
 
 -- the variables with a column in the span, as the bits of a number
 abbrev pub bits_in : Span → List (List ℕ) → ℕ

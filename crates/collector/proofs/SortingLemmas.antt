@@ -1,0 +1,53 @@
+-- What compares by keys of rows, and what was compared each with the next.
+use Rattle.std.proofs.Common.{◌≡◌, ◌∙◌, ◌+◌, ◌<◌, List, length, All, true, false, refl, ap, arith, is_lt}
+use Rattle.std.specs.Borrow.{Bor}
+use Rattle.std.specs.List.{AllAdjacentBelow}
+use Rattle.std.proofs.lemmas.List.{get_or-map, length-map}
+use Rattle.std.specs.Prelude.{IsSorted}
+use Rattle.std.specs.declared.cmp.Ordering.{Ordering}
+use Rattle.std.specs.declared.cmp.Ordering.TheVariants.{Less, Equal, Greater}
+use Rattle.std.specs.Ordering.{is_le, ordering_then, ordering_reverse, nat_cmp, int_cmp}
+use Rattle.std.specs.Cmp.{IsTotalOrder, on_total}
+use Rattle.rel_base.specs.declared.values.Value.{Value}
+use Rattle.rel_base.specs.Values.{row_order}
+use Rattle.rel_base.specs.ValueLaws.{row_order_total}
+use Rattle.rel_base.specs.inner.Beginnings.{leading_rank, leading_number, leading_bytes}
+use Rattle.rel_base.proofs.SortLemmas.{not_less-row}
+use Rattle.collector.specs.inner.Sorted.{rows_at, reference_order}
+
+then_Equal : (first : Ordering) → ordering_then first Equal ≡ first
+then_Equal Less = refl
+then_Equal Equal = refl
+then_Equal Greater = refl
+
+-- how two rows compare by what they begin with
+abbrev pub by_beginning : List Value → List Value → Ordering
+by_beginning row other =
+    ordering_then (nat_cmp (leading_rank row) (leading_rank other)) (int_cmp (leading_number row) (leading_number other))
+
+-- what compares by what rows begin with and then by the rows, and is not less, is not less by the rows
+pub not_less-keyed : (row other : List Value) → All (λ byte. byte < 256) (leading_bytes row)
+    → All (λ byte. byte < 256) (leading_bytes other)
+    → is_lt (ordering_then (by_beginning row other) (row_order row other)) ≡ false → is_lt (row_order row other) ≡ false
+not_less-keyed row other bytes others e = not_less-row row other Equal bytes others (ap is_lt (then_Equal _) ∙ e)
+
+reversed : (first : Ordering) → is_le first ≡ true → is_lt (ordering_reverse first) ≡ false
+reversed Less e = refl
+reversed Equal e = refl
+reversed Greater e = cc
+
+-- a list of which each item is at most the next is in order
+pub in_order_by_neighbours : {T : Type 0} (order : T → T → Ordering) → IsTotalOrder order → (xs : List T)
+    → AllAdjacentBelow (λ x y. is_le (order x y) ≡ true) xs (length xs) → IsSorted order xs
+in_order_by_neighbours order total xs next k d low high = ap is_lt (total.antisymm _ _) ∙ reversed _ (next k d high)
+
+-- references whose rows are in order are so too
+pub in_order_as_rows : (rows : List (Bor (List Value))) → IsSorted row_order (rows_at rows) → IsSorted reference_order rows
+in_order_as_rows rows sorted k d low high =
+    let now = λ (row : Bor (List Value)). row.now in
+    let fact = sorted k d.now low (omega (arith, high, length-map rows now)) in
+    rw (get_or-map now rows (k + 1) d d.now high, get_or-map now rows k d d.now (omega (arith, high))) at fact
+
+-- references are ordered as their rows are
+pub ordered_references : IsTotalOrder reference_order
+ordered_references = on_total (λ (row : Bor (List Value)). row.now) row_order_total

@@ -1,0 +1,6 @@
+-- Lemmas of this crate, lowest first.
+pub mod ListLemmas
+pub mod FaultLemmas
+pub mod JoinLemmas
+pub mod GroupLemmas
+pub mod TermLemmas

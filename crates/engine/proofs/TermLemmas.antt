@@ -1,0 +1,245 @@
+-- Terms of steps, run over what is held.
+use Rattle.std.proofs.Common.{◌≡◌, ℕ, ◌+◌, ◌<◌, ◌≤◌, ◌++◌, List, [], ◌∷◌, map, length, refl, sym, ap, subst, ◌∙◌, Result, Ok, Err, Option, Some, None, if◌then◌else◌, arith, length-append}
+use Rattle.std.specs.Prelude.{All, OnOk, slice_index_or}
+use Rattle.std.proofs.lemmas.Bool.{le-ltb}
+use Rattle.rel_base.specs.Limits.{most_rows}
+use Rattle.rel_base.specs.declared.faults.RunFault.{RunFault}
+use Rattle.rel_base.specs.declared.faults.RunFault.TheVariants as fault
+use Rattle.rel_io.specs.declared.taps.Totals.{Totals}
+use Rattle.myrial_ast.specs.Bags.{distinct, difference}
+use Rattle.myrial_ast.specs.CandidateFaults.{too_many}
+use Rattle.myrial_ast.specs.Combinations.{Row, Rows}
+use Rattle.myrial_ast.specs.Groups.{Kinds, groups}
+use Rattle.algebra.specs.CheckedTrees.{term_tree_of}
+use Rattle.algebra.specs.Meanings.{shape_fault, sources_of}
+use Rattle.algebra.specs.ShapeTrees.{shape_tree_of}
+use Rattle.algebra.specs.Shapes.{listed_of}
+use Rattle.algebra.specs.Trees.{kind_of_emit}
+use Rattle.algebra.specs.declared.notes.Exchange.TheVariants as exchange
+use Rattle.algebra.specs.declared.notes.PlanNote.{PlanNote}
+use Rattle.algebra.specs.declared.settings.Settings.{Settings}
+use Rattle.algebra.specs.declared.shapes.EmitKind.{EmitKind}
+use Rattle.algebra.specs.declared.shapes.JoinShape.{JoinShape}
+use Rattle.algebra.specs.declared.terms.Source.{Source}
+use Rattle.algebra.specs.declared.terms.Term.{Term}
+use Rattle.algebra.specs.declared.terms.Term.TheVariants as term
+use Rattle.placement.specs.Exchanges.{PlacedExchange, join_exchanges, row_exchange, group_exchange}
+use Rattle.placement.specs.Layouts.{PlacedRelation, by_worker, together, rows_of, listed_parts, parts_by_row, parts_by_key}
+use Rattle.placement.specs.Plans.{usual_placing, join_notes, group_note, term_notes}
+use Rattle.placed_joins.specs.PlacedJoins.{placed_rows, placed_items, size_of}
+use Rattle.term_runs.specs.declared.moved.Moved.{Moved}
+use Rattle.term_runs.specs.TermRuns.{AreShown, no_receipt, IsTermRun}
+use Rattle.term_runs.proofs.RunLemmas.{run-made}
+use Rattle.term_runs.proofs.TapLemmas.{fair-none, joined-moves}
+use Rattle.bag_runs.proofs.TableLemmas.{tables-equal}
+use Rattle.run_laws.specs.Held.{HasWideParts}
+use Rattle.engine.specs.declared.held.Held.{Held}
+use Rattle.engine.specs.Runs.{prefixes_of, IsRunFault}
+use Rattle.engine.specs.inner.Held.{parts_held, value_held, IsHeld}
+use Rattle.engine.specs.inner.Joins.{IsTold, IsStepJoin, IsStepGroup}
+use Rattle.engine.specs.inner.Terms.{IsStepRun}
+
+-- ---- what a term asks
+
+-- all sources of a join or a grouping are held
+pub join-known : (held : Held) (t : Term) (shape : JoinShape) (sources : List Source) → t ≡ term.Join shape sources
+    → All (IsHeld held) (sources_of (term_tree_of t)) → All (IsHeld held) sources
+join-known held t shape sources e h = subst (λ u. All (IsHeld held) (sources_of (term_tree_of u))) e h
+
+pub group-known : (held : Held) (t : Term) (shape : JoinShape) (sources : List Source) (kinds : List EmitKind) → t ≡ term.Group shape sources kinds
+    → All (IsHeld held) (sources_of (term_tree_of t)) → All (IsHeld held) sources
+group-known held t shape sources kinds e h = subst (λ u. All (IsHeld held) (sources_of (term_tree_of u))) e h
+
+-- of a `unionall` there is a list for each worker
+pub left-long : (held : Held) (n : ℕ) (t : Term) (left right : Source) → t ≡ term.UnionAll left right
+    → All (λ o. length (parts_held held o) ≡ n) (sources_of (term_tree_of t)) → length (parts_held held left) ≡ n
+left-long held n t left right e h =
+    subst (λ u. All (λ o. length (parts_held held o) ≡ n) (sources_of (term_tree_of u))) e h 0 left (omega arith)
+
+-- rows are so wide where they are those of a source, and as wide as those are
+rows-wide : (parts own : List Rows) (w width : ℕ) → parts ≡ own → w ≡ width → All (All (λ (row : Row). length row ≡ width)) own
+    → All (All (λ (row : Row). length row ≡ w)) parts
+rows-wide parts own w width e f h =
+    subst (λ (n : ℕ). All (All (λ (row : Row). length row ≡ n)) parts) (sym f)
+    (subst (λ (rows : List Rows). All (All (λ (row : Row). length row ≡ width)) rows) (sym e) h)
+
+module _ (held : Held) (width : ℕ) (t : Term) (wide : HasWideParts width (parts_held held) (term_tree_of t)) where
+  pub left-wide : (left right : Source) → t ≡ term.Diff left right → (parts : List Rows) → parts ≡ parts_held held left
+      → (w : ℕ) → w ≡ width → All (All (λ (row : Row). length row ≡ w)) parts
+  left-wide left right e parts is w as_wide =
+      rows-wide parts (parts_held held left) w width is as_wide
+      (subst (λ u. HasWideParts width (parts_held held) (term_tree_of u)) e wide 0 left (omega arith))
+
+  pub right-wide : (left right : Source) → t ≡ term.Diff left right → (parts : List Rows) → parts ≡ parts_held held right
+      → (w : ℕ) → w ≡ width → All (All (λ (row : Row). length row ≡ w)) parts
+  right-wide left right e parts is w as_wide =
+      rows-wide parts (parts_held held right) w width is as_wide
+      (subst (λ u. HasWideParts width (parts_held held) (term_tree_of u)) e wide 1 left (omega arith))
+
+  pub source-wide : (source : Source) → t ≡ term.Distinct source → (parts : List Rows) → parts ≡ parts_held held source
+      → (w : ℕ) → w ≡ width → All (All (λ (row : Row). length row ≡ w)) parts
+  source-wide source e parts is w as_wide =
+      rows-wide parts (parts_held held source) w width is as_wide
+      (subst (λ u. HasWideParts width (parts_held held) (term_tree_of u)) e wide 0 source (omega arith))
+
+-- ---- what it comes to
+
+-- the rows of the sources of a join, where they lie
+items-held : (held : Held) (sources : List Source) → placed_items (map (parts_held held) sources) ≡ map (value_held held) sources
+items-held held [] = refl
+items-held held (o ∷ sources) = ap (λ items. value_held held o ∷ items) (items-held held sources)
+
+rows-held : (held : Held) (sources : List Source)
+    → rows_of (map (value_held held) sources) ≡ map (λ o. (value_held held o).relation.rows) sources
+rows-held held [] = refl
+rows-held held (o ∷ sources) = ap (λ given. (value_held held o).relation.rows ∷ given) (rows-held held sources)
+
+-- two operands of so few rows have no fault
+few-united : (number : ℕ) (a b : Rows) → length a + length b ≤ most_rows
+    → (if too_many (a ++ b) then Some (fault.TooManyRows number) else None) ≡ None
+few-united number a b few =
+    ap (λ many. if many then Some (fault.TooManyRows number) else None)
+    (le-ltb most_rows (length (a ++ b)) (omega (arith, few, length-append a b)))
+
+module _ {T : Type 0} (s : Settings) (number : ℕ) (held : Held) (totals : T → Totals) (tag : T → ℕ) where
+  -- what running a term does
+  abbrev pub Runs : Term → List T → List T → Result Moved RunFault → Type 0
+  Runs t before after answer = IsStepRun s number (value_held held) (term_tree_of t) totals tag before after answer
+
+  -- rows that lie where they were made, by no exchange
+  rested : (parts : List Rows) (own : Option RunFault) (taps : List T) (made : Moved) → own ≡ None → made.parts ≡ parts
+      → made.traffic ≡ [] → made.receipts ≡ [] → IsTold s number parts [] own totals tag taps taps (Ok made)
+  rested parts own taps made sound is told shown = record {
+    run =
+        run-made s number parts [] totals tag (IsRunFault own) taps taps made (fair-none totals tag taps)
+        (record {
+          parts = tables-equal parts made.parts (sym is);
+          traffic = told;
+          receipts = subst (λ receipts. AreShown (size_of s) [] receipts) (sym shown) no_receipt;
+        })
+        ((joined-moves totals tag).none s.workers taps);
+    sound = sound;
+  }
+
+  -- a run that made rows, whatever its fault would have been
+  pub made-alike : {F : Type 0} (parts : List Rows) (exchanges : List PlacedExchange) (own : Option RunFault) (IsFault : F → Type 0)
+      (before after : List T) (made : Moved) → own ≡ None → IsTermRun s number parts exchanges totals tag IsFault before after (Ok made)
+      → IsTold s number parts exchanges own totals tag before after (Ok made)
+  made-alike parts exchanges own IsFault before after made sound run = record {
+    run = run-made s number parts exchanges totals tag (IsRunFault own) before after made run.fair run.ok.0 run.ok.1;
+    sound = sound;
+  }
+
+  module _ (t : Term) where
+    pub same-run : (source : Source) → t ≡ term.Same source → (taps : List T) (made : Moved) → made.parts ≡ parts_held held source
+        → made.traffic ≡ [] → made.receipts ≡ [] → Runs t taps taps (Ok made)
+    same-run source e taps made is told shown =
+        subst (λ u. Runs u taps taps (Ok made)) (sym e) (rested (parts_held held source) None taps made refl is told shown)
+
+    pub empty-run : t ≡ term.Empty → (taps : List T) (made : Moved) → made.parts ≡ by_worker s.workers (λ w. [])
+        → made.traffic ≡ [] → made.receipts ≡ [] → Runs t taps taps (Ok made)
+    empty-run e taps made is told shown =
+        subst (λ u. Runs u taps taps (Ok made)) (sym e) (rested (by_worker s.workers (λ w. [])) None taps made refl is told shown)
+
+    pub union-run : (left right : Source) → t ≡ term.UnionAll left right → (a b : List Rows) → a ≡ parts_held held left
+        → b ≡ parts_held held right → length (parts_held held left) ≡ s.workers
+        → length (together a) + length (together b) ≤ most_rows → (taps : List T) (made : Moved)
+        → made.parts ≡ by_worker (length a) (λ w. slice_index_or a w [] ++ slice_index_or b w [])
+        → made.traffic ≡ [] → made.receipts ≡ [] → Runs t taps taps (Ok made)
+    union-run left right e a b is_left is_right long few taps made is told shown =
+        let own = parts_held held left in
+        let other = parts_held held right in
+        subst (λ u. Runs u taps taps (Ok made)) (sym e)
+        (rested (by_worker s.workers (λ w. slice_index_or own w [] ++ slice_index_or other w []))
+        (if too_many (together own ++ together other) then Some (fault.TooManyRows number) else None) taps made
+        (few-united number (together own) (together other)
+        (omega (arith, few, ap (λ (l : List Rows). length (together l)) is_left, ap (λ (l : List Rows). length (together l)) is_right)))
+        (is
+        ∙ (λ i. by_worker (length (is_left i)) (λ w. slice_index_or (is_left i) w [] ++ slice_index_or (is_right i) w []))
+        ∙ ap (λ n. by_worker n (λ w. slice_index_or own w [] ++ slice_index_or other w [])) long)
+        told shown)
+
+    pub diff-run : {F : Type 0} (IsFault : F → Type 0) (left right : Source) → t ≡ term.Diff left right → (a b : List Rows)
+        → a ≡ parts_held held left → b ≡ parts_held held right → (before after : List T) (made : Moved)
+        → IsTermRun s number (parts_by_row (usual_placing s) (difference (together a) (together b)))
+        (row_exchange (usual_placing s) exchange.Diff (placed_rows a ∷ placed_rows b ∷ [])
+        (parts_by_row (usual_placing s) (difference (together a) (together b))) ∷ [])
+        totals tag IsFault before after (Ok made)
+        → Runs t before after (Ok made)
+    diff-run IsFault left right e a b is_left is_right before after made run =
+        let p = usual_placing s in
+        let parts : List Rows → List Rows → List Rows = λ l r. parts_by_row p (difference (together l) (together r)) in
+        let exchanges : List Rows → List Rows → List PlacedExchange =
+        λ l r. row_exchange p exchange.Diff (placed_rows l ∷ placed_rows r ∷ []) (parts l r) ∷ [] in
+        subst (λ u. Runs u before after (Ok made)) (sym e)
+        (subst (λ (l : List Rows). IsTold s number (parts l (parts_held held right)) (exchanges l (parts_held held right)) None totals tag before after (Ok made)) is_left
+        (subst (λ (r : List Rows). IsTold s number (parts a r) (exchanges a r) None totals tag before after (Ok made)) is_right
+        (made-alike (parts a b) (exchanges a b) None IsFault before after made refl run)))
+
+    pub distinct-run : {F : Type 0} (IsFault : F → Type 0) (source : Source) → t ≡ term.Distinct source → (a : List Rows)
+        → a ≡ parts_held held source → (before after : List T) (made : Moved)
+        → IsTermRun s number (parts_by_row (usual_placing s) (distinct (together a)))
+        (row_exchange (usual_placing s) exchange.Distinct (placed_rows a ∷ []) (parts_by_row (usual_placing s) (distinct (together a))) ∷ [])
+        totals tag IsFault before after (Ok made)
+        → Runs t before after (Ok made)
+    distinct-run IsFault source e a is_source before after made run =
+        let p = usual_placing s in
+        let parts : List Rows → List Rows = λ l. parts_by_row p (distinct (together l)) in
+        let exchanges : List Rows → List PlacedExchange = λ l. row_exchange p exchange.Distinct (placed_rows l ∷ []) (parts l) ∷ [] in
+        subst (λ u. Runs u before after (Ok made)) (sym e)
+        (subst (λ (l : List Rows). IsTold s number (parts l) (exchanges l) None totals tag before after (Ok made)) is_source
+        (made-alike (parts a) (exchanges a) None IsFault before after made refl run))
+
+    pub join-run : (shape : JoinShape) (sources : List Source) → t ≡ term.Join shape sources → (parts : List (List Rows))
+        → parts ≡ map (parts_held held) sources → (before after : List T) (answer : Result Moved RunFault)
+        → IsStepJoin s number (shape_tree_of shape) parts totals tag before after answer → Runs t before after answer
+    join-run shape sources e parts are before after answer run =
+        let p = usual_placing s in
+        let tree = shape_tree_of shape in
+        let told : List PlacedRelation → List Rows → Type 0 =
+        λ items given. IsTold s number (listed_parts p number tree items) (join_exchanges p number tree items)
+        (shape_fault (prefixes_of s.shuffle) number tree [] given) totals tag before after answer in
+        subst (λ u. Runs u before after answer) (sym e)
+        (subst (λ (given : List Rows). told (map (value_held held) sources) given) (rows-held held sources)
+        (subst (λ (items : List PlacedRelation). told items (rows_of items)) (ap placed_items are ∙ items-held held sources) run))
+
+    pub join-lines : (shape : JoinShape) (sources : List Source) → t ≡ term.Join shape sources → (parts : List (List Rows))
+        → parts ≡ map (parts_held held) sources → (answer : Result Moved RunFault) (lines more : List PlanNote)
+        → OnOk answer (more ≡ lines ++ join_notes (usual_placing s) s.local number (shape_tree_of shape) (placed_items parts))
+        → OnOk answer (more ≡ lines ++ term_notes (usual_placing s) s.local number (value_held held) (term_tree_of t))
+    join-lines shape sources e parts are answer lines more h =
+        subst (λ u. OnOk answer (more ≡ lines ++ term_notes (usual_placing s) s.local number (value_held held) (term_tree_of u))) (sym e)
+        (subst (λ (items : List PlacedRelation). OnOk answer
+        (more ≡ lines ++ join_notes (usual_placing s) s.local number (shape_tree_of shape) items))
+        (ap placed_items are ∙ items-held held sources) h)
+
+    pub group-run : (shape : JoinShape) (sources : List Source) (emits : List EmitKind) → t ≡ term.Group shape sources emits
+        → (parts : List (List Rows)) → parts ≡ map (parts_held held) sources → (before after : List T)
+        (answer : Result Moved RunFault)
+        → IsStepGroup s number (shape_tree_of shape) (map kind_of_emit emits) parts totals tag before after answer
+        → Runs t before after answer
+    group-run shape sources emits e parts are before after answer run =
+        let p = usual_placing s in
+        let tree = shape_tree_of shape in
+        let kinds = map kind_of_emit emits in
+        let made : List Rows → List Rows = λ given. parts_by_key p kinds (groups kinds (listed_of tree given)) in
+        let told : List PlacedRelation → List Rows → Type 0 =
+        λ items given. IsTold s number (made given)
+        (join_exchanges p number tree items ++ group_exchange p kinds (listed_parts p number tree items) (made given) ∷ [])
+        (shape_fault (prefixes_of s.shuffle) number tree kinds given) totals tag before after answer in
+        subst (λ u. Runs u before after answer) (sym e)
+        (subst (λ (given : List Rows). told (map (value_held held) sources) given) (rows-held held sources)
+        (subst (λ (items : List PlacedRelation). told items (rows_of items)) (ap placed_items are ∙ items-held held sources) run))
+
+    pub group-lines : (shape : JoinShape) (sources : List Source) (emits : List EmitKind) → t ≡ term.Group shape sources emits
+        → (parts : List (List Rows)) → parts ≡ map (parts_held held) sources → (answer : Result Moved RunFault)
+        (lines more : List PlanNote)
+        → OnOk answer (more ≡ lines ++ (join_notes (usual_placing s) s.local number (shape_tree_of shape) (placed_items parts)
+        ++ group_note (map kind_of_emit emits) ∷ []))
+        → OnOk answer (more ≡ lines ++ term_notes (usual_placing s) s.local number (value_held held) (term_tree_of t))
+    group-lines shape sources emits e parts are answer lines more h =
+        subst (λ u. OnOk answer (more ≡ lines ++ term_notes (usual_placing s) s.local number (value_held held) (term_tree_of u))) (sym e)
+        (subst (λ (items : List PlacedRelation). OnOk answer
+        (more ≡ lines ++ (join_notes (usual_placing s) s.local number (shape_tree_of shape) items
+        ++ group_note (map kind_of_emit emits) ∷ [])))
+        (ap placed_items are ∙ items-held held sources) h)

@@ -1,0 +1,84 @@
+-- What running a checked script at workers does.
+--
+--   prefixes_of kind, fault_of s files c   the fault of a script by these settings
+--   run_exchanges s files c                the exchanges of the needed steps
+--   IsStoredAt stored placed               what a store holds, worker by worker
+--   IsRan s files c ran                    a run stores, plans, counts and shows what is placed
+--   IsRunFault s files c fault             this is wrong with the script, or memory was refused
+--   IsRun ..                               what a run does, whatever it answers
+use Rattle.std.specs.Prelude.{◌≡◌, ⊤, ℕ, List, [], ◌∷◌, map, Option, Some, None, Result, IfOk, IfErr}
+use Rattle.std.specs.List.{flat_map}
+use Rattle.rel_base.specs.Keys.{File}
+use Rattle.rel_base.specs.declared.names.Key.{Key}
+use Rattle.rel_base.specs.declared.faults.RunFault.{RunFault}
+use Rattle.rel_base.specs.declared.faults.RunFault.TheVariants as fault
+use Rattle.rel_io.specs.declared.taps.Totals.{Totals}
+use Rattle.myrial_ast.specs.CandidateFaults.{PrefixRule, Counted, Uncounted}
+use Rattle.bag_laws.specs.Permuted.{SameTables}
+use Rattle.algebra.specs.declared.settings.ShuffleKind.{ShuffleKind}
+use Rattle.algebra.specs.declared.settings.ShuffleKind.TheVariants as shuffle_kind
+use Rattle.algebra.specs.declared.settings.Settings.{Settings}
+use Rattle.algebra.specs.Trees.{CheckedTree}
+use Rattle.algebra.specs.Meanings.{checked_fault}
+use Rattle.placement.specs.Layouts.{PlacedRelation, placed_stores}
+use Rattle.placement.specs.Exchanges.{PlacedExchange, exchanges_of, traffic_of}
+use Rattle.placement.specs.Plans.{usual_placing, plan_of}
+use Rattle.placed_joins.specs.PlacedJoins.{size_of}
+use Rattle.term_runs.specs.TermRuns.{shown_moves, AreShown, AreMoved, AreFair}
+use Rattle.engine.specs.declared.runs.SpreadStore.{SpreadStore}
+use Rattle.engine.specs.declared.runs.Ran.{Ran}
+
+-- ---- what is stored
+
+-- the key and the columns of what is stored, and at each worker its rows, as a bag
+pub record IsStoredAt (stored : SpreadStore) (placed : Key × PlacedRelation) : Type 0 where
+  pub key : stored.key ≡ placed.0
+  pub schema : stored.schema ≡ placed.1.relation.schema
+  pub parts : SameTables placed.1.parts stored.parts
+
+-- store by store
+pub data AreStoredAt : List SpreadStore → List (Key × PlacedRelation) → Type 0 where
+  no_store : AreStoredAt [] []
+  a_store : (stored : SpreadStore) (placed : Key × PlacedRelation) (rest : List SpreadStore)
+      (others : List (Key × PlacedRelation)) → IsStoredAt stored placed → AreStoredAt rest others
+      → AreStoredAt (stored ∷ rest) (placed ∷ others)
+
+-- ---- a run
+
+-- prefixes count where two items are joined at a time
+abbrev pub prefixes_of : ShuffleKind → PrefixRule
+prefixes_of shuffle_kind.Rs = Counted
+prefixes_of shuffle_kind.Hc = Uncounted
+prefixes_of shuffle_kind.Br = Uncounted
+
+-- the fault of the script by these settings
+abbrev pub fault_of : Settings → List File → CheckedTree → Option RunFault
+fault_of s files c = checked_fault (λ number. prefixes_of s.shuffle) files c
+
+-- the exchanges of the needed steps
+abbrev pub run_exchanges : Settings → List File → CheckedTree → List PlacedExchange
+run_exchanges s files c = map (λ (e : ℕ × PlacedExchange). e.1) (exchanges_of (usual_placing s) files c)
+
+-- nothing is wrong with the script; each store holds what is placed, worker by worker; plan and traffic are those of the
+-- script, and the receipts show its exchanges
+pub record IsRan (s : Settings) (files : List File) (c : CheckedTree) (ran : Ran) : Type 0 where
+  pub sound : fault_of s files c ≡ None
+  pub stored : AreStoredAt ran.stored (placed_stores (usual_placing s) files c)
+  pub plan : ran.plan ≡ plan_of (usual_placing s) s.local files c
+  pub traffic : ran.traffic ≡ traffic_of (usual_placing s) files c
+  pub receipts : AreShown (size_of s) (flat_map shown_moves (run_exchanges s files c)) ran.receipts
+
+-- this is wrong with the script; memory may be refused at any time
+abbrev pub IsRunFault : Option RunFault → RunFault → Type 0
+IsRunFault own fault.Memory = ⊤
+IsRunFault own other = own ≡ Some other
+
+-- what a run does, whatever it answers: the taps stand in their order, and stay even if they were; on Ok they rose by the
+-- exchanges
+pub record IsRun {T : Type 0} (s : Settings) (files : List File) (c : CheckedTree)
+    (totals : T → Totals) (tag : T → ℕ) (before after : List T)
+    (answer : Result Ran RunFault) : Type 0 where
+  pub fair : AreFair totals tag before after
+  pub ok : IfOk answer (λ ran. IsRan s files c ran
+      × AreMoved totals tag s.workers (run_exchanges s files c) before after)
+  pub err : IfErr answer (IsRunFault (fault_of s files c))

@@ -1,0 +1,95 @@
+-- Steps, and how far a run has come.
+--
+--   IsStepDone ..              what running a step does on Ok: its result is held, and what it did is noted
+--   IsStep ..                  what it does, whatever it answers
+--   AreRun ..                  some steps have run: what is held and noted is what they mean
+--   HoldsSource, HoldsStores   what is held of a source, and of all stores, is what they stand for
+use Rattle.std.specs.Prelude.{◌≡◌, ⊤, ℕ, List, [], ◌∷◌, ◌++◌, map, length, All, None, Result, IfErr, OnOk}
+use Rattle.std.specs.List.{flat_map}
+use Rattle.rel_base.specs.Keys.{File}
+use Rattle.rel_base.specs.declared.faults.RunFault.{RunFault}
+use Rattle.rel_io.specs.declared.taps.Totals.{Totals}
+use Rattle.exchange_channels.specs.Wirings.{ReceiptState}
+use Rattle.myrial_ast.specs.Combinations.{Rows}
+use Rattle.bag_laws.specs.Permuted.{SameTables}
+use Rattle.algebra.specs.declared.notes.PlanNote.TheVariants as note
+use Rattle.algebra.specs.declared.settings.Settings.{Settings}
+use Rattle.algebra.specs.declared.terms.Source.{Source}
+use Rattle.algebra.specs.Meanings.{term_fault}
+use Rattle.algebra.specs.Trees.{StepTree, CheckedTree}
+use Rattle.placement.specs.Layouts.{together, term_parts}
+use Rattle.placement.specs.Exchanges.{PlacedExchange, term_exchanges, traffic_note}
+use Rattle.placement.specs.Plans.{usual_placing, plan_kind, term_notes, step_notes}
+use Rattle.placed_joins.specs.PlacedJoins.{size_of}
+use Rattle.term_runs.specs.TermRuns.{shown_moves, AreShown, AreMoved, AreFair}
+use Rattle.run_laws.specs.Values.{meant}
+use Rattle.run_laws.specs.Scripts.{step_exchanges, IsSound}
+use Rattle.run_laws.specs.Held.{AreHeld, IsHeldStore}
+use Rattle.engine.specs.declared.held.Held.{Held}
+use Rattle.engine.specs.declared.noted.Noted.{Noted}
+use Rattle.engine.specs.Runs.{prefixes_of, IsRunFault}
+use Rattle.engine.specs.inner.Held.{parts_held, value_held}
+
+-- ---- one step
+
+-- the exchanges of a step over what is held
+abbrev pub held_exchanges : Settings → Held → StepTree → List PlacedExchange
+held_exchanges s held t = term_exchanges (usual_placing s) t.statement (value_held held) t.term
+
+-- the result of a step is held, as bags; its line with its rows and the lines below it, the notes and the receipts of its
+-- exchanges stand behind those before; and the taps rose by its exchanges
+pub record IsStepDone {T : Type 0} (s : Settings) (t : StepTree) (held : Held) (after_held : Held)
+    (noted after_noted : Noted) (totals : T → Totals) (tag : T → ℕ) (before after : List T) : Type 0 where
+  pub made : List Rows
+  pub receipts : List ReceiptState
+  pub files : after_held.files ≡ held.files
+  pub results : after_held.results ≡ held.results ++ (t.statement, made) ∷ []
+  pub parts : SameTables (term_parts (usual_placing s) t.statement (value_held held) t.term) made
+  pub plan : after_noted.plan ≡ noted.plan ++ note.Statement t.statement (plan_kind t.term) (length (together made))
+      ∷ term_notes (usual_placing s) s.local t.statement (value_held held) t.term
+  pub traffic : after_noted.traffic ≡ noted.traffic
+      ++ map (λ (e : PlacedExchange). traffic_note s.workers (t.statement, e)) (held_exchanges s held t)
+  pub noted_receipts : after_noted.receipts ≡ noted.receipts ++ receipts
+  pub shown : AreShown (size_of s) (flat_map shown_moves (held_exchanges s held t)) receipts
+  pub moved : AreMoved totals tag s.workers (held_exchanges s held t) before after
+  pub sound : term_fault (prefixes_of s.shuffle) t.statement (λ o. (value_held held o).relation.rows) t.term ≡ None
+
+-- what running a step over what is held does
+pub record IsStep {T : Type 0} (s : Settings) (t : StepTree) (held : Held) (after_held : Held)
+    (noted after_noted : Noted) (totals : T → Totals) (tag : T → ℕ) (before after : List T)
+    (answer : Result ⊤ RunFault) : Type 0 where
+  pub fair : AreFair totals tag before after
+  pub ok : OnOk answer (IsStepDone s t held after_held noted after_noted totals tag before after)
+  pub err : IfErr answer
+      (IsRunFault (term_fault (prefixes_of s.shuffle) t.statement (λ o. (value_held held o).relation.rows) t.term))
+
+-- ---- the steps so far
+
+-- the exchanges of some steps of a script, each with the number of its statement, and without
+abbrev pub numbered_exchanges : Settings → List File → CheckedTree → List StepTree → List (ℕ × PlacedExchange)
+numbered_exchanges s files c steps =
+    flat_map (step_exchanges (usual_placing s) (meant (usual_placing s) files c)) steps
+
+abbrev pub bare_exchanges : Settings → List File → CheckedTree → List StepTree → List PlacedExchange
+bare_exchanges s files c steps = map (λ (e : ℕ × PlacedExchange). e.1) (numbered_exchanges s files c steps)
+
+-- some steps have run: the rows of each lie where they are placed, as bags; the plan, the traffic and the receipts are theirs,
+-- the taps rose by their exchanges, and nothing is wrong with them
+pub record AreRun {T : Type 0} (s : Settings) (files : List File) (c : CheckedTree) (steps : List StepTree)
+    (held : Held) (noted : Noted) (totals : T → Totals) (tag : T → ℕ) (before after : List T) : Type 0 where
+  pub held_as_meant : AreHeld (usual_placing s) files c steps held.files held.results
+  pub plan : noted.plan ≡ flat_map (step_notes (usual_placing s) s.local (meant (usual_placing s) files c)) steps
+  pub traffic : noted.traffic ≡ map (traffic_note s.workers) (numbered_exchanges s files c steps)
+  pub receipts : AreShown (size_of s) (flat_map shown_moves (bare_exchanges s files c steps)) noted.receipts
+  pub moved : AreMoved totals tag s.workers (bare_exchanges s files c steps) before after
+  pub sound : All (IsSound (usual_placing s) (λ _. prefixes_of s.shuffle) files c) steps
+
+-- ---- stores
+
+-- what is held of a source is what it stands for, worker by worker, as bags
+abbrev pub HoldsSource : Settings → List File → CheckedTree → Held → Source → Type 0
+HoldsSource s files c held o = SameTables (meant (usual_placing s) files c o).parts (parts_held held o)
+
+-- what is held of the source of each store is what it stands for
+abbrev pub HoldsStores : Settings → List File → CheckedTree → Held → Type 0
+HoldsStores s files c held = All (IsHeldStore (usual_placing s) files c held.files held.results) c.stores

@@ -1,0 +1,147 @@
+//! The run of a checked script.
+ghost use Rattle.std.specs.Prelude.{◌≡◌, ◌==◌, All, IsTrue, Some, None, IfOk, IfSome, IsNone, find, vec_len};
+ghost use Rattle.rel_base.specs.Limits.{taps as tap_count};
+ghost use Rattle.algebra.specs.CheckedTrees.{checked_tree_of, step_tree_of};
+ghost use Rattle.algebra.specs.Conditions.{is_of};
+ghost use Rattle.algebra.specs.Rewriting.{AreTyped};
+ghost use Rattle.algebra.specs.Trees.{StepTree};
+ghost use Rattle.algebra.specs.declared.settings.Settings.{Settings};
+ghost use Rattle.algebra.specs.declared.terms.StoreStep.{StoreStep};
+ghost use Rattle.placement.specs.Layouts.{placed_stores};
+ghost use Rattle.placement.specs.Plans.{usual_placing};
+ghost use Rattle.run_laws.specs.Values.{meant, IsKnown};
+ghost use Rattle.engine.specs.Runs.{IsRun, IsStoredAt, AreStoredAt};
+ghost use Rattle.engine.specs.inner.Held.{IsHeld};
+ghost use Rattle.engine.specs.inner.Steps.{HoldsSource, HoldsStores};
+
+use crate::dealing::dealt_files;
+use crate::held::Held;
+use crate::noted::Noted;
+use crate::runs::{Ran, SpreadStore, SpreadStores};
+use crate::steps::run_step;
+use crate::terms::RunStep;
+use algebra::{Checked, Settings, Source, Step, StoreStep};
+use plan_rewrite::rewrite;
+use rel_base::{Duplicate, Files, Items, Memory, RunFault, Schema};
+use rel_io::Tap;
+use std::alloc::Global;
+use std::sync::Wait;
+use std::thread::Threads;
+
+/// Runs a checked script over its files, at so many workers as the settings say. It may wait as long as its threads do.
+///
+/// Steps that no store needs aren't run. Tap `2w` is told the rows that worker `w` sends, and tap `2w + 1` those that it receives
+/// and lists; after another answer than Ok their sums may have risen.
+pub fn run_script<R: Threads + Wait + Sync, T: Tap + Send>(
+    rt: &R,
+    alloc: Global,
+    checked: &Checked,
+    files: &Files,
+    settings: &Settings,
+    taps: &mut Vec<T>,
+) -> Result<Ran, RunFault>
+    requires of { IsTrue (is_of files.now (checked_tree_of checked.now)) }
+    requires typed { AreTyped files.now }
+    requires taps { vec_len taps.old ≡ tap_count }
+    ensures { IsRun settings.now files.now (checked_tree_of checked.now) T.totals T.tag taps.old.items
+        taps.new.items result }
+{
+    let planned = rewrite(alloc, checked)?;
+    let mut held = Held {
+        files: dealt_files(alloc, files, settings.workers)?,
+        results: Items::new(alloc),
+    };
+    let mut noted = Noted::new(alloc);
+    for pushed in planned.steps.as_slice() {
+        let Some(step) = step_of(checked, pushed.statement) else {
+            unreachable!()
+        };
+        let run = RunStep { step, pushed };
+        run_step(rt, alloc, &run, settings, &mut held, &mut noted, taps)?;
+    }
+    let stored = stored_of(alloc, checked, files, &held)?;
+    let Noted {
+        plan,
+        traffic,
+        receipts,
+    } = noted;
+    Ok(Ran {
+        stored,
+        plan,
+        traffic,
+        receipts,
+    })
+}
+
+/// The step of this number, where there is one.
+fn step_of(checked: &Checked, statement: u32) -> Option<&Step>
+    ensures some { IfSome result (λ step. find (λ (s : StepTree). s.statement == statement)
+        (checked_tree_of checked.now).steps ≡ Some (step_tree_of step.now)) }
+    ensures none { IsNone result → find (λ (s : StepTree). s.statement == statement)
+        (checked_tree_of checked.now).steps ≡ None }
+{
+    checked
+        .steps
+        .as_slice()
+        .iter()
+        .find(|step| step.statement == statement)
+}
+
+/// What the stores store, each where it lies. No shared row is copied.
+fn stored_of(
+    alloc: Global,
+    checked: &Checked,
+    files: &Files,
+    held: &Held,
+) -> Result<SpreadStores, Memory>
+    requires of { IsTrue (is_of files.now (checked_tree_of checked.now)) }
+    requires known { All (λ (t : StoreStep). IsKnown files.now (checked_tree_of checked.now).steps t.source) checked.now.stores }
+    requires held { All (λ (t : StoreStep). IsHeld held.now t.source) checked.now.stores }
+    ensures { IfOk result (λ made. (s : Settings) → HoldsStores s files.now (checked_tree_of checked.now) held.now
+        → AreStoredAt made (placed_stores (usual_placing s) files.now (checked_tree_of checked.now))) }
+{
+    let mut stored = SpreadStores::with_capacity(alloc, checked.stores.len())?;
+    for store in checked.stores.as_slice() {
+        stored.push(stored_by(alloc, checked, files, held, store)?)?;
+    }
+    Ok(stored)
+}
+
+/// What one store stores.
+fn stored_by(
+    alloc: Global,
+    checked: &Checked,
+    files: &Files,
+    held: &Held,
+    store: &StoreStep,
+) -> Result<SpreadStore, Memory>
+    requires of { IsTrue (is_of files.now (checked_tree_of checked.now)) }
+    requires known { IsKnown files.now (checked_tree_of checked.now).steps store.now.source }
+    requires held { IsHeld held.now store.now.source }
+    ensures { IfOk result (λ made. (s : Settings)
+        → HoldsSource s files.now (checked_tree_of checked.now) held.now store.now.source
+        → IsStoredAt made (store.now.key, meant (usual_placing s) files.now (checked_tree_of checked.now) store.now.source)) }
+{
+    let key = store.key.copy(alloc)?;
+    let schema = schema_of(checked, files, store.source).copy(alloc)?;
+    let parts = held.parts_of(store.source).copy(alloc)?;
+    Ok(SpreadStore { key, schema, parts })
+}
+
+/// The columns of what a source stands for.
+fn schema_of<'a>(checked: &'a Checked, files: &'a Files, source: Source) -> &'a Schema
+    requires of { IsTrue (is_of files.now (checked_tree_of checked.now)) }
+    requires known { IsKnown files.now (checked_tree_of checked.now).steps source }
+    ensures { (s : Settings) → result.now
+        ≡ (meant (usual_placing s) files.now (checked_tree_of checked.now) source).relation.schema }
+{
+    match source {
+        Source::File(place) => files.get(place).1.schema(),
+        Source::Result(number) => {
+            let Some(step) = step_of(checked, number) else {
+                unreachable!()
+            };
+            &step.schema
+        }
+    }
+}

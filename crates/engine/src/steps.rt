@@ -1,0 +1,84 @@
+//! The steps of a script, one after another.
+ghost use Rattle.std.specs.Prelude.{◌≡◌, ◌*◌, ◌≤◌, ◌++◌, [], ◌∷◌, OnOk, length, vec_len};
+ghost use Rattle.algebra.specs.CheckedTrees.{step_tree_of, term_tree_of};
+ghost use Rattle.algebra.specs.Rewriting.{IsSameTerm};
+ghost use Rattle.placement.specs.Layouts.{together};
+ghost use Rattle.placement.specs.Plans.{plan_kind};
+ghost use Rattle.engine.specs.inner.Held.{IsRunnable};
+ghost use Rattle.engine.specs.inner.Steps.{IsStep};
+
+use crate::held::Held;
+use crate::joins::rows_in;
+use crate::noted::{Noted, append};
+use crate::terms::{RunStep, run_term};
+use algebra::{PlanKind, PlanNote, PlanNotes, Settings, Term};
+use join_plans::add_note;
+use rel_base::{Memory, RunFault, Spread};
+use rel_io::Tap;
+use std::alloc::Global;
+use std::sync::Wait;
+use std::thread::Threads;
+use term_runs::Moved;
+
+/// Runs a step over what is held, holds its result, and notes what it did. It may wait as long as its threads do.
+pub(crate) fn run_step<R: Threads + Wait + Sync, T: Tap + Send>(
+    rt: &R,
+    alloc: Global,
+    run: &RunStep<'_>,
+    settings: &Settings,
+    held: &mut Held,
+    noted: &mut Noted,
+    taps: &mut Vec<T>,
+) -> Result<(), RunFault>
+    requires runnable { IsRunnable settings.now.workers (length run.now.step.now.schema) held.old
+        (term_tree_of run.now.step.now.term) }
+    requires same { IsSameTerm (term_tree_of run.now.step.now.term) (term_tree_of run.now.pushed.now.term) }
+    requires taps { 2 * settings.now.workers ≤ vec_len taps.old }
+    ensures { IsStep settings.now (step_tree_of run.now.step.now) held.old held.new noted.old noted.new
+        T.totals T.tag taps.old.items taps.new.items result }
+{
+    let mut lines = PlanNotes::new(alloc);
+    let Moved {
+        parts,
+        traffic,
+        receipts,
+    } = run_term(rt, alloc, run, held, settings, &mut lines, taps)?;
+    add_note(
+        &mut noted.plan,
+        PlanNote::Statement {
+            number: run.step.statement,
+            kind: kind_of(&run.step.term),
+            rows: rows_in(&parts),
+        },
+    )?;
+    append(alloc, &mut noted.plan, lines)?;
+    append(alloc, &mut noted.traffic, traffic)?;
+    append(alloc, &mut noted.receipts, receipts)?;
+    hold(held, run.step.statement, parts)?;
+    Ok(())
+}
+
+/// Holds the result of a step.
+fn hold(held: &mut Held, statement: u32, parts: Spread) -> Result<(), Memory>
+    ensures files { held.new.files ≡ held.old.files }
+    ensures results { OnOk result (held.new.results ≡ held.old.results ++ (statement, parts) ∷ []) }
+{
+    if held.results.len() == u32::MAX {
+        return Err(Memory);
+    }
+    held.results.push((statement, parts))
+}
+
+/// The word of the plan for a term.
+fn kind_of(term: &Term) -> PlanKind
+    ensures { result ≡ plan_kind (term_tree_of term.now) }
+{
+    match term {
+        Term::Same(_) => PlanKind::Copy,
+        Term::Empty => PlanKind::Empty,
+        Term::UnionAll(_, _) => PlanKind::UnionAll,
+        Term::Diff(_, _) => PlanKind::Diff,
+        Term::Distinct(_) => PlanKind::Distinct,
+        Term::Join(_, _) | Term::Group(_, _, _) => PlanKind::From,
+    }
+}

@@ -1,0 +1,3 @@
+-- Laws of stages, and worked stages.
+pub mod StageLemmas
+pub mod WorkedRows

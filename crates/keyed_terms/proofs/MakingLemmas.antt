@@ -1,0 +1,91 @@
+-- Rows that are made worker by worker.
+use Rattle.std.proofs.Common.{◌≡◌, ℕ, zero, suc, ◌+◌, ◌*◌, ◌^◌, ◌<◌, ◌≤◌, Bool, true, false, List, [], ◌∷◌, ◌++◌, length, get_or, refl, sym, ap, ◌∙◌, subst, arith, length-append, ⊎_elim}
+use Rattle.std.specs.Prelude.{◌&&◌, sum_by}
+use Rattle.std.specs.List.{list_all, range_with_len}
+use Rattle.std.proofs.lemmas.Bool.{cases_lt}
+use Rattle.std.proofs.lemmas.List.{get_or_append_left, get_or_default}
+use Rattle.std.proofs.lemmas.List.{map-id}
+use Rattle.std.proofs.lemmas.List.FromFn.{map-range_with_len_more}
+use Rattle.std.proofs.lemmas.List.Concat.{length-flat_map}
+use Rattle.std.proofs.lemmas.List.Sums.{get_or-le-sum_by, sum_by-le}
+use Rattle.rel_base.specs.Bags.{SameBag}
+use Rattle.rel_base.specs.Limits.{most_workers}
+use Rattle.myrial_ast.specs.Combinations.{Rows}
+use Rattle.myrial_ast.specs.Groups.{Kinds}
+use Rattle.myrial_ast.specs.Partials.{partial_rows, merged}
+use Rattle.aggregate_ops.specs.Forms.{merged_fits}
+use Rattle.placement.specs.Layouts.{together, by_worker}
+use Rattle.keyed_terms.specs.inner.Making.{AreMadeBy}
+
+-- an item behind others
+pushed-at : {X : Type 0} (xs : List X) (x : X) (w : ℕ) (d : X) → w ≡ length xs → get_or (xs ++ x ∷ []) w d ≡ x
+pushed-at [] x w d at = ap (λ (j : ℕ). get_or (x ∷ []) j d) at
+pushed-at (y ∷ xs) x w d at = ap (λ (j : ℕ). get_or (y ∷ xs ++ x ∷ []) j d) at ∙ pushed-at xs x (length xs) d refl
+
+-- one worker more
+pub more-made : (w : ℕ) (f : ℕ → Rows) (made : List Rows) (rows : Rows) → AreMadeBy w f made → SameBag (f w) rows → AreMadeBy (w + 1) f (made ++ rows ∷ [])
+more-made w f made rows so here = record {
+  count = length-append made (rows ∷ []) ∙ (let e : length made + 1 ≡ w + 1 = omega (arith, so.count) in e);
+  rows_are = λ v below.
+      ⊎_elim
+      (λ (h : v < w). subst (λ (x : Rows). SameBag (f v) x) (sym (get_or_append_left made (rows ∷ []) [] v (omega (arith, h, so.count)))) (so.rows_are v h))
+      (λ (h : w ≤ v). let at : w ≡ v = omega (arith, h, below) in
+      subst (λ (x : Rows). SameBag (f v) x) (sym (pushed-at made rows v [] (omega (arith, at, so.count)))) (subst (λ (j : ℕ). SameBag (f j) rows) at here))
+      (cases_lt v w);
+}
+
+pub none-made : (f : ℕ → Rows) → AreMadeBy 0 f []
+none-made f = record { count = refl; rows_are = λ w below. absurd (omega (arith, below)) }
+
+-- the rows at a worker, whatever stands for those of others
+pub rows-at : (parts : List Rows) (w : ℕ) (d : Rows) → w < length parts → d ≡ get_or parts w d → d ≡ get_or parts w []
+rows-at parts w d below is = is ∙ get_or_default parts w d [] below
+
+-- a worker has no more rows than all together
+pub few-at : (parts : List Rows) (w : ℕ) → w < length parts → length (get_or parts w []) ≤ length (together parts)
+few-at parts w below = omega (arith, get_or-le-sum_by (λ (rows : Rows). length rows) parts w [] below, length-flat_map (λ (rows : Rows). rows) parts)
+
+-- numbers, one more
+pub more-numbers : (n : ℕ) → range_with_len 0 (n + 1) ≡ range_with_len 0 n ++ n ∷ []
+more-numbers n =
+    sym (map-id (range_with_len 0 (n + 1))) ∙ map-range_with_len_more (λ (k : ℕ). k) 0 n n (omega arith)
+    ∙ ap (λ (ks : List ℕ). ks ++ n ∷ []) (map-id (range_with_len 0 n))
+
+-- workers, one more
+pub more-workers : (f : ℕ → Rows) (w : ℕ) (made made' : List Rows) (rows : Rows) → made ≡ by_worker w f → rows ≡ f w → made' ≡ made ++ rows ∷ []
+    → made' ≡ by_worker (w + 1) f
+more-workers f w made made' rows so here is = is ∙ (λ i. so i ++ here i ∷ []) ∙ sym (map-range_with_len_more f 0 w w (omega arith))
+
+-- ---- partial rows
+
+-- the first workers' partial rows, of few rows each
+pub record ArePartialSoFar (kinds : Kinds) (w : ℕ) (listed made : List Rows) : Type 0 where
+  pub rows : AreMadeBy w (λ w. partial_rows kinds (get_or listed w [])) made
+  pub few : (v : ℕ) → v < w → length (get_or listed v []) < 2 ^ 32
+
+pub few-together : (parts : List Rows) → length parts ≤ most_workers → ((v : ℕ) → v < length parts → length (get_or parts v []) < 2 ^ 32) → length (together parts) < 2 ^ 63
+few-together parts workers few =
+    let each : sum_by (λ (rows : Rows). length rows) parts ≤ length parts * 4294967296 =
+    sum_by-le (λ (rows : Rows). length rows) 4294967296 parts
+    (λ k d below. subst (λ (rows : Rows). length rows ≤ 4294967296) (get_or_default parts k [] d below) (omega (arith, few k below))) in
+    omega (arith, length-flat_map (λ (rows : Rows). rows) parts, each, workers)
+
+-- ---- merged rows
+
+-- the first workers' groups, whose sums lie in 64 bits
+pub record AreMergedSoFar (kinds : Kinds) (w : ℕ) (partials made : List Rows) : Type 0 where
+  pub rows : AreMadeBy w (λ w. merged kinds (get_or partials w [])) made
+  pub fits : (v : ℕ) → v < w → merged_fits kinds (get_or partials v []) ≡ true
+
+pub all-fit : (p : Rows → Bool) (parts : List Rows) → ((v : ℕ) → v < length parts → p (get_or parts v []) ≡ true) → list_all p parts ≡ true
+all-fit p [] fits = refl
+all-fit p (rows ∷ parts) fits = (λ i. fits 0 (omega arith) i && list_all p parts) ∙ all-fit p parts (λ v below. fits (suc v) (omega (arith, below)))
+
+pub one-fails : (p : Rows → Bool) (parts : List Rows) (w : ℕ) → w < length parts → p (get_or parts w []) ≡ false → list_all p parts ≡ false
+one-fails p [] w below fails = absurd (omega (arith, below))
+one-fails p (rows ∷ parts) zero below fails = λ i. fails i && list_all p parts
+one-fails p (rows ∷ parts) (suc w) below fails = (λ i. p rows && one-fails p parts w (omega (arith, below)) fails i) ∙ by (p rows)
+  where
+    by : (b : Bool) → (b && false) ≡ false
+    by true = refl
+    by false = refl

@@ -1,0 +1,44 @@
+use Rattle.std.proofs.Common.{◌*◌, ◌≤◌, ◌==◌, ℕ, List, [], ◌∷◌, length, refl, sym, subst, arith}
+use Rattle.std.specs.Prelude.{filter}
+use Rattle.myrial_ast.specs.Bags.{difference}
+use Rattle.myrial_ast.specs.Combinations.{Row}
+use Rattle.algebra.specs.declared.notes.Exchange.TheVariants as exchange
+use Rattle.hash_partition.specs.Hashing.{home_of}
+use Rattle.placement.specs.Exchanges.{PlacedExchange, row_exchange}
+use Rattle.placement.specs.Layouts.{together}
+use Rattle.placement.specs.Moves.{sent, received}
+use Rattle.placement.specs.Plans.{usual_placing}
+use Rattle.placed_joins.specs.PlacedJoins.{placed_rows}
+use Rattle.term_runs.specs.Notes.{AreSeconds}
+use Rattle.keyed_terms.specs.KeyedTerms.{diff_parts}
+use Rattle.keyed_terms.proofs.BagLemmas.{difference-made}
+use Rattle.keyed_terms.proofs.ConcludeLemmas.{tables-made, concluded}
+use Rattle.keyed_terms.proofs.MeetLemmas.{met-added}
+use Rattle.keyed_terms.proofs.diffs.run_diff.Goals as goal
+
+pub returns : goal.returns
+returns g c =
+    let a = c.args in
+    let s = a.settings.now in
+    let left = a.operands.now.left.now in
+    let right = a.operands.now.right.now in
+    let totals = g.T.Tap.totals in
+    let tag = g.T.Tap.tag in
+    let home : Row → ℕ = λ row. home_of s.seed row s.workers in
+    let before = a.taps.now.items in
+    let middle = c.meet.new.taps.items in
+    let since = c.deref.result.now in
+    let met = c.in_ok-met.met in
+    let others = c.in_ok-met.others in
+    let made = c.in_ok-made.made in
+    let x = c.in_ok-met.ensures in
+    let room : 2 * s.workers ≤ length before = omega (arith, c.requires.taps, a.taps.now.ok.0) in
+    let read : AreSeconds totals s.workers before since =
+    subst (λ (since : List _). AreSeconds totals s.workers before since) (sym c.deref.ensures.value)
+    (subst (λ (taps : List _). AreSeconds totals s.workers taps c.in_ok-since.since.items) c.as_slice-2.ensures.value c.in_ok-since.ensures) in
+    let rows = difference-made s.workers (λ w row. home row == w) (together left) (together right) met others made x.ok.met_are x.ok.others_are c.in_ok-made.ensures in
+    let e : PlacedExchange = row_exchange (usual_placing s) exchange.Diff (placed_rows left ∷ placed_rows right ∷ []) (diff_parts s left right) in
+    concluded s a.statement (diff_parts s left right) e totals tag before middle c.conclude.new.taps.items (sent e.moves) (received e.moves)
+    since made c.in_ok-met.receipts room read (met-added s left right totals tag before middle x.ok.moved) (λ u below. refl) (λ w below. refl)
+    refl rows.count (tables-made s.workers (λ w. filter (λ row. home row == w) (difference (together left) (together right))) made rows)
+    x.ok.shown c.conclude.ensures.listed x.fair c.conclude.result c.conclude.ensures.ok

@@ -1,0 +1,63 @@
+-- The terms whose rows go to the homes of keys: their rows at each worker, and their exchanges.
+--
+--   AreOfWidth width parts          each row at each worker has so many columns
+--   distinct_parts, distinct_exchanges      each row once, at the home of all its columns
+--   diff_parts, diff_exchanges      each row of the one that the other doesn't have, once, there too
+--   group_parts, group_exchanges    the groups of listed rows, at the homes of their keys
+--   IsRefused fault                 memory may be refused at any time
+--   IsGroupFault kinds listed fault a sum of the groups lies outside 64 bits, or memory was refused
+use Rattle.std.specs.Prelude.{◌≡◌, ⊤, ℕ, ◌++◌, List, [], ◌∷◌, length, All, slice_index_or}
+use Rattle.rel_base.specs.declared.failure.Memory.{Memory}
+use Rattle.myrial_ast.specs.Bags.{distinct, difference}
+use Rattle.myrial_ast.specs.Combinations.{Rows}
+use Rattle.myrial_ast.specs.Groups.{Kinds, groups, sums_fit}
+use Rattle.algebra.specs.declared.notes.Exchange.TheVariants as exchange
+use Rattle.algebra.specs.declared.settings.Settings.{Settings}
+use Rattle.aggregate_ops.specs.Columns.{Overflows}
+use Rattle.aggregate_ops.specs.declared.faults.AggFault.{AggFault}
+use Rattle.placement.specs.Exchanges.{PlacedExchange, row_exchange, group_exchange}
+use Rattle.placement.specs.Layouts.{together, by_worker, parts_by_row, parts_by_key}
+use Rattle.placement.specs.Plans.{usual_placing}
+use Rattle.placed_joins.specs.PlacedJoins.{placed_rows}
+
+-- each row at each worker has so many columns
+abbrev pub AreOfWidth : ℕ → List Rows → Type 0
+AreOfWidth width parts = All (All (λ row. length row ≡ width)) parts
+
+-- each row once, at the home of all its columns
+abbrev pub distinct_parts : Settings → List Rows → List Rows
+distinct_parts s parts = parts_by_row (usual_placing s) (distinct (together parts))
+
+-- to which all rows go
+abbrev pub distinct_exchanges : Settings → List Rows → List PlacedExchange
+distinct_exchanges s parts =
+    row_exchange (usual_placing s) exchange.Distinct (placed_rows parts ∷ []) (distinct_parts s parts) ∷ []
+
+-- each row of the left one that the right one doesn't have, once, at the home of all its columns
+abbrev pub diff_parts : Settings → List Rows → List Rows → List Rows
+diff_parts s left right = parts_by_row (usual_placing s) (difference (together left) (together right))
+
+-- to which all rows of both go, in one exchange
+abbrev pub diff_exchanges : Settings → List Rows → List Rows → List PlacedExchange
+diff_exchanges s left right =
+    row_exchange (usual_placing s) exchange.Diff (placed_rows left ∷ placed_rows right ∷ []) (diff_parts s left right) ∷ []
+
+-- the groups of the rows that all workers listed, at the homes of their keys
+abbrev pub group_parts : Settings → Kinds → List Rows → List Rows
+group_parts s kinds listed = parts_by_key (usual_placing s) kinds (groups kinds (together listed))
+
+-- to which the partial rows of what each worker listed go
+abbrev pub group_exchanges : Settings → Kinds → List Rows → List PlacedExchange
+group_exchanges s kinds listed = group_exchange (usual_placing s) kinds listed (group_parts s kinds listed) ∷ []
+
+-- at each worker the rows of both
+abbrev pub both_parts : List Rows → List Rows → List Rows
+both_parts left right = by_worker (length left) (λ w. slice_index_or left w [] ++ slice_index_or right w [])
+
+-- memory may be refused at any time
+abbrev pub IsRefused : Memory → Type 0
+IsRefused fault = ⊤
+
+-- a sum of the groups lies outside 64 bits; memory may be refused at any time
+abbrev pub IsGroupFault : Kinds → List Rows → AggFault → Type 0
+IsGroupFault kinds listed fault = Overflows fault (sums_fit kinds (together listed))

@@ -1,0 +1,108 @@
+//! `diff` at workers.
+ghost use Rattle.std.specs.Prelude.{◌≡◌, ◌*◌, ◌≤◌, [], ◌∷◌, length, All, IfOk, vec_len};
+ghost use Rattle.std.specs.List.{range_with_len};
+ghost use Rattle.row_exchange.specs.Exchanges.{AreLow};
+ghost use Rattle.worker_joins.specs.Listings.{IsLow};
+ghost use Rattle.term_runs.specs.TermRuns.{IsTermRun};
+ghost use Rattle.keyed_terms.specs.KeyedTerms.{AreOfWidth, diff_parts, diff_exchanges, IsRefused};
+ghost use Rattle.keyed_terms.specs.inner.Meeting.{IsMeeting};
+
+use crate::columns::all_columns;
+use crate::concluding::conclude;
+use crate::making::difference_each;
+use algebra::{Exchange, Settings};
+use exchange_channels::{Receipt, Receipts};
+use regular_shuffle::spread_by_key;
+use rel_base::{Memory, Places, Spread};
+use rel_io::Tap;
+use std::alloc::Global;
+use std::sync::Wait;
+use std::thread::Threads;
+use term_runs::{Moved, have_room, seconds_of};
+
+/// The operands of a `diff`: a list of rows for each worker, each of which has `width` columns.
+#[derive(Clone, Copy)]
+pub struct Operands<'a> {
+    pub left: &'a Spread,
+    pub right: &'a Spread,
+    pub width: u32,
+}
+
+/// Each row of the left operand that the right one doesn't have, once: all rows of both go to the homes of all their columns,
+/// in one exchange with a receipt for each operand. It may wait as long as the threads of its exchange do.
+pub fn run_diff<R: Threads + Wait + Sync, T: Tap + Send>(
+    rt: &R,
+    alloc: Global,
+    statement: u32,
+    operands: &Operands<'_>,
+    settings: &Settings,
+    taps: &mut Vec<T>,
+) -> Result<Moved, Memory>
+    requires left { length operands.now.left.now ≡ settings.now.workers }
+    requires right { length operands.now.right.now ≡ settings.now.workers }
+    requires left_width { AreOfWidth operands.now.width operands.now.left.now }
+    requires right_width { AreOfWidth operands.now.width operands.now.right.now }
+    requires taps { 2 * settings.now.workers ≤ vec_len taps.old }
+    ensures { let left = operands.now.left.now in
+        let right = operands.now.right.now in
+        IsTermRun settings.now statement (diff_parts settings.now left right)
+        (diff_exchanges settings.now left right) T.totals T.tag IsRefused
+        taps.old.items taps.new.items result }
+{
+    if !have_room(taps.as_slice()) {
+        return Err(Memory);
+    }
+    let since = seconds_of(alloc, taps.as_slice(), settings.workers)?;
+    let columns = all_columns(alloc, operands.width)?;
+    let (met, others, receipts) = meet(rt, alloc, operands, &columns, settings, taps)?;
+    let made = difference_each(alloc, &met, &others)?;
+    conclude(
+        alloc,
+        statement,
+        Exchange::Diff,
+        &since,
+        made,
+        receipts,
+        taps,
+    )
+}
+
+/// Brings the rows of both operands to the homes of all their columns. Between the two the taps are asked again whether there is
+/// room in their sums.
+fn meet<R: Threads + Wait + Sync, T: Tap + Send>(
+    rt: &R,
+    alloc: Global,
+    operands: &Operands<'_>,
+    columns: &Places,
+    settings: &Settings,
+    taps: &mut Vec<T>,
+) -> Result<(Spread, Spread, Receipts), Memory>
+    requires left { length operands.now.left.now ≡ settings.now.workers }
+    requires right { length operands.now.right.now ≡ settings.now.workers }
+    requires left_width { AreOfWidth operands.now.width operands.now.left.now }
+    requires right_width { AreOfWidth operands.now.width operands.now.right.now }
+    requires columns { columns.now ≡ range_with_len 0 operands.now.width }
+    requires taps { 2 * settings.now.workers ≤ vec_len taps.old }
+    requires low { All (λ t. AreLow (T.totals t)) taps.old.items }
+    requires unlisted { All (λ t. IsLow (T.totals t)) taps.old.items }
+    ensures { IsMeeting settings.now operands.now.left.now operands.now.right.now T.totals T.tag
+        taps.old.items taps.new.items result }
+{
+    let (met, first) = spread_by_key(rt, alloc, operands.left, columns, settings, taps)?;
+    if !have_room(taps.as_slice()) {
+        return Err(Memory);
+    }
+    let (others, second) = spread_by_key(rt, alloc, operands.right, columns, settings, taps)?;
+    let receipts = two_receipts(alloc, first, second)?;
+    Ok((met, others, receipts))
+}
+
+/// The receipts of an exchange that has two.
+fn two_receipts(alloc: Global, first: Receipt, second: Receipt) -> Result<Receipts, Memory>
+    ensures { IfOk result (λ made. made ≡ first ∷ second ∷ []) }
+{
+    let mut made = Receipts::with_capacity(alloc, 2)?;
+    made.push(first)?;
+    made.push(second)?;
+    Ok(made)
+}

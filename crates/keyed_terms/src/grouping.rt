@@ -1,0 +1,65 @@
+//! Groups at workers.
+ghost use Rattle.std.specs.Prelude.{◌≡◌, ◌*◌, ◌≤◌, true, length, map, All, OnOk, vec_len};
+ghost use Rattle.myrial_ast.specs.Groups.{sums_fit};
+ghost use Rattle.bag_laws.specs.PartialLaws.{AreGrouped};
+ghost use Rattle.algebra.specs.Trees.{kind_of_emit};
+ghost use Rattle.placement.specs.Layouts.{together};
+ghost use Rattle.term_runs.specs.TermRuns.{IsTermRun};
+ghost use Rattle.keyed_terms.specs.KeyedTerms.{group_parts, group_exchanges, IsGroupFault};
+
+use crate::concluding::conclude;
+use crate::distincts::one_receipt;
+use crate::making::{merge_each, partial_each};
+use aggregate_ops::{AggFault, partial_keys};
+use algebra::{EmitKinds, Exchange, Settings};
+use regular_shuffle::spread_by_key;
+use rel_base::Spread;
+use rel_io::Tap;
+use std::alloc::Global;
+use std::sync::Wait;
+use std::thread::Threads;
+use term_runs::{Moved, have_room, seconds_of};
+
+/// A row for each group of the listed rows: each worker forms a partial row for each of its groups, these go to the homes of
+/// their keys, and are merged there. It may wait as long as the threads of its exchange do.
+///
+/// `listed` holds a list of rows for each worker. No listed row is sent.
+pub fn run_group<R: Threads + Wait + Sync, T: Tap + Send>(
+    rt: &R,
+    alloc: Global,
+    statement: u32,
+    listed: &Spread,
+    kinds: &EmitKinds,
+    settings: &Settings,
+    taps: &mut Vec<T>,
+) -> Result<Moved, AggFault>
+    requires workers { length listed.now ≡ settings.now.workers }
+    requires grouped { All (AreGrouped (map kind_of_emit kinds.now)) listed.now }
+    requires taps { 2 * settings.now.workers ≤ vec_len taps.old }
+    ensures run { let kinds = map kind_of_emit kinds.now in
+        IsTermRun settings.now statement (group_parts settings.now kinds listed.now)
+        (group_exchanges settings.now kinds listed.now) T.totals T.tag
+        (IsGroupFault kinds listed.now) taps.old.items taps.new.items result }
+    ensures fits { OnOk result
+        (sums_fit (map kind_of_emit kinds.now) (together listed.now) ≡ true) }
+{
+    if !have_room(taps.as_slice()) {
+        return Err(AggFault::Memory);
+    }
+    let since = seconds_of(alloc, taps.as_slice(), settings.workers)?;
+    let keys = partial_keys(alloc, kinds)?;
+    let partials = partial_each(alloc, listed, kinds)?;
+    let (met, receipt) = spread_by_key(rt, alloc, &partials, &keys, settings, taps)?;
+    let made = merge_each(alloc, &met, kinds)?;
+    let receipts = one_receipt(alloc, receipt)?;
+    let moved = conclude(
+        alloc,
+        statement,
+        Exchange::Group,
+        &since,
+        made,
+        receipts,
+        taps,
+    )?;
+    Ok(moved)
+}

@@ -1,0 +1,9 @@
+use Rattle.std.proofs.Common.{◌≡◌, ◌<◌, ◌^◌, take, length, All}
+use Rattle.placement.specs.Exchanges.{row_counts}
+use Rattle.regular_shuffle.proofs.counting.row_counts.Given as goal
+
+abbrev pub invariant-loop-rows : goal.invariant-loop-rows
+invariant-loop-rows l = record {
+  counts : l.counts ≡ row_counts (take l.rows-index l.rows-items);
+  few : All (λ count. count < 2 ^ 32) l.counts;
+}

@@ -1,0 +1,127 @@
+-- The lines of a plan are of the numbers of rows alone.
+use Rattle.std.proofs.Common.{◌≡◌, ℕ, suc, ◌+◌, Bool, List, [], ◌∷◌, ◌++◌, map, length, refl, sym, ◌∙◌, ap}
+use Rattle.std.specs.Prelude.{All, find, unwrap_or}
+use Rattle.std.specs.List.{enumerate_from, range_with_len}
+use Rattle.std.proofs.lemmas.List.Elements.{All-head, All-tail}
+use Rattle.std.proofs.lemmas.List.Sorted.{length_permutation}
+use Rattle.myrial_ast.specs.Combinations.{Row, Rows}
+use Rattle.myrial_ast.specs.KeptRows.{passes_within, span_of_item, put_at}
+use Rattle.bag_laws.specs.Permuted.{SameTables, no_table, a_table}
+use Rattle.bag_laws.proofs.RowPermutations.{filter_rows-same}
+use Rattle.share_chooser.specs.Best.{best_shares}
+use Rattle.share_chooser.specs.Load.{product, load_of}
+use Rattle.algebra.specs.declared.notes.PlanNote.{PlanNote}
+use Rattle.algebra.specs.declared.notes.PlanNote.TheVariants as note
+use Rattle.algebra.specs.declared.settings.JoinKind.{JoinKind}
+use Rattle.algebra.specs.declared.settings.Settings.{Settings}
+use Rattle.algebra.specs.declared.settings.ShuffleKind.{ShuffleKind}
+use Rattle.algebra.specs.declared.settings.ShuffleKind.TheVariants as shuffle_kind
+use Rattle.algebra.specs.declared.terms.Source.{Source}
+use Rattle.algebra.specs.Trees.{Shape, TermTree, Same, Empty, UnionAll, Diff, Distinct, Join, Group}
+use Rattle.algebra.specs.Shapes.{widths_of, tests_of, ties_of, kept_of}
+use Rattle.algebra.specs.Meanings.{sources_of}
+use Rattle.placement.specs.Layouts.{PlacedRelation, Shuffle, ByCells, ByKeys, Broadcast, rows_of, is_most, staying_atom}
+use Rattle.placement.specs.Laws.{IsSamePlaced}
+use Rattle.placement.specs.Plans.{uses_of, pushed_of, usual_shuffle, usual_placing, item_notes, variable_notes, shuffle_note, join_notes, group_note, term_notes}
+use Rattle.run_laws.specs.Scripts.{NotesAreOfBags}
+
+module _ (shape : Shape) where
+  kept-many : (i : ℕ) (rows others : Rows) → SameTables (rows ∷ []) (others ∷ []) → length (kept_of shape i rows)
+      ≡ length (kept_of shape i others)
+  kept-many i _ _ (a_table rows others tables rest h hs) =
+      let span = span_of_item (widths_of shape) i in
+      let passes : Row → Bool = λ row. passes_within (tests_of shape) (ties_of shape) span (put_at span.from row) in
+      sym (length_permutation (kept_of shape i rows) (kept_of shape i others) (filter_rows-same passes rows others h))
+
+  sizes-same : (i : ℕ) (ts us : List Rows) → SameTables ts us
+      → map (λ (e : ℕ × Rows). length (kept_of shape e.0 e.1)) (enumerate_from i ts)
+      ≡ map (λ (e : ℕ × Rows). length (kept_of shape e.0 e.1)) (enumerate_from i us)
+  sizes-same i _ _ no_table = refl
+  sizes-same i _ _ (a_table rows others tables rest h hs) =
+      let here = kept-many i rows others (a_table rows others [] [] h no_table) in
+      let later = sizes-same (i + 1) tables rest hs in
+      λ t. here t ∷ later t
+
+  notes-same : (i : ℕ) (ts us : List Rows) → SameTables ts us
+      → map (λ (e : ℕ × Rows). note.Item (suc e.0) (length e.1) (pushed_of shape e.0) (length (kept_of shape e.0 e.1)))
+      (enumerate_from i ts)
+      ≡ map (λ (e : ℕ × Rows). note.Item (suc e.0) (length e.1) (pushed_of shape e.0) (length (kept_of shape e.0 e.1)))
+      (enumerate_from i us)
+  notes-same i _ _ no_table = refl
+  notes-same i _ _ (a_table rows others tables rest h hs) =
+      let here = kept-many i rows others (a_table rows others [] [] h no_table) in
+      let many = sym (length_permutation rows others h) in
+      let later = notes-same (i + 1) tables rest hs in
+      λ t. note.Item (suc i) (many t) (pushed_of shape i) (here t) ∷ later t
+
+  long-same : (ts us : List Rows) → SameTables ts us → length ts ≡ length us
+  long-same _ _ no_table = refl
+  long-same _ _ (a_table rows others tables rest h hs) = ap suc (long-same tables rest hs)
+
+  stays-same : (ts us : List Rows) → SameTables ts us → staying_atom shape ts ≡ staying_atom shape us
+  stays-same ts us h =
+      let sizes = sizes-same 0 ts us h in
+      let long = long-same ts us h in
+      λ t. unwrap_or (find (is_most (sizes t)) (range_with_len 0 (long t))) 0
+
+  shuffle-same : (kind : ShuffleKind) (n : ℕ) (ts us : List Rows) → SameTables ts us → usual_shuffle kind n shape ts
+      ≡ usual_shuffle kind n shape us
+  shuffle-same shuffle_kind.Hc n ts us h =
+      ap (λ sizes. ByCells (best_shares (uses_of shape) sizes (length shape.variables) n)) (sizes-same 0 ts us h)
+  shuffle-same shuffle_kind.Rs n ts us h = refl
+  shuffle-same shuffle_kind.Br n ts us h = refl
+
+  note-same : (shuffle : Shuffle) (local : JoinKind) (ts us : List Rows) → SameTables ts us → shuffle_note shuffle local shape ts
+      ≡ shuffle_note shuffle local shape us
+  note-same (ByCells shares) local ts us h =
+      ap (λ sizes. note.Hc local (product shares) (load_of (uses_of shape) sizes shares).num
+      (load_of (uses_of shape) sizes shares).den) (sizes-same 0 ts us h)
+  note-same ByKeys local ts us h = refl
+  note-same Broadcast local ts us h = ap (λ j. note.Br local (suc j)) (stays-same ts us h)
+
+  -- the lines of a join of several items
+  several : (kind : ShuffleKind) (n : ℕ) (local : JoinKind) → List Rows → List PlanNote
+  several kind n local ts =
+      item_notes shape ts ++ variable_notes (usual_shuffle kind n shape ts) shape ++ shuffle_note
+      (usual_shuffle kind n shape ts) local shape ts ∷ []
+
+  several-same : (kind : ShuffleKind) (n : ℕ) (local : JoinKind) (ts us : List Rows) → SameTables ts us → several kind n local ts
+      ≡ several kind n local us
+  unfolding several
+  several-same kind n local ts us h =
+      let items = notes-same 0 ts us h in
+      let how = shuffle-same kind n ts us h in
+      let own = note-same (usual_shuffle kind n shape ts) local ts us h ∙ ap (λ shuffle. shuffle_note shuffle local shape us) how in
+      λ t. items t ++ variable_notes (how t) shape ++ own t ∷ []
+
+module _ (s : Settings) (local : JoinKind) (number : ℕ) (v w : Source → PlacedRelation) where
+  tables-of : (sources : List Source) → All (λ o. IsSamePlaced (v o) (w o)) sources
+      → SameTables (rows_of (map v sources)) (rows_of (map w sources))
+  tables-of [] same = no_table
+  tables-of (o ∷ sources) same =
+      a_table (v o).relation.rows (w o).relation.rows (rows_of (map v sources)) (rows_of (map w sources))
+      (All-head (λ o. IsSamePlaced (v o) (w o)) o sources same).rows
+      (tables-of sources (All-tail (λ o. IsSamePlaced (v o) (w o)) o sources same))
+
+  join-same : (shape : Shape) (sources : List Source) → All (λ o. IsSamePlaced (v o) (w o)) sources
+      → join_notes (usual_placing s) local number shape (map v sources)
+      ≡ join_notes (usual_placing s) local number shape (map w sources)
+  unfolding several
+  join-same shape [] same = refl
+  join-same shape (o ∷ []) same = notes-same shape 0 (rows_of (map v (o ∷ []))) (rows_of (map w (o ∷ []))) (tables-of (o ∷ []) same)
+  join-same shape (o ∷ q ∷ more) same =
+      several-same shape s.shuffle s.workers local (rows_of (map v (o ∷ q ∷ more))) (rows_of (map w (o ∷ q ∷ more)))
+      (tables-of (o ∷ q ∷ more) same)
+
+  term-same : (t : TermTree) → All (λ o. IsSamePlaced (v o) (w o)) (sources_of t)
+      → term_notes (usual_placing s) local number v t ≡ term_notes (usual_placing s) local number w t
+  term-same (Same o) same = refl
+  term-same Empty same = refl
+  term-same (UnionAll o q) same = refl
+  term-same (Diff o q) same = refl
+  term-same (Distinct o) same = refl
+  term-same (Join shape sources) same = join-same shape sources same
+  term-same (Group shape sources kinds) same = ap (λ notes. notes ++ group_note kinds ∷ []) (join-same shape sources same)
+
+pub notes_are_of_bags : NotesAreOfBags
+notes_are_of_bags s local number v w t same = term-same s local number v w t same

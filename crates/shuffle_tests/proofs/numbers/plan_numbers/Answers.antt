@@ -1,8 +1,0 @@
-use Rattle.algebra.specs.ShapeTrees.{shape_tree_of}
-use Rattle.shuffle_tests.proofs.NumberLemmas.{numbers-ready}
-use Rattle.shuffle_tests.proofs.numbers.plan_numbers.Goals as goal
-
-pub plan_join-requires : goal.plan_join-requires
-plan_join-requires c =
-    numbers-ready (shape_tree_of c.in_ok-shape.shape) c.args.settings.now.workers c.in_ok-parts.parts c.in_ok-shape.ensures
-    c.in_ok-parts.ensures.two c.in_ok-parts.ensures.all

@@ -1,0 +1,7 @@
+use Rattle.std.proofs.Common.{refl}
+use Rattle.trial_gen.specs.TrialScript.{trial_script}
+use Rattle.trial_gen.proofs.script.trial_is_as_defined.Goals as goal
+
+pub returns-clause-script : goal.returns-clause-script
+unfolding trial_script
+returns-clause-script c = refl

@@ -1,0 +1,3 @@
+-- The words of this crate.
+pub mod Trials
+pub mod TrialScript
