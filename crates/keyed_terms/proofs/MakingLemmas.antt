@@ -1,9 +1,9 @@
 -- Rows that are made worker by worker.
-use Rattle.std.proofs.Common.{◌≡◌, ℕ, zero, suc, ◌+◌, ◌*◌, ◌^◌, ◌<◌, ◌≤◌, Bool, true, false, List, [], ◌∷◌, ◌++◌, length, get_or, refl, sym, ap, ◌∙◌, subst, arith, length-append, ⊎_elim}
-use Rattle.std.specs.Prelude.{◌&&◌, sum_by}
+use Rattle.std.proofs.Common.{◌≡◌, ℕ, zero, suc, ◌+◌, ◌*◌, ◌^◌, ◌<◌, ◌≤◌, Bool, true, false, List, [], ◌∷◌, ◌++◌, length, map, get_or, Result, Ok, refl, sym, ap, ◌∙◌, subst, arith, length-append, ⊎_elim}
+use Rattle.std.specs.Prelude.{◌&&◌, sum_by, IfOk}
 use Rattle.std.specs.List.{list_all, range_with_len}
 use Rattle.std.proofs.lemmas.Bool.{cases_lt}
-use Rattle.std.proofs.lemmas.List.{get_or_append_left, get_or_default}
+use Rattle.std.proofs.lemmas.List.{get_or_append_left, get_or_default, get_or-map, length-map}
 use Rattle.std.proofs.lemmas.List.{map-id}
 use Rattle.std.proofs.lemmas.List.FromFn.{map-range_with_len_more}
 use Rattle.std.proofs.lemmas.List.Concat.{length-flat_map}
@@ -56,12 +56,21 @@ pub more-workers : (f : ℕ → Rows) (w : ℕ) (made made' : List Rows) (rows :
     → made' ≡ by_worker (w + 1) f
 more-workers f w made made' rows so here is = is ∙ (λ i. so i ++ here i ∷ []) ∙ sym (map-range_with_len_more f 0 w w (omega arith))
 
--- ---- partial rows
+-- what was made at each worker, taken together
+pub gathered-made : {E : Type 0} (n : ℕ) (f : ℕ → Rows) (all : List (Result Rows E)) (made : List Rows) → length all ≡ n
+    → ((w : ℕ) (d : Result Rows E) → w < n → IfOk (get_or all w d) (SameBag (f w))) → map Ok made ≡ all → AreMadeBy n f made
+gathered-made n f all made long each is = record {
+  count = count;
+  rows_are = λ w below.
+      subst (λ r. IfOk r (SameBag (f w)))
+      (sym (ap (λ (l : List (Result Rows _)). get_or l w (Ok [])) is) ∙ get_or-map Ok made w [] (Ok []) (omega (arith, below, count)))
+      (each w (Ok []) below);
+}
+  where
+    count : length made ≡ n
+    count = sym (length-map made Ok) ∙ ap length is ∙ long
 
--- the first workers' partial rows, of few rows each
-pub record ArePartialSoFar (kinds : Kinds) (w : ℕ) (listed made : List Rows) : Type 0 where
-  pub rows : AreMadeBy w (λ w. partial_rows kinds (get_or listed w [])) made
-  pub few : (v : ℕ) → v < w → length (get_or listed v []) < 2 ^ 32
+-- ---- partial rows
 
 pub few-together : (parts : List Rows) → length parts ≤ most_workers → ((v : ℕ) → v < length parts → length (get_or parts v []) < 2 ^ 32) → length (together parts) < 2 ^ 63
 few-together parts workers few =
@@ -71,11 +80,6 @@ few-together parts workers few =
     omega (arith, length-flat_map (λ (rows : Rows). rows) parts, each, workers)
 
 -- ---- merged rows
-
--- the first workers' groups, whose sums lie in 64 bits
-pub record AreMergedSoFar (kinds : Kinds) (w : ℕ) (partials made : List Rows) : Type 0 where
-  pub rows : AreMadeBy w (λ w. merged kinds (get_or partials w [])) made
-  pub fits : (v : ℕ) → v < w → merged_fits kinds (get_or partials v []) ≡ true
 
 pub all-fit : (p : Rows → Bool) (parts : List Rows) → ((v : ℕ) → v < length parts → p (get_or parts v []) ≡ true) → list_all p parts ≡ true
 all-fit p [] fits = refl

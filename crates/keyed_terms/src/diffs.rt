@@ -55,7 +55,7 @@ pub fn run_diff<R: Threads + Wait + Sync, T: Tap + Send>(
     let since = seconds_of(alloc, taps.as_slice(), settings.workers)?;
     let columns = all_columns(alloc, operands.width)?;
     let (met, others, receipts) = meet(rt, alloc, operands, &columns, settings, taps)?;
-    let made = difference_each(alloc, &met, &others)?;
+    let made = difference_each(rt, alloc, &met, &others)?;
     conclude(
         alloc,
         statement,

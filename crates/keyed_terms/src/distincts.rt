@@ -42,7 +42,7 @@ pub fn run_distinct<R: Threads + Wait + Sync, T: Tap + Send>(
     let since = seconds_of(alloc, taps.as_slice(), settings.workers)?;
     let columns = all_columns(alloc, width)?;
     let (met, receipt) = spread_by_key(rt, alloc, parts, &columns, settings, taps)?;
-    let made = distinct_each(alloc, &met)?;
+    let made = distinct_each(rt, alloc, &met)?;
     let receipts = one_receipt(alloc, receipt)?;
     conclude(
         alloc,

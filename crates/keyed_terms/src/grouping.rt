@@ -48,9 +48,9 @@ pub fn run_group<R: Threads + Wait + Sync, T: Tap + Send>(
     }
     let since = seconds_of(alloc, taps.as_slice(), settings.workers)?;
     let keys = partial_keys(alloc, kinds)?;
-    let partials = partial_each(alloc, listed, kinds)?;
+    let partials = partial_each(rt, alloc, listed, kinds)?;
     let (met, receipt) = spread_by_key(rt, alloc, &partials, &keys, settings, taps)?;
-    let made = merge_each(alloc, &met, kinds)?;
+    let made = merge_each(rt, alloc, &met, kinds)?;
     let receipts = one_receipt(alloc, receipt)?;
     let moved = conclude(
         alloc,

@@ -15,6 +15,7 @@ mod columns;
 mod concluding;
 mod diffs;
 mod distincts;
+mod gathering;
 mod grouping;
 mod making;
 mod unions;
