@@ -17,6 +17,6 @@ returns g c =
     let same = ap length c.as_slice-workers.ensures.value in
     let long : length all ≡ length parts = omega (arith, c.in_ok-all.ensures.len, c.in_ok-all.all.ok.0, same) in
     let each : (w : ℕ) (d : Result Rows Memory) → w < length parts → IfOk (get_or all w d) (SameBag (made w)) =
-        λ w d below. let h = (c.in_ok-all.ensures.each w d (omega (arith, below, same))).1.met in subst (λ (parts : List Rows). IfOk (get_or all w d) (SameBag (distinct (get_or parts w [])))) c.as_slice-workers.ensures.value h in
+    λ w d below. let h = (c.in_ok-all.ensures.each w d (omega (arith, below, same))).1.met in subst (λ (parts : List Rows). IfOk (get_or all w d) (SameBag (distinct (get_or parts w [])))) c.as_slice-workers.ensures.value h in
     IfOk-weaker c.gather.result (λ rows. map Ok rows ≡ all) (AreMadeBy (length parts) made)
     (λ rows is. gathered-made (length parts) made all rows long each is) c.gather.ensures
