@@ -20,8 +20,9 @@ use std::sync::Wait;
 use std::thread::Threads;
 use term_runs::{Moved, have_room, seconds_of};
 
-/// A row for each group of the listed rows: each worker forms a partial row for each of its groups, these go to the homes of
-/// their keys, and are merged there. It may wait as long as the threads of its exchange do.
+/// A row for each group of the listed rows: each worker forms a partial row for each of its groups,
+/// these go to the homes of their keys, and are merged there. It may wait as long as the threads of
+/// its exchange do.
 ///
 /// `listed` holds a list of rows for each worker. No listed row is sent.
 pub fn run_group<R: Threads + Wait + Sync, T: Tap + Send>(

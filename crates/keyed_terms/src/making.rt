@@ -59,7 +59,8 @@ pub(crate) fn difference_each<R: Threads + Sync>(
     gather(alloc, all)
 }
 
-/// At each worker a partial row for each of its groups. So few rows are listed that every count of them fits.
+/// At each worker a partial row for each of its groups. So few rows are listed that every count of
+/// them fits.
 pub(crate) fn partial_each<R: Threads + Sync>(
     rt: &R,
     alloc: Global,
@@ -74,7 +75,8 @@ pub(crate) fn partial_each<R: Threads + Sync>(
 {
     let workers = listed.as_slice();
     let at = |worker: usize| -> Result<Rows, Memory>
-        requires { (worker < length workers.now) × All (AreGrouped (map kind_of_emit kinds.now)) workers.now }
+        requires { (worker < length workers.now)
+            × All (AreGrouped (map kind_of_emit kinds.now)) workers.now }
         ensures { IfOk result (SameBag (partial_rows (map kind_of_emit kinds.entry.now)
             (slice_index_or workers.entry.now worker [])))
             × (length (slice_index_or workers.entry.now worker []) < 2 ^ 32) }

@@ -1,16 +1,12 @@
-use Rattle.std.proofs.Common.{◌≡◌, ◌<◌, ◌^◌, true, ℕ, List, [], length, map, get_or, Result, Ok, ap, subst, arith}
-use Rattle.std.specs.Prelude.{IfOk}
+use Rattle.std.proofs.Common.{◌≡◌, ◌<◌, true, ℕ, List, [], length, map, get_or, Result, Ok, ap, subst, arith}
 use Rattle.std.specs.List.{list_all}
 use Rattle.std.proofs.lemmas.Result.{IfOk-weaker, IfErr-weaker}
-use Rattle.rel_base.specs.Bags.{SameBag}
-use Rattle.rel_base.specs.declared.failure.Memory.{Memory}
-use Rattle.myrial_ast.specs.Partials.{partial_rows, merged}
+use Rattle.myrial_ast.specs.Partials.{merged}
 use Rattle.myrial_ast.specs.Combinations.{Rows}
 use Rattle.algebra.specs.Trees.{kind_of_emit}
 use Rattle.aggregate_ops.specs.Columns.{Overflows}
 use Rattle.aggregate_ops.specs.Forms.{merged_fits}
 use Rattle.aggregate_ops.specs.declared.faults.AggFault.{AggFault}
-use Rattle.placement.specs.Layouts.{together}
 use Rattle.keyed_terms.specs.inner.Making.{AreMadeBy, IsMerged, IsFaultOf}
 use Rattle.keyed_terms.proofs.MakingLemmas.{gathered-made, merged-ok, gathered-fits, gathered-fault}
 use Rattle.keyed_terms.proofs.making.merge_each.Goals as goal

@@ -1,17 +1,13 @@
-use Rattle.std.proofs.Common.{◌≡◌, ◌<◌, ◌^◌, true, ℕ, List, [], length, map, get_or, Result, Ok, ap, subst, arith}
+use Rattle.std.proofs.Common.{◌≡◌, ◌<◌, ◌^◌, ℕ, List, [], length, map, get_or, Result, Ok, ap, subst, arith}
 use Rattle.std.specs.Prelude.{IfOk}
-use Rattle.std.specs.List.{list_all}
-use Rattle.std.proofs.lemmas.Result.{IfOk-weaker, IfErr-weaker}
+use Rattle.std.proofs.lemmas.Result.{IfOk-weaker}
 use Rattle.rel_base.specs.Bags.{SameBag}
 use Rattle.rel_base.specs.declared.failure.Memory.{Memory}
-use Rattle.myrial_ast.specs.Partials.{partial_rows, merged}
+use Rattle.myrial_ast.specs.Partials.{partial_rows}
 use Rattle.myrial_ast.specs.Combinations.{Rows}
 use Rattle.algebra.specs.Trees.{kind_of_emit}
-use Rattle.aggregate_ops.specs.Columns.{Overflows}
-use Rattle.aggregate_ops.specs.Forms.{merged_fits}
-use Rattle.aggregate_ops.specs.declared.faults.AggFault.{AggFault}
 use Rattle.placement.specs.Layouts.{together}
-use Rattle.keyed_terms.specs.inner.Making.{AreMadeBy, IsMerged, IsFaultOf}
+use Rattle.keyed_terms.specs.inner.Making.{AreMadeBy}
 use Rattle.keyed_terms.proofs.MakingLemmas.{gathered-made, few-together}
 use Rattle.keyed_terms.proofs.making.partial_each.Goals as goal
 
