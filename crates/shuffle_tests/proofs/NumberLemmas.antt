@@ -12,11 +12,6 @@ use Rattle.algebra.specs.Joins.{IsPart, agrees_in}
 use Rattle.algebra.proofs.ShapeLemmas.{tie-holds}
 use Rattle.row_exchange.specs.Routes.{rows_at}
 use Rattle.worker_joins.specs.RouteJoins.{ArePartsAtWorkers}
-use Rattle.std.specs.Cmp.Lexicographic.{pointwise}
-use Rattle.std.proofs.lemmas.List.Elements.{All-weaker}
-use Rattle.rel_base.specs.Relations.{type_of, same_type}
-use Rattle.placement.proofs.WidthLemmas.{pointwise-length}
-use Rattle.keyed_terms.specs.KeyedTerms.{AreOfWidth}
 use Rattle.shuffle_tests.specs.inner.Numbers.{number_kinds, number_atom, JoinsNumbers, AreNumbers}
 
 abbrev of_numbers : List Scalar → List Scalar → List Scalar → Shape
@@ -47,10 +42,3 @@ numbers-ready shape n parts is two all =
 
     each : (j u : ℕ) → j < length parts → u < n → IsPart (of_numbers shape.plain shape.arith shape.emits) j (rows_at parts j u)
     each j u one here = part j u (omega (arith, one, two)) (typed j u one here)
-
--- each number is a row of one column
-pub numbers-wide : (spread : List Rows) → All (HasKinds number_kinds) spread → AreOfWidth 1 spread
-numbers-wide spread all =
-    All-weaker (HasKinds number_kinds) (All (λ (row : Row). length row ≡ 1))
-    (λ rows each. All-weaker (λ (row : Row). IsTrue (pointwise (λ k v. same_type k (type_of v)) number_kinds row)) (λ (row : Row). length row ≡ 1)
-    (λ row typed. sym (pointwise-length (λ k v. same_type k (type_of v)) number_kinds row typed)) rows each) spread all

@@ -1,4 +1,4 @@
-//! Tests of the joins and terms between workers, over numbers that are dealt to the workers in turn.
+//! Tests of the joins between workers, over numbers that are dealt to the workers in turn.
 //!
 //! They stand in a crate of their own, above the shuffles and the join through hash tables, which
 //! is what a worker does alone.
@@ -10,5 +10,3 @@ mod cells;
 mod locals;
 #[cfg(test)]
 mod numbers;
-#[cfg(test)]
-mod terms;
