@@ -5,6 +5,7 @@ use Rattle.std.specs.List.{flat_map}
 use Rattle.std.specs.Option.{option_map_or}
 use Rattle.rel_base.specs.Keys.{File}
 use Rattle.rel_base.specs.declared.faults.RunFault.{RunFault}
+use Rattle.exchange_channels.specs.Wirings.{ReceiptState}
 use Rattle.rel_io.specs.declared.sinks.SinkFault.{SinkFault}
 use Rattle.rel_io.specs.declared.sinks.SinkFault.TheVariants as fault
 use Rattle.rel_io.specs.Outside.{Content}
@@ -175,10 +176,11 @@ module _ (words : List (List ℕ)) (content : List ℕ → Content) (name : List
 
 -- ---- the words and the files decide the answer
 
-decides_done : (P : List ℕ → Type 0) (s : Verdict (List ℕ)) → IfTold s (λ t. (text : List ℕ) × (t ≡ passes text) × P text) → Decides s outcome.Done
-decides_done P untold h = tt
-decides_done P (refused answer) h = let e : refused answer ≡ passes h.0 = h.1 in cc
-decides_done P (passes text) h = inl refl
+decides_done : (receipts : List ReceiptState) (P : List ℕ → Type 0) (s : Verdict (List ℕ))
+    → IfTold s (λ t. (text : List ℕ) × (t ≡ passes text) × P text) → Decides s (outcome.Done receipts)
+decides_done receipts P untold h = tt
+decides_done receipts P (refused answer) h = let e : refused answer ≡ passes h.0 = h.1 in cc
+decides_done receipts P (passes text) h = inl tt
 
 decides_write : (P : List ℕ → Type 0) (s : Verdict (List ℕ)) → IfTold s (λ t. (text : List ℕ) × (t ≡ passes text) × P text) → Decides s outcome.WriteFault
 decides_write P untold h = tt
@@ -203,7 +205,7 @@ module _ (run : Run) (step : Verdict (List ℕ)) (comes : ComesTo run.words run.
   met_step answer m = same_step m.step answer m.comes (decides_refused answer m.step m.is)
 
   decided_from : (answer : Outcome) → Explains run answer → Decides step answer
-  decided_from outcome.Done e = same_step e.step outcome.Done e.comes (decides_done _ e.step e.holds)
+  decided_from (outcome.Done receipts) e = same_step e.step (outcome.Done receipts) e.comes (decides_done receipts _ e.step e.holds)
   decided_from outcome.WriteFault e = same_step e.1.step outcome.WriteFault e.1.comes (decides_write _ e.1.step e.1.holds)
   decided_from outcome.Memory e = decides_in_place outcome.Memory tt step
   decided_from (outcome.ReadFault name) e = decides_in_place (outcome.ReadFault name) tt step

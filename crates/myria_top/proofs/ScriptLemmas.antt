@@ -20,7 +20,7 @@ module _ {X : Type 0} (Comes Further : Verdict X → Type 0) (further : (s : Ver
   met wanted h = record { step = h.step; comes = further h.step h.comes; is = h.is }
 
   refused_further : (answer : Outcome) → RefusesBy Comes answer → RefusesBy Further answer
-  refused_further outcome.Done h = h
+  refused_further (outcome.Done receipts) h = h
   refused_further outcome.WriteFault h = h
   refused_further (outcome.ReadFault name) h = tt
   refused_further outcome.Memory h = tt
@@ -36,7 +36,7 @@ module _ {X : Type 0} (Comes Further : Verdict X → Type 0) (further : Further 
   met_untold wanted = record { step = untold; comes = further; is = tt }
 
   refused_untold : (answer : Outcome) → RefusesBy Comes answer → RefusesBy Further answer
-  refused_untold outcome.Done h = h
+  refused_untold (outcome.Done receipts) h = h
   refused_untold outcome.WriteFault h = h
   refused_untold (outcome.ReadFault name) h = tt
   refused_untold outcome.Memory h = tt
