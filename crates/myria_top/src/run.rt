@@ -1,5 +1,5 @@
 //! One run of the program, from its words to its exit.
-ghost use Rattle.std.specs.Prelude.{◌≡◌, ◌≢◌, ◌↔◌, All, IsTrue, None, Ok, Err, IfOk, IfErr, vec_len};
+ghost use Rattle.std.specs.Prelude.{◌≡◌, ◌≢◌, ◌↔◌, List, All, IsTrue, None, Ok, Err, IfOk, IfErr, vec_len};
 ghost use Rattle.rel_base.specs.Limits.{taps as tap_count};
 ghost use Rattle.myrial_ast.specs.Trees.{trees_of};
 ghost use Rattle.myrial_meaning.specs.Fetches.{fetches};
@@ -32,6 +32,7 @@ use engine::{Ran, run_script};
 use exchange_channels::Receipts;
 use myrial_ast::Script;
 use myrial_types::{check, fetches};
+use myrial_types::{steps_are_of_the_files, steps_have_the_fault, steps_mean_the_script};
 use rel_base::{Files, TAPS, Text};
 use rel_io::{Shelf, Sink, SinkFault, Tap};
 use std::alloc::Global;
@@ -214,7 +215,13 @@ fn text_of_run<R: Threads + Wait + Sync, T: Tap + Send>(
         → MovesUsually files.now c T.totals T.tag taps.old.items taps.new.items made.receipts) }
 {
     match check(alloc, script, files) {
-        Ok(checked) => text_of_typed(rt, alloc, &checked, files, taps),
+        Ok(checked) => {
+            // Laws: the steps are well formed, they store what the script stores, and their fault is the script's.
+            steps_are_of_the_files();
+            steps_mean_the_script();
+            steps_have_the_fault();
+            text_of_typed(rt, alloc, &checked, files, taps)
+        }
         Err(fault) => Err(Outcome::from(fault)),
     }
 }
