@@ -93,7 +93,7 @@ passes-one e = cc
 
 -- a step that passes is the one that was met
 met-one : {X : Type 0} (s : Verdict X) (x y : X) → IfTold s (λ t. t ≡ passes x) → s ≡ passes y → x ≡ y
-met-one s x y told is = sym (passes-one (subst (λ (t : Verdict X). IfTold t (λ u. u ≡ passes x)) is told))
+met-one {X = X} s x y told is = sym (passes-one (subst (λ (t : Verdict X). IfTold t (λ u. u ≡ passes x)) is told))
 
 -- the files that were read are those that the fetches come to
 pub files-one : (content : List ℕ → Content) (needed fetched : List Fetch) (files others : List File) → needed ≡ fetched

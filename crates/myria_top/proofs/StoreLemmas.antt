@@ -64,12 +64,17 @@ stores-text n _ _ (a_store stored placed rest others is more) all =
 
 -- ---- what was written of a store
 
-pub store_text : (store : SpreadStore) (rows : List (Bor (List Value))) (before lined headed text : List ℕ)
-    → map (λ row. row.now) rows ≡ sorted (joined store.parts) → lined ≡ before ++ store_line store.key (length rows)
-    → headed ≡ lined ++ header_record store.schema → text ≡ headed ++ flat_map (λ row. row_record row.now) rows
+pub store_text : (store : SpreadStore) (rows given : List (Bor (List Value))) (count : ℕ) (start before lined headed text : List ℕ)
+    → map (λ row. row.now) rows ≡ sorted (joined store.parts) → given ≡ rows → count ≡ length rows → start ≡ before
+    → lined ≡ start ++ store_line store.key count
+    → headed ≡ lined ++ header_record store.schema → text ≡ headed ++ flat_map (λ row. row_record row.now) given
     → text ≡ before ++ relation_text (whole_store store)
-store_text store rows before lined headed text collected line header written =
+store_text store rows given count start before lined headed text collected whole counted here line_of_count header written_given =
     let all = joined store.parts in
+    let line : lined ≡ before ++ store_line store.key (length rows) =
+    line_of_count ∙ (λ i. here i ++ store_line store.key (counted i)) in
+    let written : text ≡ headed ++ flat_map (λ row. row_record row.now) rows =
+    written_given ∙ ap (λ (rs : List (Bor (List Value))). headed ++ flat_map (λ row. row_record row.now) rs) whole in
     let long : length rows ≡ length all =
     sym (length-map rows (λ row. row.now)) ∙ ap length collected ∙ length_permutation all (sorted all) (IsPermutation-sorted_by row_order all) in
     let records : flat_map (λ row. row_record row.now) rows ≡ flat_map row_record (sorted all) =

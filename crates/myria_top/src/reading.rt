@@ -79,6 +79,7 @@ fn script_of_text(alloc: Global, bytes: &[u8]) -> Result<Script, Outcome>
 }
 
 /// The relations of these files, each read wholly before the next.
+#[tactic(auto, using(crate::proofs::ReadingLemmas::typed_more))]
 pub fn read_files<F: Shelf>(
     alloc: Global,
     shelf: &mut F,

@@ -59,8 +59,8 @@ returns-clause-read g c =
     })
     run
 
-pub returns-in-default-clause-fair : goal.returns-in-default-clause-fair
-returns-in-default-clause-fair g c = fair-none g.T.Tap.totals g.T.Tap.tag _
+pub returns-in_default-clause-fair : goal.returns-in_default-clause-fair
+returns-in_default-clause-fair g c = fair-none g.T.Tap.totals g.T.Tap.tag _
 
 pub returns-in-Err-clause-fair : goal.returns-in-Err-clause-fair
 returns-in-Err-clause-fair g c = fair-none g.T.Tap.totals g.T.Tap.tag _

@@ -20,7 +20,7 @@ read_files-requires g c =
     subst (AllPairs (λ (f g' : Fetch). same_key f.key g'.key ≡ false)) (sym c.in-Ok.ensures) (fetches-distinct (trees_of c.args.script.now))
 
 pub text_of_run-requires-clause-formed : goal.text_of_run-requires-clause-formed
-text_of_run-requires-clause-formed g c =
+text_of_run-requires-clause-formed g c κs within =
     forms-fetched (trees_of c.args.script.now) c.in-Ok-read_files.files
     (subst (λ (fs : List Fetch). All (IsFetchedBy fs) c.in-Ok-read_files.files) c.in-Ok.ensures c.in-Ok-read_files.ensures.formed)
 

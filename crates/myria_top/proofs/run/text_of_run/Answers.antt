@@ -14,7 +14,7 @@ use Rattle.myria_top.proofs.RunLemmas.{typed_runs, typing_refuses}
 use Rattle.myria_top.proofs.run.text_of_run.Goals as goal
 
 pub text_of_typed-requires-clause-of : goal.text_of_typed-requires-clause-of
-text_of_typed-requires-clause-of g c =
+text_of_typed-requires-clause-of g c κs within =
     c.steps_are_of_the_files.ensures c.args.files.now (trees_of c.args.script.now) _ c.requires.formed c.in-Ok.ensures.checked
 
 pub returns-in-Ok-clause-agrees : goal.returns-in-Ok-clause-agrees
