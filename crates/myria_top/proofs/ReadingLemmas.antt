@@ -1,12 +1,8 @@
 -- What the first bytes of a file show of what the file comes to.
-use Rattle.std.proofs.Common.{◌≡◌, ◌⊎◌, inl, inr, ℕ, ◌+◌, ◌<◌, ◌≤◌, min, Bool, true, false, cond, List, [], ◌∷◌, ◌++◌, length, take, refl, sym, ◌∙◌, ap, subst, arith, nat_lt}
+use Rattle.std.proofs.Common.{◌≡◌, ◌⊎◌, inl, inr, ℕ, ◌+◌, ◌<◌, ◌≤◌, min, Bool, true, false, cond, List, [], ◌∷◌, length, take, refl, sym, ◌∙◌, ap, subst, arith, nat_lt}
 use Rattle.std.proofs.lemmas.Bool.{lt-ltb, false_from_ne_true, ltb-true}
 use Rattle.std.proofs.lemmas.List.{take_all, length-take}
 use Rattle.std.specs.Prelude.{All, Option, Some, None, Result, Ok, Err, drop}
-use Rattle.std.proofs.lemmas.List.Elements.{All-append, All-cons, All-nil}
-use Rattle.rel_base.specs.Keys.{File}
-use Rattle.rel_base.specs.declared.names.Key.{Key}
-use Rattle.algebra.specs.Rewriting.{AreTyped}
 use Rattle.rel_base.specs.Relations.{HasTypes, RelationState}
 use Rattle.rel_base.specs.declared.relations.Column.{Column}
 use Rattle.rel_base.specs.declared.values.Value.{Value}
@@ -114,12 +110,3 @@ pub read-typed : (form : Option LoadForm) (bytes : List ℕ) (relation : Relatio
 unfolding relation_with relation_of_bytes
 read-typed None bytes relation e = typed-records (records_of_bytes bytes) relation e
 read-typed (Some form) bytes relation e = typed-under (drop form.skip (records_of_bytes bytes)) (Ok form.schema) relation e
-
--- one typed file more
-abbrev IsTypedFile : File → Type 0
-IsTypedFile file = All (HasTypes file.1.schema) file.1.rows
-
-pub typed_more : (files : List File) (key : Key) (relation : RelationState) → AreTyped files
-    → All (HasTypes relation.schema) relation.rows → AreTyped (files ++ (key, relation) ∷ [])
-typed_more files key relation typed rows =
-    All-append IsTypedFile files ((key, relation) ∷ []) typed (All-cons IsTypedFile (key, relation) [] rows (All-nil IsTypedFile))

@@ -3,7 +3,6 @@ ghost use Rattle.std.specs.Prelude.{◌≡◌, ◌≢◌, ◌≤◌, ◌<◌, �
 ghost use Rattle.std.specs.Prelude.{false, length, All, AllPairs, Err, IfOk, IfErr, IsTrue, OnOk, option_map};
 ghost use Rattle.rel_base.specs.Keys.{holds_key, same_key};
 ghost use Rattle.rel_base.specs.Relations.{HasTypes};
-ghost use Rattle.algebra.specs.Rewriting.{AreTyped};
 ghost use Rattle.myria_top.specs.Scripts.{ScriptComesTo, TextComesTo, trees_read, IsOfTexts};
 ghost use Rattle.myrial_types.specs.Fetching.{has_form};
 ghost use Rattle.relation_csv.specs.Files.{IsReadAs};
@@ -79,7 +78,6 @@ fn script_of_text(alloc: Global, bytes: &[u8]) -> Result<Script, Outcome>
 }
 
 /// The relations of these files, each read wholly before the next.
-#[tactic(auto, using(crate::proofs::ReadingLemmas::typed_more))]
 pub fn read_files<F: Shelf>(
     alloc: Global,
     shelf: &mut F,
@@ -90,7 +88,6 @@ pub fn read_files<F: Shelf>(
         (counts_of F.Shelf shelf.old shelf.new)
         (IsFileOf fetches.now) result }
     ensures formed { IfOk result (All (IsFetchedBy fetches.now)) }
-    ensures typed { IfOk result AreTyped }
     ensures part { result ≢ Err Outcome.NotBuilt }
     ensures content { F.content shelf.new ≡ F.content shelf.old }
 {

@@ -12,7 +12,7 @@ use Rattle.myria_top.specs.inner.Working.{MovesUsually, text_of}
 use Rattle.myria_top.proofs.MoveLemmas.{carried-ok, files-one}
 use Rattle.myria_top.proofs.ScriptLemmas.{run_cause, text_kind}
 use Rattle.myrial_meaning.specs.declared.needed_files.Fetch.{Fetch}
-use Rattle.myria_top.proofs.FetchLemmas.{fetches-distinct, forms-fetched}
+use Rattle.myria_top.proofs.FetchLemmas.{fetches-distinct, forms-fetched, types-fetched}
 use Rattle.myria_top.proofs.run.prepared_script.Goals as goal
 
 pub read_files-requires : goal.read_files-requires
@@ -23,6 +23,9 @@ pub text_of_run-requires-clause-formed : goal.text_of_run-requires-clause-formed
 text_of_run-requires-clause-formed g c κs within =
     forms-fetched (trees_of c.args.script.now) c.in-Ok-read_files.files
     (subst (λ (fs : List Fetch). All (IsFetchedBy fs) c.in-Ok-read_files.files) c.in-Ok.ensures c.in-Ok-read_files.ensures.formed)
+
+pub text_of_run-requires-clause-typed : goal.text_of_run-requires-clause-typed
+text_of_run-requires-clause-typed g c κs within = types-fetched _ c.in-Ok-read_files.files c.in-Ok-read_files.ensures.formed
 
 pub returns-clause-read : goal.returns-clause-read
 returns-clause-read g c =
