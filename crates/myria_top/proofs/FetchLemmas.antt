@@ -1,11 +1,11 @@
 -- The keys of the files that a script needs stand once, and the files have the columns that its loads write.
-use Rattle.std.proofs.Common.{◌≡◌, ℕ, zero, suc, ◌<◌, Bool, true, false, not, ◌||◌, List, [], ◌∷◌, ◌++◌, get_or, length, map, filter, take, drop, refl, sym, ◌∙◌, ap, subst, arith}
+use Rattle.std.proofs.Common.{◌≡◌, ℕ, zero, suc, ◌<◌, Bool, true, false, not, ◌||◌, List, [], ◌∷◌, ◌++◌, get_or, length, map, filter, take, drop, refl, sym, ◌∙◌, ap, subst, arith, add-one, ◌+◌}
 use Rattle.std.specs.Prelude.{All, AllPairs, Any, Contains}
 use Rattle.std.specs.List.{list_any}
-use Rattle.std.proofs.Math.Seq.{drop-cons}
+use Rattle.std.proofs.Math.Seq.{drop-cons, take-suc}
 use Rattle.std.proofs.lemmas.Bool.{and_from, false_from_ne_true}
-use Rattle.std.proofs.lemmas.List.{append_assoc, append-nil, get_or-take, get_or_read, length-map, length-take, take-append-drop}
-use Rattle.std.proofs.lemmas.List.Elements.{All-head, All-tail}
+use Rattle.std.proofs.lemmas.List.{append_assoc, append-nil, map-append, get_or-take, get_or_read, length-map, length-take, take-append-drop}
+use Rattle.std.proofs.lemmas.List.Elements.{All-append, All-cons, All-head, All-nil, All-tail}
 use Rattle.std.proofs.lemmas.List.Folds.{Any-from_list_any}
 use Rattle.rel_base.specs.Keys.{File, same_key, holds_key}
 use Rattle.rel_base.specs.declared.names.Key.{Key}
@@ -13,7 +13,14 @@ use Rattle.myrial_ast.specs.Trees.{StatementTree}
 use Rattle.myrial_meaning.specs.declared.needed_files.Fetch.{Fetch}
 use Rattle.myrial_meaning.specs.Fetches.{each_once, fetched_keys, fetches, form_in, has_key, needed_from}
 use Rattle.myrial_types.specs.Fetching.{has_form, have_forms}
-use Rattle.myria_top.specs.Runs.{IsFetchedBy}
+use Rattle.algebra.specs.Rewriting.{AreTyped}
+use Rattle.rel_base.specs.Relations.{RelationState}
+use Rattle.rel_io.specs.Outside.{Content}
+use Rattle.myria_top.specs.FileNames.{file_name_of}
+use Rattle.myria_top.specs.Reading.{Meets}
+use Rattle.myria_top.specs.Runs.{IsFetchedBy, files_verdict, relation_verdict}
+use Rattle.myria_top.specs.Verdicts.{passes, IfTold}
+use Rattle.myria_top.proofs.VerdictLemmas.{files_more, step_met}
 use Rattle.myrial_meaning.proofs.FetchLemmas.{distinct-push, each_once-push}
 
 -- what stands before a place, at it, and behind it
@@ -109,3 +116,45 @@ module _ (script : List StatementTree) where
       and_from (has_form (form_in script file.0) file.1) (have_forms files script)
       (ap (λ key. has_form (form_in script key) file.1) one.key ∙ ap (λ form. has_form form file.1) (sym (fetch-formed one.fetch one.is_one)) ∙ one.formed)
       (forms-fetched files (All-tail (IsFetchedBy (fetches script)) file files all))
+
+-- the rows of the files have their columns' types
+pub types-fetched : (fetches : List Fetch) (files : List File) → All (IsFetchedBy fetches) files → AreTyped files
+types-fetched fetches files all = λ k d less. (all k d less).typed
+
+-- ---- one file more
+
+-- the items before the next place, and the item there
+take_more : {X : Type 0} (xs : List X) (i : ℕ) (x : X) → i < length xs → x ≡ get_or xs i x → take (i + 1) xs ≡ take i xs ++ x ∷ []
+take_more xs i x h is = (rw add-one (take-suc xs i x h)) ∙ ap (λ y. take i xs ++ y ∷ []) (sym is)
+
+pub one_more_read : (content same : List ℕ → Content) (fetches : List Fetch) (i : ℕ) (fetch : Fetch) (files more : List File)
+    (relation : RelationState) → i < length fetches → fetch ≡ get_or fetches i fetch → same ≡ content
+    → IfTold (files_verdict content (take i fetches)) (λ s. s ≡ passes files)
+    → Meets (λ s. s ≡ relation_verdict fetch (same (file_name_of fetch.key))) (passes relation)
+    → more ≡ files ++ (fetch.key, relation) ∷ []
+    → IfTold (files_verdict content (take (i + 1) fetches)) (λ s. s ≡ passes more)
+one_more_read content same fetches i fetch files more relation h is alike read met grown =
+    let found : IfTold (relation_verdict fetch (content (file_name_of fetch.key))) (λ s. s ≡ passes relation) =
+    step_met _ (passes relation)
+    (subst (λ (con : List ℕ → Content). Meets (λ s. s ≡ relation_verdict fetch (con (file_name_of fetch.key))) (passes relation)) alike met) in
+    let both = files_more content (take i fetches) fetch files relation read found in
+    subst (λ (fs : List Fetch). IfTold (files_verdict content fs) (λ s. s ≡ passes more)) (sym (take_more fetches i fetch h is))
+    (subst (λ (fs : List File). IfTold (files_verdict content (take i fetches ++ fetch ∷ [])) (λ s. s ≡ passes fs)) (sym grown) both)
+
+pub one_more_key : (fetches : List Fetch) (i : ℕ) (fetch : Fetch) (files more : List File) (relation : RelationState)
+    → i < length fetches → fetch ≡ get_or fetches i fetch
+    → map (λ (file : File). file.0) files ≡ map (λ (f : Fetch). f.key) (take i fetches)
+    → more ≡ files ++ (fetch.key, relation) ∷ []
+    → map (λ (file : File). file.0) more ≡ map (λ (f : Fetch). f.key) (take (i + 1) fetches)
+one_more_key fetches i fetch files more relation h is keys grown =
+    ap (map (λ (file : File). file.0)) grown ∙ map-append (λ (file : File). file.0) files ((fetch.key, relation) ∷ [])
+    ∙ ap (λ (ks : List Key). ks ++ fetch.key ∷ []) keys
+    ∙ sym (map-append (λ (f : Fetch). f.key) (take i fetches) (fetch ∷ []))
+    ∙ ap (map (λ (f : Fetch). f.key)) (sym (take_more fetches i fetch h is))
+
+pub one_more_fetched : (fetches : List Fetch) (files more : List File) (file : File) → All (IsFetchedBy fetches) files
+    → IsFetchedBy fetches file → more ≡ files ++ file ∷ [] → All (IsFetchedBy fetches) more
+one_more_fetched fetches files more file all one grown =
+    subst (All (IsFetchedBy fetches)) (sym grown)
+    (All-append (IsFetchedBy fetches) files (file ∷ []) all
+    (All-cons (IsFetchedBy fetches) file [] one (All-nil (IsFetchedBy fetches))))

@@ -1,9 +1,11 @@
 mod PieceLemmas
 mod ReadingLemmas
 mod VerdictLemmas
-mod OutputLemmas
+mod StoreLemmas
 mod OneAnswerLemmas
 mod ScriptLemmas
 mod FetchLemmas
 mod RunLemmas
+mod CheckedLemmas
+mod MoveLemmas
 mod WorkedRows

@@ -1,12 +1,14 @@
 -- What the first bytes of a file show of what the file comes to.
-use Rattle.std.proofs.Common.{◌≡◌, ◌⊎◌, inl, inr, ℕ, ◌+◌, ◌<◌, ◌≤◌, min, Bool, true, false, cond, List, length, take, refl, sym, ◌∙◌, ap, subst, arith, nat_lt}
+use Rattle.std.proofs.Common.{◌≡◌, ◌⊎◌, inl, inr, ℕ, ◌+◌, ◌<◌, ◌≤◌, min, Bool, true, false, cond, List, [], ◌∷◌, length, take, refl, sym, ◌∙◌, ap, subst, arith, nat_lt}
 use Rattle.std.proofs.lemmas.Bool.{lt-ltb, false_from_ne_true, ltb-true}
 use Rattle.std.proofs.lemmas.List.{take_all, length-take}
-use Rattle.std.specs.Prelude.{Option, Some, None, Result, Ok, Err, drop}
-use Rattle.rel_base.specs.Relations.{RelationState}
+use Rattle.std.specs.Prelude.{All, Option, Some, None, Result, Ok, Err, drop}
+use Rattle.rel_base.specs.Relations.{HasTypes, RelationState}
+use Rattle.rel_base.specs.declared.relations.Column.{Column}
 use Rattle.rel_base.specs.declared.values.Value.{Value}
 use Rattle.relation_csv.specs.declared.faults.RelFault.{RelFault}
-use Rattle.relation_csv.specs.Files.{records_of_bytes, relation_of_rows, relation_with, rows_of_records}
+use Rattle.relation_csv.specs.Files.{Record, records_of_bytes, relation_of_bytes, relation_of_records, relation_of_rows, relation_under, relation_with, rows_of_records, schema_of_record}
+use Rattle.relation_csv.proofs.TypeLemmas.{HasTypes-rows_of_records}
 use Rattle.myrial_ast.specs.declared.relations.LoadForm.{LoadForm}
 use Rattle.myrial_types.specs.Fetching.{has_form, same_columns}
 use Rattle.myrial_types.proofs.LoadLemmas.{same_columns-itself}
@@ -78,3 +80,33 @@ read-formed (Some form) bytes relation e = by (rows_of_records form.schema (drop
         let made : RelationState = record { schema = form.schema; rows = rows } in
         let same : made ≡ relation = cc in
         ap (λ (t : RelationState). same_columns t.schema form.schema) (sym same) ∙ same_columns-itself form.schema
+
+-- ---- the rows of a relation that is read have its columns' types
+
+typed-rows : (schema : List Column) (records : List Record) (relation : RelationState)
+    → relation_of_rows schema (rows_of_records schema records) ≡ Ok relation → All (HasTypes relation.schema) relation.rows
+typed-rows schema records relation e = by (rows_of_records schema records) refl e
+  where
+    by : (rows : Result (List (List Value)) RelFault) → rows_of_records schema records ≡ rows
+        → relation_of_rows schema rows ≡ Ok relation → All (HasTypes relation.schema) relation.rows
+    by (Err why) is e = cc
+    by (Ok rows) is e =
+        let made : RelationState = record { schema = schema; rows = rows } in
+        let same : made ≡ relation = cc in
+        subst (λ (t : RelationState). All (HasTypes t.schema) t.rows) same (HasTypes-rows_of_records schema records rows is)
+
+typed-under : (records : List Record) (schema : Result (List Column) RelFault) (relation : RelationState)
+    → relation_under records schema ≡ Ok relation → All (HasTypes relation.schema) relation.rows
+typed-under records (Ok schema) relation e = typed-rows schema records relation e
+typed-under records (Err why) relation e = cc
+
+typed-records : (records : List Record) (relation : RelationState) → relation_of_records records ≡ Ok relation
+    → All (HasTypes relation.schema) relation.rows
+typed-records [] relation e = cc
+typed-records (header ∷ others) relation e = typed-under others (schema_of_record header) relation e
+
+pub read-typed : (form : Option LoadForm) (bytes : List ℕ) (relation : RelationState) → relation_read form bytes ≡ Ok relation
+    → All (HasTypes relation.schema) relation.rows
+unfolding relation_with relation_of_bytes
+read-typed None bytes relation e = typed-records (records_of_bytes bytes) relation e
+read-typed (Some form) bytes relation e = typed-under (drop form.skip (records_of_bytes bytes)) (Ok form.schema) relation e

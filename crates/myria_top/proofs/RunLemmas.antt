@@ -1,20 +1,14 @@
 -- What a script comes to over its files, and what the words and the files come to.
 use Rattle.std.proofs.Common.{◌≡◌, ℕ, List, map, Option, Some, None, Ok, Err, Result, refl, sym, ◌∙◌, ap, subst, inl, inr, arith}
 use Rattle.std.specs.Prelude.{IfErr}
-use Rattle.std.specs.List.{flat_map}
-use Rattle.std.specs.Option.{option_map_or}
 use Rattle.rel_base.specs.Keys.{File}
-use Rattle.rel_base.specs.declared.faults.RunFault.{RunFault}
+use Rattle.exchange_channels.specs.Wirings.{ReceiptState}
 use Rattle.rel_io.specs.declared.sinks.SinkFault.{SinkFault}
 use Rattle.rel_io.specs.declared.sinks.SinkFault.TheVariants as fault
 use Rattle.rel_io.specs.Outside.{Content}
 use Rattle.rel_io.specs.Sinks.{Offers, Written}
 use Rattle.rel_io.specs.Outside as outside
 use Rattle.myrial_ast.specs.Trees.{StatementTree}
-use Rattle.myrial_ast.specs.CandidateFaults.{Uncounted}
-use Rattle.myrial_meaning.specs.Faults.{run_fault}
-use Rattle.myrial_meaning.specs.Meaning.{stored_relations}
-use Rattle.myrial_meaning.specs.SortedFiles.{sorted_file}
 use Rattle.myrial_meaning.specs.declared.needed_files.Fetch.{Fetch}
 use Rattle.myrial_meaning.specs.Fetches.{fetches}
 use Rattle.myrial_types.specs.declared.faults.TypeFault.{TypeFault}
@@ -25,34 +19,19 @@ use Rattle.rel_io.specs.Shelves.{CallCounts}
 use Rattle.myria_top.specs.declared.outcomes.Outcome.{Outcome}
 use Rattle.myria_top.specs.declared.outcomes.Outcome.TheVariants as outcome
 use Rattle.myria_top.specs.Headline.{Run, Decides, IsInPlace, Explains, IsAskedOf, TellsLine, of_untold, a_relation}
-use Rattle.myria_top.specs.OutputText.{output_text, relation_text_in_order}
+use Rattle.myria_top.specs.OutputText.{output_text}
 use Rattle.myria_top.specs.Reading.{Agrees, AgreesBy, AgreesRefused, HasCause, Meets, ReadsBy, ReadsStep, RefusesBy, script_name}
 use Rattle.myria_top.specs.Scripts.{ScriptComesTo, TextComesTo, not_text, bad_token, bad_piece, a_script, not_told, no_script, too_long, short}
 use Rattle.myria_top.specs.Verdicts.{Verdict, untold, refused, passes, and_then, IfTold}
-use Rattle.myria_top.specs.Runs.{ComesTo, named, IsFileOf, files_verdict, printed_verdict, if_typed, run_answer, run_verdict, typed_verdict, typing_answer}
+use Rattle.myria_top.specs.Runs.{ComesTo, named, IsFileOf, files_verdict, printed_verdict, if_typed, run_verdict, typed_verdict, typing_answer}
 use Rattle.myria_top.proofs.OneAnswerLemmas.{comes_to_one}
-use Rattle.myria_top.proofs.OutputLemmas.{output_text-sorted}
 use Rattle.myria_top.proofs.VerdictLemmas.{LiesWithin, HasCause-part, met, met_further, goes_second, step_met, meets_step, refused_first, refused_second}
 
 -- ---- the run of a script
 
 module _ (script : List StatementTree) (files : List File) where
-  abbrev verdict : Option RunFault → Verdict (List File)
-  verdict found = option_map_or (λ fault. refused (run_answer fault)) found (passes (stored_relations files script))
-
   abbrev printed : Verdict (List File) → Verdict (List ℕ)
   printed s = and_then s (λ stored. passes (output_text stored))
-
-  -- without a fault the text is printed
-  pub run_prints : (stored : List File) (text : List ℕ) → run_fault Uncounted files script ≡ None
-      → stored ≡ map sorted_file (stored_relations files script) → text ≡ flat_map (λ (file : File). relation_text_in_order file.0 file.1) stored
-      → IfTold (printed (typed_verdict script files)) (λ s. s ≡ passes text)
-  run_prints stored text fault is texts =
-      let all : text ≡ output_text (stored_relations files script) =
-      texts ∙ ap (flat_map (λ (file : File). relation_text_in_order file.0 file.1)) is ∙ output_text-sorted (stored_relations files script) in
-      let step : printed (typed_verdict script files) ≡ passes text =
-      ap (λ (o : Option RunFault). printed (verdict o)) fault ∙ ap passes (sym all) in
-      subst (λ (s : Verdict (List ℕ)). IfTold s (λ t. t ≡ passes text)) (sym step) refl
 
   -- a script that is typed comes to its run
   pub typed_runs : {X : Type 0} (checked : X) (typing : Result X TypeFault) → typing ≡ Ok checked → if_typed typing (typed_verdict script files) ≡ typed_verdict script files
@@ -175,10 +154,11 @@ module _ (words : List (List ℕ)) (content : List ℕ → Content) (name : List
 
 -- ---- the words and the files decide the answer
 
-decides_done : (P : List ℕ → Type 0) (s : Verdict (List ℕ)) → IfTold s (λ t. (text : List ℕ) × (t ≡ passes text) × P text) → Decides s outcome.Done
-decides_done P untold h = tt
-decides_done P (refused answer) h = let e : refused answer ≡ passes h.0 = h.1 in cc
-decides_done P (passes text) h = inl refl
+decides_done : (receipts : List ReceiptState) (P : List ℕ → Type 0) (s : Verdict (List ℕ))
+    → IfTold s (λ t. (text : List ℕ) × (t ≡ passes text) × P text) → Decides s (outcome.Done receipts)
+decides_done receipts P untold h = tt
+decides_done receipts P (refused answer) h = let e : refused answer ≡ passes h.0 = h.1 in cc
+decides_done receipts P (passes text) h = inl tt
 
 decides_write : (P : List ℕ → Type 0) (s : Verdict (List ℕ)) → IfTold s (λ t. (text : List ℕ) × (t ≡ passes text) × P text) → Decides s outcome.WriteFault
 decides_write P untold h = tt
@@ -203,7 +183,7 @@ module _ (run : Run) (step : Verdict (List ℕ)) (comes : ComesTo run.words run.
   met_step answer m = same_step m.step answer m.comes (decides_refused answer m.step m.is)
 
   decided_from : (answer : Outcome) → Explains run answer → Decides step answer
-  decided_from outcome.Done e = same_step e.step outcome.Done e.comes (decides_done _ e.step e.holds)
+  decided_from (outcome.Done receipts) e = same_step e.step (outcome.Done receipts) e.comes (decides_done receipts _ e.step e.holds)
   decided_from outcome.WriteFault e = same_step e.1.step outcome.WriteFault e.1.comes (decides_write _ e.1.step e.1.holds)
   decided_from outcome.Memory e = decides_in_place outcome.Memory tt step
   decided_from (outcome.ReadFault name) e = decides_in_place (outcome.ReadFault name) tt step

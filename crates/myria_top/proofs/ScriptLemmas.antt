@@ -11,6 +11,8 @@ use Rattle.myria_top.specs.declared.outcomes.Outcome.{Outcome}
 use Rattle.myria_top.specs.declared.outcomes.Outcome.TheVariants as outcome
 use Rattle.myria_top.specs.Reading.{AgreesBy, HasCause, Meets, RefusesBy}
 use Rattle.myria_top.specs.Scripts.{TextComesTo, ScriptComesTo, not_told, no_script, too_long, short, trees_read, IsOfTexts}
+use Rattle.myria_top.specs.declared.run.Unprinted.{Unprinted}
+use Rattle.myria_top.specs.inner.Working.{text_of}
 use Rattle.myria_top.specs.Verdicts.{Verdict, untold, refused, passes}
 
 -- ---- steps of one relation and another
@@ -20,7 +22,7 @@ module _ {X : Type 0} (Comes Further : Verdict X → Type 0) (further : (s : Ver
   met wanted h = record { step = h.step; comes = further h.step h.comes; is = h.is }
 
   refused_further : (answer : Outcome) → RefusesBy Comes answer → RefusesBy Further answer
-  refused_further outcome.Done h = h
+  refused_further (outcome.Done receipts) h = h
   refused_further outcome.WriteFault h = h
   refused_further (outcome.ReadFault name) h = tt
   refused_further outcome.Memory h = tt
@@ -36,7 +38,7 @@ module _ {X : Type 0} (Comes Further : Verdict X → Type 0) (further : Further 
   met_untold wanted = record { step = untold; comes = further; is = tt }
 
   refused_untold : (answer : Outcome) → RefusesBy Comes answer → RefusesBy Further answer
-  refused_untold outcome.Done h = h
+  refused_untold (outcome.Done receipts) h = h
   refused_untold outcome.WriteFault h = h
   refused_untold (outcome.ReadFault name) h = tt
   refused_untold outcome.Memory h = tt
@@ -87,3 +89,8 @@ text_cause counts P (Err answer) h = no_count counts P answer h
 pub run_cause : {X : Type 0} (counts : CallCounts) (P : List ℕ → Type 0) (r : Result X Outcome) → IfErr r IsOfTexts → IfErr r (HasCause counts P)
 run_cause counts P (Ok x) h = tt
 run_cause counts P (Err answer) h = no_count counts P answer h
+
+-- a refusal of a run is that of its text
+pub text_kind : (P : Outcome → Type 0) (r : Result Unprinted Outcome) → IfErr r P → IfErr (text_of r) P
+text_kind P (Ok x) h = tt
+text_kind P (Err answer) h = h

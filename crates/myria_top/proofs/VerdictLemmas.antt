@@ -29,14 +29,14 @@ step_met s wanted m = subst (λ t. IfTold t (λ u. u ≡ wanted)) m.comes m.is
 
 -- a refusal of the first step is a refusal of both
 pub refused_first : {X Y : Type 0} (s : Verdict X) (f : X → Verdict Y) (answer : Outcome) → AgreesRefused s answer → AgreesRefused (and_then s f) answer
-refused_first s f outcome.Done h = h
+refused_first s f (outcome.Done receipts) h = h
 refused_first s f outcome.WriteFault h = h
 refused_first s f (outcome.ReadFault name) h = tt
 refused_first s f outcome.Memory h = tt
 refused_first s f answer h = meets_step (and_then s f) (refused answer) (carried s f answer (step_met s (refused answer) h))
 
 nothing_told : {X : Type 0} (Y : Type 0) (s : Verdict X) (answer : Outcome) → AgreesRefused s answer → AgreesRefused {X = Y} untold answer
-nothing_told Y s outcome.Done h = h
+nothing_told Y s (outcome.Done receipts) h = h
 nothing_told Y s outcome.WriteFault h = h
 nothing_told Y s (outcome.ReadFault name) h = tt
 nothing_told Y s outcome.Memory h = tt
@@ -58,7 +58,7 @@ goes_second (passes z) f x y h r = let same : x ≡ z = cc in subst (λ w. IfTol
 
 -- a refusal of a step that is come to
 pub met : {X : Type 0} (Comes : Verdict X → Type 0) (s : Verdict X) (answer : Outcome) → Comes s → AgreesRefused s answer → RefusesBy Comes answer
-met Comes s outcome.Done comes h = h
+met Comes s (outcome.Done receipts) comes h = h
 met Comes s outcome.WriteFault comes h = h
 met Comes s (outcome.ReadFault name) comes h = tt
 met Comes s outcome.Memory comes h = tt
@@ -66,7 +66,7 @@ met Comes s answer comes h = record { step = s; comes = comes; is = step_met s (
 
 -- what holds of a refusal of one relation holds of another that follows it
 pub met_further : {X Y : Type 0} (Comes : Verdict X → Type 0) (Further : Verdict Y → Type 0) (f : X → Verdict Y) → ((s : Verdict X) → Comes s → Further (and_then s f)) → (answer : Outcome) → RefusesBy Comes answer → RefusesBy Further answer
-met_further Comes Further f further outcome.Done h = h
+met_further Comes Further f further (outcome.Done receipts) h = h
 met_further Comes Further f further outcome.WriteFault h = h
 met_further Comes Further f further (outcome.ReadFault name) h = tt
 met_further Comes Further f further outcome.Memory h = tt

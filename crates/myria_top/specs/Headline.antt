@@ -49,7 +49,7 @@ pub record ExplainsRefusal (run : Run) (answer : Outcome) : Type 0 where
 -- Why each answer came, and what the output then holds: after `Done` exactly the text of the script's meaning; where
 -- writing was refused, a beginning of that text; else nothing.
 abbrev pub Explains : Run → Outcome → Type 0
-Explains run outcome.Done = OfText run (TookAll run.out)
+Explains run (outcome.Done receipts) = OfText run (TookAll run.out)
 Explains run outcome.WriteFault = FaultsRose run.out × OfText run (TookPart run.out)
 Explains run outcome.Memory = TookNothing run.out ⊎ (WantsRose run.out × OfText run (TookPart run.out))
 Explains run answer = ExplainsRefusal run answer
@@ -64,11 +64,16 @@ IsInPlace outcome.Memory = ⊤
 IsInPlace (outcome.ReadFault name) = ⊤
 IsInPlace answer = ⊥
 
+-- the answer to a run whose text is printed, whatever its receipts are
+abbrev pub IsDone : Outcome → Type 0
+IsDone (outcome.Done receipts) = ⊤
+IsDone answer = ⊥
+
 -- what the words and the files come to decides the answer
 abbrev pub Decides : Verdict (List ℕ) → Outcome → Type 0
 Decides untold answer = ⊤
 Decides (refused refusal) answer = (answer ≡ refusal) ⊎ IsInPlace answer
-Decides (passes text) answer = (answer ≡ outcome.Done) ⊎ (answer ≡ outcome.WriteFault) ⊎ IsInPlace answer
+Decides (passes text) answer = IsDone answer ⊎ (answer ≡ outcome.WriteFault) ⊎ IsInPlace answer
 
 -- The promises of one run.
 pub record Headline (run : Run) (err : Written) (answer : Outcome) : Type 0 where

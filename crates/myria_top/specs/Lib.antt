@@ -7,3 +7,5 @@ pub mod Scripts
 pub mod OutputText
 pub mod Runs
 pub mod Headline
+pub mod Moves
+pub mod inner

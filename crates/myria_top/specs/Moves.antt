@@ -3,7 +3,8 @@
 --   usual settings                   the numbers and choices of a run whose words name none
 --   IsRunOf words content files c    the words name a script, and it is typed over these files, to these steps
 --   HasMoved ..                      receipts and taps are those of the exchanges of the run
-use Rattle.std.specs.Prelude.{◌≡◌, ℕ, List, Some, Ok}
+--   HasMovedAfter .. answer          so they are after `Done`
+use Rattle.std.specs.Prelude.{◌≡◌, ℕ, ⊤, List, Some, Ok}
 use Rattle.std.specs.List.{flat_map}
 use Rattle.rel_base.specs.Keys.{File}
 use Rattle.rel_io.specs.Outside.{Content}
@@ -19,6 +20,8 @@ use Rattle.algebra.specs.Trees.{CheckedTree}
 use Rattle.placed_joins.specs.PlacedJoins.{size_of}
 use Rattle.term_runs.specs.TermRuns.{shown_moves, AreShown, AreMoved}
 use Rattle.engine.specs.Runs.{run_exchanges}
+use Rattle.myria_top.specs.declared.outcomes.Outcome.{Outcome}
+use Rattle.myria_top.specs.declared.outcomes.Outcome.TheVariants as outcome
 use Rattle.myria_top.specs.Reading.{script_name}
 use Rattle.myria_top.specs.Runs.{files_verdict}
 use Rattle.myria_top.specs.Scripts.{ScriptComesTo}
@@ -47,3 +50,11 @@ pub record HasMoved {T : Type 0} (s : Settings) (files : List File) (c : Checked
     (before after : List T) (receipts : List ReceiptState) : Type 0 where
   pub shown : AreShown (size_of s) (flat_map shown_moves (run_exchanges s files c)) receipts
   pub taps : AreMoved totals tag s.workers (run_exchanges s files c) before after
+
+-- after `Done`, receipts and taps are those of the run that the words and the files ask for, by the usual settings
+abbrev pub HasMovedAfter : {T : Type 0} → List (List ℕ) → (List ℕ → Content) → (T → Totals) → (T → ℕ) → List T → List T
+    → Outcome → Type 0
+HasMovedAfter words content totals tag before after (outcome.Done receipts) =
+    (s : Settings) (files : List File) (c : CheckedTree) → AreUsual s → IsRunOf words content files c
+    → HasMoved s files c totals tag before after receipts
+HasMovedAfter words content totals tag before after answer = ⊤

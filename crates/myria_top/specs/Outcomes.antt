@@ -18,7 +18,7 @@ use Rattle.myria_top.specs.declared.outcomes.Outcome.TheVariants as outcome
 
 -- the exit status of an answer
 abbrev pub status_of : Outcome → ℕ
-status_of outcome.Done = 0
+status_of (outcome.Done receipts) = 0
 status_of outcome.NoScript = 2
 status_of outcome.ScriptTooLong = 2
 status_of outcome.ScriptNotText = 2
@@ -90,7 +90,7 @@ relation_line key words = line_with (of_relation key words)
 
 -- what the answer says, in words
 abbrev pub message_of : List (List ℕ) → Outcome → List ℕ
-message_of words outcome.Done = []
+message_of words (outcome.Done receipts) = []
 message_of words outcome.NoScript = codes "no script " ++ given_name words
 message_of words outcome.ScriptTooLong = codes "script too long"
 message_of words outcome.ScriptNotText = codes "script is not UTF-8"
@@ -111,5 +111,5 @@ message_of words outcome.NotBuilt = codes "not built"
 
 -- the line on standard error
 abbrev pub line_of : List (List ℕ) → Outcome → List ℕ
-line_of words outcome.Done = []
+line_of words (outcome.Done receipts) = []
 line_of words answer = line_with (message_of words answer)

@@ -8,18 +8,12 @@ use Rattle.std.specs.List.{flat_map}
 use Rattle.std.specs.Fmt.{decimal}
 use Rattle.rel_base.specs.Bags.{sorted}
 use Rattle.rel_base.specs.Keys.{File, key_text}
-use Rattle.rel_base.specs.Relations.{RelationState}
 use Rattle.rel_base.specs.declared.names.Key.{Key}
 use Rattle.relation_csv.specs.RecordTexts.{header_record, row_record}
 
 -- the line over a stored relation: its key, and its number of rows
 abbrev pub store_line : Key → ℕ → List ℕ
 store_line key rows = codes "-- store " ++ key_text key ++ codes " " ++ decimal rows ++ codes " rows\n"
-
--- a stored relation: its line, its header, and its rows as they stand
-abbrev pub relation_text_in_order : Key → RelationState → List ℕ
-relation_text_in_order key table =
-    store_line key (length table.rows) ++ header_record table.schema ++ flat_map row_record table.rows
 
 -- a stored relation: its line, its header, and its rows in ascending order
 abbrev pub relation_text : File → List ℕ

@@ -54,7 +54,7 @@ pub record Meets {X : Type 0} (Comes : Verdict X → Type 0) (wanted : Verdict X
 
 -- a refusal is what the files come to; a fault of reading and want of memory may come whatever they come to
 abbrev pub RefusesBy : {X : Type 0} → (Verdict X → Type 0) → Outcome → Type 0
-RefusesBy Comes outcome.Done = ⊥
+RefusesBy Comes (outcome.Done receipts) = ⊥
 RefusesBy Comes outcome.WriteFault = ⊥
 RefusesBy Comes (outcome.ReadFault name) = ⊤
 RefusesBy Comes outcome.Memory = ⊤

@@ -2,15 +2,15 @@
 --
 --   relation_verdict fetch content     what the file of a relation comes to: the relation
 --   files_verdict content fetches      what these files come to, one after another
---   IsFetchedBy fetches file           a file has the key of one of these fetches, and the columns of its form
+--   IsFetchedBy fetches file           a file has the key of one of these fetches, the columns of its form, and typed rows
 --   run_verdict script files           what the script comes to over its files: the stored relations
 --   printed_verdict content script     what it comes to: the text that is printed
 --   ComesTo words content step         what the words and the files come to
-use Rattle.std.specs.Prelude.{◌≡◌, ℕ, List, [], ◌∷◌, ◌++◌, fold, Contains, IsTrue, Option, Some, None, Result, Ok, Err}
+use Rattle.std.specs.Prelude.{◌≡◌, ℕ, List, [], ◌∷◌, ◌++◌, fold, All, Contains, IsTrue, Option, Some, None, Result, Ok, Err}
 use Rattle.std.specs.Option.{option_map_or}
 use Rattle.rel_base.specs.Keys.{File}
 use Rattle.rel_base.specs.Limits.{most_relation_bytes}
-use Rattle.rel_base.specs.Relations.{RelationState}
+use Rattle.rel_base.specs.Relations.{HasTypes, RelationState}
 use Rattle.relation_csv.specs.declared.faults.RelFault.{RelFault}
 use Rattle.rel_base.specs.declared.faults.RunFault.{RunFault}
 use Rattle.rel_base.specs.declared.faults.RunFault.TheVariants as fault
@@ -65,12 +65,13 @@ one_file_more content files fetch =
 abbrev pub files_verdict : (List ℕ → Content) → List Fetch → Verdict (List File)
 files_verdict content fetches = fold (one_file_more content) (passes []) fetches
 
--- a file has the key of one of these fetches, and, where that is of a load, the columns of its form
+-- a file has the key of one of these fetches, and, where that is of a load, the columns of its form; its rows have its types
 pub record IsFetchedBy (fetches : List Fetch) (file : File) : Type 0 where
   pub fetch : Fetch
   pub is_one : Contains fetches fetch
   pub key : file.0 ≡ fetch.key
   pub formed : IsTrue (has_form fetch.form file.1)
+  pub typed : All (HasTypes file.1.schema) file.1.rows
 
 -- the name is that of one of these files
 pub record IsFileOf (fetches : List Fetch) (name : List ℕ) : Type 0 where

@@ -45,7 +45,7 @@ trees_read (Err answer) = Err answer
 
 -- a refusal that is neither a fault of the outside nor of the words
 abbrev pub IsOfTexts : Outcome → Type 0
-IsOfTexts outcome.Done = ⊥
+IsOfTexts (outcome.Done receipts) = ⊥
 IsOfTexts outcome.WriteFault = ⊥
 IsOfTexts outcome.NoScript = ⊥
 IsOfTexts (outcome.NoRelation key) = ⊥

@@ -25,7 +25,7 @@ pub fn tell<E: Sink>(err: &mut E, words: &[Text], answer: &Outcome) -> Result<()
         (outcomes.line_of words.now answer.now) result }
 {
     match answer {
-        Outcome::Done => Ok(()),
+        Outcome::Done { receipts: _ } => Ok(()),
         Outcome::NoScript => offer_all(err, &["myria: no script ", given_name(words), "\n"]),
         Outcome::ScriptTooLong => offer_all(err, &["myria: script too long\n"]),
         Outcome::ScriptNotText => offer_all(err, &["myria: script is not UTF-8\n"]),

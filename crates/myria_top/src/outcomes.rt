@@ -2,6 +2,7 @@
 ghost use Rattle.std.specs.Prelude.{◌≡◌};
 ghost use Rattle.myria_top.specs.Outcomes.{status_of};
 
+use exchange_channels::Receipts;
 use myrial_lexer::LexWhat;
 use myrial_parser::What;
 use myrial_types::{TypeFault, TypeKind};
@@ -9,10 +10,13 @@ use rel_base::{Key, Memory, RunFault, Text};
 use relation_csv::RelFault;
 
 /// How a run ended.
-#[derive(Debug, PartialEq, Eq, Drop)]
+#[derive(Drop)]
 pub enum Outcome {
     /// Everything that the script stores is printed.
-    Done,
+    Done {
+        /// What was sent in the exchanges of the run.
+        receipts: Receipts,
+    },
     /// There is no such script.
     NoScript,
     /// The script is longer than the most bytes of a script.
@@ -96,7 +100,7 @@ impl Outcome {
         ensures { result ≡ status_of self.now }
     {
         match self {
-            Outcome::Done => 0,
+            Outcome::Done { receipts: _ } => 0,
             Outcome::NoScript => 2,
             Outcome::ScriptTooLong => 2,
             Outcome::ScriptNotText => 2,

@@ -3,11 +3,15 @@ ghost use Rattle.std.specs.Prelude.{◌≡◌, ◌++◌, IfOk, OnOk};
 ghost use Rattle.std.specs.List.{flat_map};
 ghost use Rattle.rel_io.specs.Sinks.{Offers, written_of};
 
-use rel_base::{Key, Memory, Relation, Rows, Schema, Stored};
+use collector::collect;
+use engine::{SpreadStore, SpreadStores};
+use rel_base::{Key, Memory, Row, Schema};
 use rel_io::{Sink, SinkFault, offer};
 use relation_csv::{header_text, row_text};
 use std::alloc::Global;
 use std::marker::Model;
+use std::sync::Wait;
+use std::thread::Threads;
 
 /// A text, and where it is cut into pieces. Contracts see the text.
 #[derive(Drop)]
@@ -27,37 +31,47 @@ impl Model for Pieces {
 
 impl Pieces {
     ghost use Rattle.relation_csv.specs.RecordTexts.{header_record, row_record};
-    ghost use Rattle.myria_top.specs.OutputText.{relation_text_in_order, store_line};
+    ghost use Rattle.myria_top.specs.OutputText.{relation_text, store_line};
+    ghost use Rattle.myria_top.specs.inner.Stores.{whole_store};
 
-    /// The text of the stored relations, one after another: of each its line, its header, and its rows as they stand,
-    /// each a piece.
-    pub fn of_stored(alloc: Global, stored: &Stored) -> Result<Pieces, Memory>
+    /// The text of what is stored, one relation after another: of each its line, its header, and the rows of all workers
+    /// in ascending order, each a piece. No row is copied.
+    pub fn of_stored<R: Threads + Wait + Sync>(
+        rt: &R,
+        alloc: Global,
+        stored: &SpreadStores,
+    ) -> Result<Pieces, Memory>
         ensures { IfOk result (λ text. text
-            ≡ flat_map (λ file. relation_text_in_order file.0 file.1) stored.now) }
+            ≡ flat_map (λ store. relation_text (whole_store store)) stored.now) }
     {
         let mut pieces = Pieces {
             text: Vec::new(alloc),
             lengths: Vec::new(alloc),
         };
-        for (key, relation) in stored.as_slice() {
-            pieces.add_relation(alloc, key, relation)?;
+        for store in stored.as_slice() {
+            pieces.add_store(rt, alloc, store)?;
         }
         Ok(pieces)
     }
 
     /// Adds the text of a stored relation.
-    fn add_relation(&mut self, alloc: Global, key: &Key, relation: &Relation) -> Result<(), Memory>
-        ensures { OnOk result (self.new ≡ self.old ++ relation_text_in_order key.now relation.now) }
+    fn add_store<R: Threads + Wait + Sync>(
+        &mut self,
+        rt: &R,
+        alloc: Global,
+        store: &SpreadStore,
+    ) -> Result<(), Memory>
+        ensures { OnOk result (self.new ≡ self.old ++ relation_text (whole_store store.now)) }
     {
-        let rows = relation.rows();
-        self.lengths.reserve(rows.len() as usize + 2)?;
-        self.add_line(alloc, key, rows.len())?;
-        self.add_header(relation.schema())?;
-        self.add_rows(rows)
+        let rows = collect(rt, alloc, &store.parts)?;
+        self.lengths.reserve(rows.len().saturating_add(2))?;
+        self.add_line(alloc, &store.key, rows.len())?;
+        self.add_header(&store.schema)?;
+        self.add_rows(&rows)
     }
 
     /// Adds the line over a stored relation of so many rows.
-    fn add_line(&mut self, alloc: Global, key: &Key, rows: u32) -> Result<(), Memory>
+    fn add_line(&mut self, alloc: Global, key: &Key, rows: usize) -> Result<(), Memory>
         ensures { OnOk result (self.new ≡ self.old ++ store_line key.now rows) }
     {
         let line = format!(in alloc; "-- store {key} {rows} rows\n")?;
@@ -77,8 +91,8 @@ impl Pieces {
     }
 
     /// Adds rows as they stand.
-    fn add_rows(&mut self, rows: &Rows) -> Result<(), Memory>
-        ensures { OnOk result (self.new ≡ self.old ++ flat_map row_record rows.now) }
+    fn add_rows(&mut self, rows: &[&Row]) -> Result<(), Memory>
+        ensures { OnOk result (self.new ≡ self.old ++ flat_map (λ row. row_record row.now) rows.now) }
     {
         for row in rows {
             let start = self.text.len();

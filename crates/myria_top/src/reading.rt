@@ -2,6 +2,7 @@
 ghost use Rattle.std.specs.Prelude.{◌≡◌, ◌≢◌, ◌≤◌, ◌<◌, ◌^◌, ◌-◌, ◌++◌, ◌∷◌, [], ◌⊎◌};
 ghost use Rattle.std.specs.Prelude.{false, length, All, AllPairs, Err, IfOk, IfErr, IsTrue, OnOk, option_map};
 ghost use Rattle.rel_base.specs.Keys.{holds_key, same_key};
+ghost use Rattle.rel_base.specs.Relations.{HasTypes};
 ghost use Rattle.myria_top.specs.Scripts.{ScriptComesTo, TextComesTo, trees_read, IsOfTexts};
 ghost use Rattle.myrial_types.specs.Fetching.{has_form};
 ghost use Rattle.relation_csv.specs.Files.{IsReadAs};
@@ -124,6 +125,7 @@ pub fn read_fetched<F: Shelf>(
         (counts_of F.Shelf shelf.old shelf.new)
         (λ asked. asked ≡ file_name_of fetch.now.key) result }
     ensures formed { IfOk result (λ relation. IsTrue (has_form fetch.now.form relation)) }
+    ensures typed { IfOk result (λ relation. All (HasTypes relation.schema) relation.rows) }
     ensures part { result ≢ Err Outcome.NotBuilt }
     ensures content { F.content shelf.new ≡ F.content shelf.old }
 {
@@ -150,7 +152,8 @@ pub fn read_fetched<F: Shelf>(
 
 /// The relation of the bytes of a file: a loaded file is read by its form, and any other by its header.
 fn relation_of(alloc: Global, bytes: &[u8], form: &Option<LoadForm>) -> Result<Relation, RelFault>
-    ensures { IsReadAs result (relation_read form.now bytes.now) }
+    ensures read { IsReadAs result (relation_read form.now bytes.now) }
+    ensures typed { IfOk result (λ relation. All (HasTypes relation.schema) relation.rows) }
 {
     match form {
         None => read_relation(alloc, bytes),

@@ -15,14 +15,14 @@ returns-in-Ok-relation_of-clause-read g c = record {
       meets_step _ _ (read_goes 67108864 (outcome.NoRelation c.args.fetch.now.key) (outcome.RelTooLong c.args.fetch.now.key) (relation_of c.args.fetch.now) _ _ _
       (rw c.in-Ok.ensures at c.in-Ok-fetched.ensures.ok) (omega arith)
       (ap (relation_answer c.args.fetch.now.key)
-      (sym (ap (relation_read c.args.fetch.now.form) c.deref.ensures.value) ∙ c.in-Ok-relation_of.ensures (λ e. cc))));
+      (sym (ap (relation_read c.args.fetch.now.form) c.deref.ensures.value) ∙ c.in-Ok-relation_of.ensures.read (λ e. cc))));
   cause = tt;
   kept = c.fetched.ensures.kept;
 }
 
 pub returns-in-Ok-relation_of-clause-formed : goal.returns-in-Ok-relation_of-clause-formed
 returns-in-Ok-relation_of-clause-formed g c =
-    read-formed c.args.fetch.now.form c.deref.result.now c.in-Ok-relation_of.relation (c.in-Ok-relation_of.ensures (λ e. cc))
+    read-formed c.args.fetch.now.form c.deref.result.now c.in-Ok-relation_of.relation (c.in-Ok-relation_of.ensures.read (λ e. cc))
 
 pub returns-then-len-gt-MOST_RELATION_BYTES-clause-read : goal.returns-then-len-gt-MOST_RELATION_BYTES-clause-read
 returns-then-len-gt-MOST_RELATION_BYTES-clause-read g c =
@@ -55,7 +55,7 @@ returns-clause-read g c =
           (λ other. meets_step _ _ (read_refuses 67108864 (outcome.NoRelation key) (outcome.RelTooLong key) (relation_of c.args.fetch.now) _ _ _
           (rw c.in-Ok.ensures at c.in-Ok-fetched.ensures.ok) (omega arith)
           (ap (relation_answer key)
-          (sym (ap (relation_read c.args.fetch.now.form) c.deref.ensures.value) ∙ c.in-Err-relation_of.ensures (λ e. other (cc)))))) tt;
+          (sym (ap (relation_read c.args.fetch.now.form) c.deref.ensures.value) ∙ c.in-Err-relation_of.ensures.read (λ e. other (cc)))))) tt;
       cause =
           in_place_if (HasCause counts (λ asked. asked ≡ name)) c.bad_relation.result (outcome.BadRelation key fault)
           (fault ≢ why.Memory) c.bad_relation.ensures (λ other. refl) tt;

@@ -1,10 +1,10 @@
-use Rattle.std.proofs.Common.{◌∙◌, sym, subst, arith, List, ℕ, suc, take, drop}
+use Rattle.std.proofs.Common.{◌≡◌, ◌∙◌, refl, sym, subst, arith, List, [], ◌∷◌, ◌++◌, ℕ, suc, take, drop}
 use Rattle.myria_top.specs.FileNames.{file_name_of}
 use Rattle.rel_io.specs.Outside.{Content}
 use Rattle.std.specs.Prelude.{Contains}
 use Rattle.myria_top.specs.Reading.{AgreesRefused}
 use Rattle.myria_top.specs.Runs.{files_verdict, relation_verdict, IsFileOf}
-use Rattle.myria_top.proofs.FetchLemmas.{new_key, split_at}
+use Rattle.myria_top.proofs.FetchLemmas.{new_key, one_more_fetched, one_more_key, one_more_read, split_at}
 use Rattle.myria_top.proofs.VerdictLemmas.{files_refused, HasCause-part}
 use Rattle.myria_top.proofs.reading.read_files.Goals as goal
 
@@ -46,3 +46,32 @@ pub add_file-requires-clause-new_key : goal.add_file-requires-clause-new_key
 add_file-requires-clause-new_key g c =
     new_key c.as_slice-fetch-items.result.now c.loop-fetch.fetch-index c.fetch-item.result c.loop-fetch.files
     (rw c.as_slice-fetch-items.ensures.value c.requires) c.loop-fetch-test.true c.fetch-item.is c.loop-fetch.invariant.keys
+
+pub loop-fetch-preserved : goal.loop-fetch-preserved
+loop-fetch-preserved g c =
+    let content = g.F.Shelf.content c.args.shelf.now in
+    let fetches = c.as_slice-fetch-items.result.now in
+    let fetch = c.fetch-item.result in
+    let i = c.loop-fetch.fetch-index in
+    let kept = c.loop-fetch.invariant in
+    let read = c.in-Ok.ensures.read in
+    let relation = c.in-Ok.relation in
+    let grown : c.add_file.new.files ≡ c.loop-fetch.files ++ (fetch.key, relation) ∷ [] = rw c.in_default.is at c.add_file.ensures in
+    record {
+      read =
+          one_more_read content _ fetches i fetch c.loop-fetch.files c.add_file.new.files relation c.loop-fetch-test.true c.fetch-item.is
+          kept.content kept.read read.agrees grown;
+      keys = one_more_key fetches i fetch c.loop-fetch.files c.add_file.new.files relation c.loop-fetch-test.true c.fetch-item.is kept.keys grown;
+      formed =
+          one_more_fetched fetches c.loop-fetch.files c.add_file.new.files (fetch.key, relation) kept.formed
+          (record {
+            fetch = fetch;
+            is_one = (i, c.loop-fetch-test.true, sym c.fetch-item.is);
+            key = refl;
+            formed = c.in-Ok.ensures.formed;
+            typed = c.in-Ok.ensures.typed;
+          }) grown;
+      content = c.in-Ok.ensures.content ∙ kept.content;
+      faults = omega (arith, kept.faults, read.kept.faults);
+      misses = omega (arith, kept.misses, read.kept.misses);
+    }

@@ -5,6 +5,9 @@ use Rattle.myria_top.specs.Headline.{IsAskedOf, the_script}
 use Rattle.myria_top.specs.Reading.{script_name}
 use Rattle.myria_top.specs.Verdicts.{refused}
 use Rattle.myria_top.specs.Runs.{unnamed}
+use Rattle.term_runs.proofs.TapLemmas.{fair-none}
+use Rattle.myria_top.specs.inner.Working.{text_of}
+use Rattle.myria_top.proofs.MoveLemmas.{carried-ok, moved-of_words}
 use Rattle.myria_top.proofs.RunLemmas.{script_refuses, reads_on}
 use Rattle.myria_top.proofs.VerdictLemmas.{HasCause-part, within_itself}
 use Rattle.myria_top.proofs.run.prepared.Goals as goal
@@ -45,7 +48,7 @@ returns-clause-read g c =
     let read = c.in-Ok.ensures.read in
     let run = c.prepared_script.ensures.read in
     let same : g.F.Shelf.content c.read_script.new.shelf ≡ content = c.in-Ok.ensures.content in
-    reads_on words content name named script (g.F.Shelf.content c.read_script.new.shelf) _ _ c.prepared_script.result read.agrees same
+    reads_on words content name named script (g.F.Shelf.content c.read_script.new.shelf) _ _ (text_of c.prepared_script.result) read.agrees same
     (record {
       faults_from = read.kept.faults;
       faults_on = run.kept.faults;
@@ -55,3 +58,17 @@ returns-clause-read g c =
       misses_to = omega arith;
     })
     run
+
+pub returns-in_default-clause-fair : goal.returns-in_default-clause-fair
+returns-in_default-clause-fair g c = fair-none g.T.Tap.totals g.T.Tap.tag _
+
+pub returns-in-Err-clause-fair : goal.returns-in-Err-clause-fair
+returns-in-Err-clause-fair g c = fair-none g.T.Tap.totals g.T.Tap.tag _
+
+pub returns-clause-moved : goal.returns-clause-moved
+returns-clause-moved g c =
+    let content = g.F.Shelf.content c.args.shelf.now in
+    carried-ok c.prepared_script.result
+    (λ made. moved-of_words g.T.Tap.totals g.T.Tap.tag c.args.taps.now.items c.prepared_script.new.taps.items made.receipts
+    c.args.words.now content (g.F.Shelf.content c.read_script.new.shelf) c.in-Some.name.now (trees_of c.in-Ok.script)
+    (sym c.in-Some.ensures) c.in-Ok.ensures.content c.in-Ok.ensures.read.agrees) c.prepared_script.ensures.moved

@@ -1,9 +1,8 @@
--- the text so far is that of the relations so far
+-- the text so far is that of the stores so far
 use Rattle.std.proofs.Common.{◌≡◌, take}
 use Rattle.std.specs.List.{flat_map}
-use Rattle.rel_base.specs.Keys.{File}
-use Rattle.myria_top.specs.OutputText.{relation_text_in_order}
+use Rattle.myria_top.proofs.StoreLemmas.{text_of_store}
 use Rattle.myria_top.proofs.pieces.Pieces.of_stored.Given as goal
 
-abbrev pub invariant-loop-key : goal.invariant-loop-key
-invariant-loop-key l = l.pieces ≡ flat_map (λ (file : File). relation_text_in_order file.0 file.1) (take l.key-index l.key-items)
+abbrev pub invariant-loop-store : goal.invariant-loop-store
+invariant-loop-store g l = l.pieces ≡ flat_map text_of_store (take l.store-index l.store-items)

@@ -1,0 +1,3 @@
+-- Words of private functions, lowest first.
+pub mod Stores
+pub mod Working
