@@ -1,5 +1,5 @@
 -- Terms of steps, run over what is held.
-use Rattle.std.proofs.Common.{◌≡◌, ℕ, ◌+◌, ◌<◌, ◌≤◌, ◌++◌, List, [], ◌∷◌, map, length, refl, sym, ap, subst, ◌∙◌, Result, Ok, Err, Option, Some, None, if◌then◌else◌, arith, length-append}
+use Rattle.std.proofs.Common.{◌≡◌, ℕ, ◌+◌, ◌≤◌, ◌++◌, List, [], ◌∷◌, map, length, refl, sym, ap, subst, ◌∙◌, Result, Ok, Option, Some, None, if◌then◌else◌, arith, length-append}
 use Rattle.std.specs.Prelude.{All, OnOk, slice_index_or}
 use Rattle.std.proofs.lemmas.Bool.{le-ltb}
 use Rattle.rel_base.specs.Limits.{most_rows}
@@ -9,7 +9,7 @@ use Rattle.rel_io.specs.declared.taps.Totals.{Totals}
 use Rattle.myrial_ast.specs.Bags.{distinct, difference}
 use Rattle.myrial_ast.specs.CandidateFaults.{too_many}
 use Rattle.myrial_ast.specs.Combinations.{Row, Rows}
-use Rattle.myrial_ast.specs.Groups.{Kinds, groups}
+use Rattle.myrial_ast.specs.Groups.{groups}
 use Rattle.algebra.specs.CheckedTrees.{term_tree_of}
 use Rattle.algebra.specs.Meanings.{shape_fault, sources_of}
 use Rattle.algebra.specs.ShapeTrees.{shape_tree_of}
@@ -46,11 +46,11 @@ pub join-known : (held : Held) (t : Term) (shape : JoinShape) (sources : List So
     → All (IsHeld held) (sources_of (term_tree_of t)) → All (IsHeld held) sources
 join-known held t shape sources e h = subst (λ u. All (IsHeld held) (sources_of (term_tree_of u))) e h
 
-pub group-known : (held : Held) (t : Term) (shape : JoinShape) (sources : List Source) (kinds : List EmitKind) → t ≡ term.Group shape sources kinds
-    → All (IsHeld held) (sources_of (term_tree_of t)) → All (IsHeld held) sources
+pub group-known : (held : Held) (t : Term) (shape : JoinShape) (sources : List Source) (kinds : List EmitKind)
+    → t ≡ term.Group shape sources kinds → All (IsHeld held) (sources_of (term_tree_of t)) → All (IsHeld held) sources
 group-known held t shape sources kinds e h = subst (λ u. All (IsHeld held) (sources_of (term_tree_of u))) e h
 
--- of a `unionall` there is a list for each worker
+-- of each operand of a `unionall` there is a list for each worker
 pub left-long : (held : Held) (n : ℕ) (t : Term) (left right : Source) → t ≡ term.UnionAll left right
     → All (λ o. length (parts_held held o) ≡ n) (sources_of (term_tree_of t)) → length (parts_held held left) ≡ n
 left-long held n t left right e h =
@@ -123,7 +123,8 @@ module _ {T : Type 0} (s : Settings) (number : ℕ) (held : Held) (totals : T �
 
   -- a run that made rows, whatever its fault would have been
   pub made-alike : {F : Type 0} (parts : List Rows) (exchanges : List PlacedExchange) (own : Option RunFault) (IsFault : F → Type 0)
-      (before after : List T) (made : Moved) → own ≡ None → IsTermRun s number parts exchanges totals tag IsFault before after (Ok made)
+      (before after : List T) (made : Moved) → own ≡ None
+      → IsTermRun s number parts exchanges totals tag IsFault before after (Ok made)
       → IsTold s number parts exchanges own totals tag before after (Ok made)
   made-alike parts exchanges own IsFault before after made sound run = record {
     run = run-made s number parts exchanges totals tag (IsRunFault own) before after made run.fair run.ok.0 run.ok.1;
@@ -153,7 +154,12 @@ module _ {T : Type 0} (s : Settings) (number : ℕ) (held : Held) (totals : T �
         (rested (by_worker s.workers (λ w. slice_index_or own w [] ++ slice_index_or other w []))
         (if too_many (together own ++ together other) then Some (fault.TooManyRows number) else None) taps made
         (few-united number (together own) (together other)
-        (omega (arith, few, ap (λ (l : List Rows). length (together l)) is_left, ap (λ (l : List Rows). length (together l)) is_right)))
+        (omega (
+          arith,
+          few,
+          ap (λ (l : List Rows). length (together l)) is_left,
+          ap (λ (l : List Rows). length (together l)) is_right,
+        )))
         (is
         ∙ (λ i. by_worker (length (is_left i)) (λ w. slice_index_or (is_left i) w [] ++ slice_index_or (is_right i) w []))
         ∙ ap (λ n. by_worker n (λ w. slice_index_or own w [] ++ slice_index_or other w [])) long)
@@ -171,75 +177,90 @@ module _ {T : Type 0} (s : Settings) (number : ℕ) (held : Held) (totals : T �
         let parts : List Rows → List Rows → List Rows = λ l r. parts_by_row p (difference (together l) (together r)) in
         let exchanges : List Rows → List Rows → List PlacedExchange =
         λ l r. row_exchange p exchange.Diff (placed_rows l ∷ placed_rows r ∷ []) (parts l r) ∷ [] in
+        let told : List Rows → List Rows → Type 0 =
+        λ l r. IsTold s number (parts l r) (exchanges l r) None totals tag before after (Ok made) in
         subst (λ u. Runs u before after (Ok made)) (sym e)
-        (subst (λ (l : List Rows). IsTold s number (parts l (parts_held held right)) (exchanges l (parts_held held right)) None totals tag before after (Ok made)) is_left
-        (subst (λ (r : List Rows). IsTold s number (parts a r) (exchanges a r) None totals tag before after (Ok made)) is_right
+        (subst (λ (l : List Rows). told l (parts_held held right)) is_left
+        (subst (λ (r : List Rows). told a r) is_right
         (made-alike (parts a b) (exchanges a b) None IsFault before after made refl run)))
 
     pub distinct-run : {F : Type 0} (IsFault : F → Type 0) (source : Source) → t ≡ term.Distinct source → (a : List Rows)
         → a ≡ parts_held held source → (before after : List T) (made : Moved)
         → IsTermRun s number (parts_by_row (usual_placing s) (distinct (together a)))
-        (row_exchange (usual_placing s) exchange.Distinct (placed_rows a ∷ []) (parts_by_row (usual_placing s) (distinct (together a))) ∷ [])
+        (row_exchange (usual_placing s) exchange.Distinct (placed_rows a ∷ [])
+        (parts_by_row (usual_placing s) (distinct (together a))) ∷ [])
         totals tag IsFault before after (Ok made)
         → Runs t before after (Ok made)
     distinct-run IsFault source e a is_source before after made run =
         let p = usual_placing s in
         let parts : List Rows → List Rows = λ l. parts_by_row p (distinct (together l)) in
-        let exchanges : List Rows → List PlacedExchange = λ l. row_exchange p exchange.Distinct (placed_rows l ∷ []) (parts l) ∷ [] in
+        let exchanges : List Rows → List PlacedExchange =
+        λ l. row_exchange p exchange.Distinct (placed_rows l ∷ []) (parts l) ∷ [] in
         subst (λ u. Runs u before after (Ok made)) (sym e)
         (subst (λ (l : List Rows). IsTold s number (parts l) (exchanges l) None totals tag before after (Ok made)) is_source
         (made-alike (parts a) (exchanges a) None IsFault before after made refl run))
 
-    pub join-run : (shape : JoinShape) (sources : List Source) → t ≡ term.Join shape sources → (parts : List (List Rows))
-        → parts ≡ map (parts_held held) sources → (before after : List T) (answer : Result Moved RunFault)
-        → IsStepJoin s number (shape_tree_of shape) parts totals tag before after answer → Runs t before after answer
-    join-run shape sources e parts are before after answer run =
-        let p = usual_placing s in
-        let tree = shape_tree_of shape in
-        let told : List PlacedRelation → List Rows → Type 0 =
-        λ items given. IsTold s number (listed_parts p number tree items) (join_exchanges p number tree items)
-        (shape_fault (prefixes_of s.shuffle) number tree [] given) totals tag before after answer in
-        subst (λ u. Runs u before after answer) (sym e)
-        (subst (λ (given : List Rows). told (map (value_held held) sources) given) (rows-held held sources)
-        (subst (λ (items : List PlacedRelation). told items (rows_of items)) (ap placed_items are ∙ items-held held sources) run))
+    -- a join that is the term's own, over the rows of its sources
+    module _ (sources : List Source) (shape drawn : JoinShape) (own : ℕ) (parts : List (List Rows)) (is_own : own ≡ number)
+        (is_drawn : drawn ≡ shape) (are : parts ≡ map (parts_held held) sources) where
+      pub join-run : t ≡ term.Join shape sources → (before after : List T) (answer : Result Moved RunFault)
+          → IsStepJoin s own (shape_tree_of drawn) parts totals tag before after answer → Runs t before after answer
+      join-run e before after answer run =
+          let p = usual_placing s in
+          let told : ℕ → JoinShape → List PlacedRelation → List Rows → Type 0 =
+          λ n x items given. IsTold s n (listed_parts p n (shape_tree_of x) items) (join_exchanges p n (shape_tree_of x) items)
+          (shape_fault (prefixes_of s.shuffle) n (shape_tree_of x) [] given) totals tag before after answer in
+          subst (λ u. Runs u before after answer) (sym e)
+          (subst (λ (given : List Rows). told number shape (map (value_held held) sources) given) (rows-held held sources)
+          (subst (λ (items : List PlacedRelation). told number shape items (rows_of items))
+          (ap placed_items are ∙ items-held held sources)
+          (subst (λ (x : JoinShape). told number x (placed_items parts) (rows_of (placed_items parts))) is_drawn
+          (subst (λ (n : ℕ). told n drawn (placed_items parts) (rows_of (placed_items parts))) is_own run))))
 
-    pub join-lines : (shape : JoinShape) (sources : List Source) → t ≡ term.Join shape sources → (parts : List (List Rows))
-        → parts ≡ map (parts_held held) sources → (answer : Result Moved RunFault) (lines more : List PlanNote)
-        → OnOk answer (more ≡ lines ++ join_notes (usual_placing s) s.local number (shape_tree_of shape) (placed_items parts))
-        → OnOk answer (more ≡ lines ++ term_notes (usual_placing s) s.local number (value_held held) (term_tree_of t))
-    join-lines shape sources e parts are answer lines more h =
-        subst (λ u. OnOk answer (more ≡ lines ++ term_notes (usual_placing s) s.local number (value_held held) (term_tree_of u))) (sym e)
-        (subst (λ (items : List PlacedRelation). OnOk answer
-        (more ≡ lines ++ join_notes (usual_placing s) s.local number (shape_tree_of shape) items))
-        (ap placed_items are ∙ items-held held sources) h)
+      pub join-lines : t ≡ term.Join shape sources → (answer : Result Moved RunFault) (lines more : List PlanNote)
+          → OnOk answer (more ≡ lines ++ join_notes (usual_placing s) s.local own (shape_tree_of drawn) (placed_items parts))
+          → OnOk answer (more ≡ lines ++ term_notes (usual_placing s) s.local number (value_held held) (term_tree_of t))
+      join-lines e answer lines more h =
+          let told : ℕ → JoinShape → List PlacedRelation → Type 0 =
+          λ n x items. OnOk answer (more ≡ lines ++ join_notes (usual_placing s) s.local n (shape_tree_of x) items) in
+          subst (λ u. OnOk answer (more ≡ lines ++ term_notes (usual_placing s) s.local number (value_held held) (term_tree_of u)))
+          (sym e)
+          (subst (λ (items : List PlacedRelation). told number shape items) (ap placed_items are ∙ items-held held sources)
+          (subst (λ (x : JoinShape). told number x (placed_items parts)) is_drawn
+          (subst (λ (n : ℕ). told n drawn (placed_items parts)) is_own h)))
 
-    pub group-run : (shape : JoinShape) (sources : List Source) (emits : List EmitKind) → t ≡ term.Group shape sources emits
-        → (parts : List (List Rows)) → parts ≡ map (parts_held held) sources → (before after : List T)
-        (answer : Result Moved RunFault)
-        → IsStepGroup s number (shape_tree_of shape) (map kind_of_emit emits) parts totals tag before after answer
-        → Runs t before after answer
-    group-run shape sources emits e parts are before after answer run =
-        let p = usual_placing s in
-        let tree = shape_tree_of shape in
-        let kinds = map kind_of_emit emits in
-        let made : List Rows → List Rows = λ given. parts_by_key p kinds (groups kinds (listed_of tree given)) in
-        let told : List PlacedRelation → List Rows → Type 0 =
-        λ items given. IsTold s number (made given)
-        (join_exchanges p number tree items ++ group_exchange p kinds (listed_parts p number tree items) (made given) ∷ [])
-        (shape_fault (prefixes_of s.shuffle) number tree kinds given) totals tag before after answer in
-        subst (λ u. Runs u before after answer) (sym e)
-        (subst (λ (given : List Rows). told (map (value_held held) sources) given) (rows-held held sources)
-        (subst (λ (items : List PlacedRelation). told items (rows_of items)) (ap placed_items are ∙ items-held held sources) run))
+      module _ (emits : List EmitKind) (e : t ≡ term.Group shape sources emits) where
+        pub group-run : (before after : List T) (answer : Result Moved RunFault)
+            → IsStepGroup s own (shape_tree_of drawn) (map kind_of_emit emits) parts totals tag before after answer
+            → Runs t before after answer
+        group-run before after answer run =
+            let p = usual_placing s in
+            let kinds = map kind_of_emit emits in
+            let made : JoinShape → List Rows → List Rows =
+            λ x given. parts_by_key p kinds (groups kinds (listed_of (shape_tree_of x) given)) in
+            let told : ℕ → JoinShape → List PlacedRelation → List Rows → Type 0 =
+            λ n x items given. IsTold s n (made x given)
+            (join_exchanges p n (shape_tree_of x) items
+            ++ group_exchange p kinds (listed_parts p n (shape_tree_of x) items) (made x given) ∷ [])
+            (shape_fault (prefixes_of s.shuffle) n (shape_tree_of x) kinds given) totals tag before after answer in
+            subst (λ u. Runs u before after answer) (sym e)
+            (subst (λ (given : List Rows). told number shape (map (value_held held) sources) given) (rows-held held sources)
+            (subst (λ (items : List PlacedRelation). told number shape items (rows_of items))
+            (ap placed_items are ∙ items-held held sources)
+            (subst (λ (x : JoinShape). told number x (placed_items parts) (rows_of (placed_items parts))) is_drawn
+            (subst (λ (n : ℕ). told n drawn (placed_items parts) (rows_of (placed_items parts))) is_own run))))
 
-    pub group-lines : (shape : JoinShape) (sources : List Source) (emits : List EmitKind) → t ≡ term.Group shape sources emits
-        → (parts : List (List Rows)) → parts ≡ map (parts_held held) sources → (answer : Result Moved RunFault)
-        (lines more : List PlanNote)
-        → OnOk answer (more ≡ lines ++ (join_notes (usual_placing s) s.local number (shape_tree_of shape) (placed_items parts)
-        ++ group_note (map kind_of_emit emits) ∷ []))
-        → OnOk answer (more ≡ lines ++ term_notes (usual_placing s) s.local number (value_held held) (term_tree_of t))
-    group-lines shape sources emits e parts are answer lines more h =
-        subst (λ u. OnOk answer (more ≡ lines ++ term_notes (usual_placing s) s.local number (value_held held) (term_tree_of u))) (sym e)
-        (subst (λ (items : List PlacedRelation). OnOk answer
-        (more ≡ lines ++ (join_notes (usual_placing s) s.local number (shape_tree_of shape) items
-        ++ group_note (map kind_of_emit emits) ∷ [])))
-        (ap placed_items are ∙ items-held held sources) h)
+        pub group-lines : (answer : Result Moved RunFault) (lines more : List PlanNote)
+            → OnOk answer (more ≡ lines ++ (join_notes (usual_placing s) s.local own (shape_tree_of drawn) (placed_items parts)
+            ++ group_note (map kind_of_emit emits) ∷ []))
+            → OnOk answer (more ≡ lines ++ term_notes (usual_placing s) s.local number (value_held held) (term_tree_of t))
+        group-lines answer lines more h =
+            let told : ℕ → JoinShape → List PlacedRelation → Type 0 =
+            λ n x items. OnOk answer
+            (more ≡ lines ++ (join_notes (usual_placing s) s.local n (shape_tree_of x) items
+            ++ group_note (map kind_of_emit emits) ∷ [])) in
+            subst (λ u. OnOk answer
+            (more ≡ lines ++ term_notes (usual_placing s) s.local number (value_held held) (term_tree_of u))) (sym e)
+            (subst (λ (items : List PlacedRelation). told number shape items) (ap placed_items are ∙ items-held held sources)
+            (subst (λ (x : JoinShape). told number x (placed_items parts)) is_drawn
+            (subst (λ (n : ℕ). told n drawn (placed_items parts)) is_own h)))

@@ -2,7 +2,6 @@
 ghost use Rattle.std.specs.Prelude.{◌≡◌, ◌*◌, ◌≤◌, ◌++◌, [], ◌∷◌, OnOk, length, vec_len};
 ghost use Rattle.algebra.specs.CheckedTrees.{step_tree_of, term_tree_of};
 ghost use Rattle.algebra.specs.Rewriting.{IsSameTerm};
-ghost use Rattle.placement.specs.Layouts.{together};
 ghost use Rattle.placement.specs.Plans.{plan_kind};
 ghost use Rattle.engine.specs.inner.Held.{IsRunnable};
 ghost use Rattle.engine.specs.inner.Steps.{IsStep};
@@ -20,7 +19,8 @@ use std::sync::Wait;
 use std::thread::Threads;
 use term_runs::Moved;
 
-/// Runs a step over what is held, holds its result, and notes what it did. It may wait as long as its threads do.
+/// Runs a step over what is held, holds its result, and notes what it did. It may wait as long as
+/// its threads do.
 pub(crate) fn run_step<R: Threads + Wait + Sync, T: Tap + Send>(
     rt: &R,
     alloc: Global,
@@ -32,10 +32,11 @@ pub(crate) fn run_step<R: Threads + Wait + Sync, T: Tap + Send>(
 ) -> Result<(), RunFault>
     requires runnable { IsRunnable settings.now.workers (length run.now.step.now.schema) held.old
         (term_tree_of run.now.step.now.term) }
-    requires same { IsSameTerm (term_tree_of run.now.step.now.term) (term_tree_of run.now.pushed.now.term) }
+    requires same { IsSameTerm (term_tree_of run.now.step.now.term)
+        (term_tree_of run.now.pushed.now.term) }
     requires taps { 2 * settings.now.workers ≤ vec_len taps.old }
-    ensures { IsStep settings.now (step_tree_of run.now.step.now) held.old held.new noted.old noted.new
-        T.totals T.tag taps.old.items taps.new.items result }
+    ensures { IsStep settings.now (step_tree_of run.now.step.now) held.old held.new noted.old
+        noted.new T.totals T.tag taps.old.items taps.new.items result }
 {
     let mut lines = PlanNotes::new(alloc);
     let Moved {

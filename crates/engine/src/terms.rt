@@ -1,19 +1,19 @@
 //! The terms of steps.
-ghost use Rattle.std.specs.Prelude.{◌≡◌, ◌*◌, ◌+◌, ◌≤◌, ◌++◌, [], OnOk, IfOk, IfErr, length, vec_len, slice_index_or};
+ghost use Rattle.std.specs.Prelude.{◌≡◌, ◌*◌, ◌+◌, ◌≤◌, ◌++◌, [], All, OnOk, IfOk, IfErr, length, map, vec_len, slice_index_or};
 ghost use Rattle.rel_base.specs.Limits.{most_rows};
 ghost use Rattle.algebra.specs.CheckedTrees.{term_tree_of};
 ghost use Rattle.algebra.specs.Rewriting.{IsSameTerm};
 ghost use Rattle.placement.specs.Layouts.{by_worker, together};
 ghost use Rattle.placement.specs.Plans.{usual_placing, term_notes};
-ghost use Rattle.engine.specs.inner.Held.{IsRunnable, value_held};
+ghost use Rattle.engine.specs.inner.Held.{IsHeld, IsRunnable, parts_held, value_held};
 ghost use Rattle.engine.specs.inner.Terms.{IsStepRun, IsUnionFault};
 
 use crate::groups::run_step_group;
 use crate::held::Held;
 use crate::joins::{StepJoin, at_rest, rows_in, run_step_join};
-use algebra::{PlanNotes, Settings, Step, Term};
-use keyed_terms::{empty_parts, run_diff, run_distinct, union_parts};
-use rel_base::{Duplicate, MOST_ROWS, RunFault, Spread};
+use algebra::{JoinShape, PlanNotes, Settings, Sources, Step, Term};
+use keyed_terms::{Operands, empty_parts, run_diff, run_distinct, union_parts};
+use rel_base::{Duplicate, MOST_ROWS, Memory, RunFault, Spread};
 use rel_io::Tap;
 use std::alloc::Global;
 use std::sync::Wait;
@@ -29,8 +29,8 @@ pub(crate) struct RunStep<'a> {
     pub(crate) pushed: &'a Step,
 }
 
-/// Runs the term of a step over what is held, and adds the lines below the step's own to the plan. It may wait as long as its
-/// threads do.
+/// Runs the term of a step over what is held, and adds the lines below the step's own to the plan.
+/// It may wait as long as its threads do.
 pub(crate) fn run_term<R: Threads + Wait + Sync, T: Tap + Send>(
     rt: &R,
     alloc: Global,
@@ -42,7 +42,8 @@ pub(crate) fn run_term<R: Threads + Wait + Sync, T: Tap + Send>(
 ) -> Result<Moved, RunFault>
     requires runnable { IsRunnable settings.now.workers (length run.now.step.now.schema) held.now
         (term_tree_of run.now.step.now.term) }
-    requires same { IsSameTerm (term_tree_of run.now.step.now.term) (term_tree_of run.now.pushed.now.term) }
+    requires same { IsSameTerm (term_tree_of run.now.step.now.term)
+        (term_tree_of run.now.pushed.now.term) }
     requires taps { 2 * settings.now.workers ≤ vec_len taps.old }
     ensures run { IsStepRun settings.now run.now.step.now.statement (value_held held.now)
         (term_tree_of run.now.step.now.term) T.totals T.tag taps.old.items taps.new.items result }
@@ -55,13 +56,19 @@ pub(crate) fn run_term<R: Threads + Wait + Sync, T: Tap + Send>(
         (Term::Same(source), _) => Ok(at_rest(alloc, held.parts_of(*source).copy(alloc)?)),
         (Term::Empty, _) => Ok(at_rest(alloc, empty_parts(alloc, settings.workers)?)),
         (Term::UnionAll(left, right), _) => {
-            let parts = united(alloc, statement, held.parts_of(*left), held.parts_of(*right))?;
+            let parts = united(
+                alloc,
+                statement,
+                held.parts_of(*left),
+                held.parts_of(*right),
+            )?;
             Ok(at_rest(alloc, parts))
         }
         (Term::Diff(left, right), _) => {
             let width = run.step.schema.len();
             let (left, right) = (held.parts_of(*left), held.parts_of(*right));
-            let moved = run_diff(rt, alloc, statement, left, right, width, settings, taps)?;
+            let operands = Operands { left, right, width };
+            let moved = run_diff(rt, alloc, statement, &operands, settings, taps)?;
             Ok(moved)
         }
         (Term::Distinct(source), _) => {
@@ -71,40 +78,48 @@ pub(crate) fn run_term<R: Threads + Wait + Sync, T: Tap + Send>(
             Ok(moved)
         }
         (Term::Join(shape, sources), Term::Join(pushed, _)) => {
-            let parts = held.parts_of_each(alloc, sources)?;
-            let join = StepJoin {
-                statement,
-                shape,
-                pushed,
-                parts,
-            };
+            let join = join_over(alloc, held, statement, shape, pushed, sources)?;
             run_step_join(rt, alloc, &join, settings, lines, taps)
         }
         (Term::Group(shape, sources, kinds), Term::Group(pushed, _, _)) => {
-            let parts = held.parts_of_each(alloc, sources)?;
-            let join = StepJoin {
-                statement,
-                shape,
-                pushed,
-                parts,
-            };
+            let join = join_over(alloc, held, statement, shape, pushed, sources)?;
             run_step_group(rt, alloc, &join, kinds, settings, lines, taps)
         }
         _ => unreachable!(),
     }
 }
 
-/// The rows of both operands, worker by worker, where they aren't too many.
-fn united(
+/// A join over the rows that are held for its sources.
+fn join_over<'a>(
     alloc: Global,
+    held: &Held,
     statement: u32,
-    left: &Spread,
-    right: &Spread,
-) -> Result<Spread, RunFault>
+    shape: &'a JoinShape,
+    pushed: &'a JoinShape,
+    sources: &Sources,
+) -> Result<StepJoin<'a>, Memory>
+    requires { All (IsHeld held.now) sources.now }
+    ensures statement { IfOk result (λ made. made.statement ≡ statement) }
+    ensures shape { IfOk result (λ made. made.shape.now ≡ shape.now) }
+    ensures pushed { IfOk result (λ made. made.pushed.now ≡ pushed.now) }
+    ensures parts { IfOk result (λ made. made.parts ≡ map (parts_held held.now) sources.now) }
+{
+    let parts = held.parts_of_each(alloc, sources)?;
+    Ok(StepJoin {
+        statement,
+        shape,
+        pushed,
+        parts,
+    })
+}
+
+/// The rows of both operands, worker by worker, where they aren't too many.
+fn united(alloc: Global, statement: u32, left: &Spread, right: &Spread) -> Result<Spread, RunFault>
     requires { length left.now ≡ length right.now }
     ensures ok { IfOk result (λ made. made ≡ by_worker (length left.now)
         (λ w. slice_index_or left.now w [] ++ slice_index_or right.now w [])) }
-    ensures few { OnOk result (length (together left.now) + length (together right.now) ≤ most_rows) }
+    ensures few { OnOk result
+        (length (together left.now) + length (together right.now) ≤ most_rows) }
     ensures err { IfErr result (IsUnionFault statement
         (length (together left.now) + length (together right.now))) }
 {
