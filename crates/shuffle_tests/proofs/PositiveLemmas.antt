@@ -1,6 +1,6 @@
 -- Numbers above 0 are kept.
 use Rattle.std.proofs.Common.{◌≡◌, ◌∙◌, ℕ, zero, suc, ◌<◌, Bool, true, false, List, [], ◌∷◌, length, map, get_or, All, refl, sym, ap, subst, arith}
-use Rattle.std.specs.Prelude.{filter, ◌&&◌}
+use Rattle.std.specs.Prelude.{◌&&◌}
 use Rattle.std.specs.Ordering.{is_eq}
 use Rattle.std.proofs.lemmas.List.{length-map}
 use Rattle.std.proofs.lemmas.List.Elements.{filter_agree, All-nil, All-cons}
@@ -16,7 +16,7 @@ use Rattle.kept_rows.specs.KeptTests.{is_kept}
 use Rattle.worker_joins.specs.RouteJoins.{ArePartsAtWorkers}
 use Rattle.join_runs.specs.KeptSpreads.{AreTypedParts, kept_spreads}
 use Rattle.join_runs.proofs.KeepLemmas.{kept-parts}
-use Rattle.shuffle_tests.specs.inner.Numbers.{number_kinds, is_positive, positive_atom, ListsPositive, AreNumbers}
+use Rattle.shuffle_tests.specs.inner.Numbers.{is_positive, positive_atom, ListsPositive, AreNumbers}
 
 abbrev of_positives : List Scalar → List Scalar → Shape
 of_positives arith emits = record { atoms = positive_atom ∷ []; variables = []; plain = []; arith = arith; emits = emits }
