@@ -4,3 +4,4 @@ pub mod FaultLemmas
 pub mod JoinLemmas
 pub mod GroupLemmas
 pub mod TermLemmas
+pub mod RunLemmas

@@ -7,7 +7,11 @@ use rel_base::{Files, Items, Memory, Relation, Spread};
 use std::alloc::Global;
 
 /// The rows of each file, dealt to the workers in turn. No shared row is copied.
-pub(crate) fn dealt_files(alloc: Global, files: &Files, workers: u32) -> Result<Items<Spread>, Memory>
+pub(crate) fn dealt_files(
+    alloc: Global,
+    files: &Files,
+    workers: u32,
+) -> Result<Items<Spread>, Memory>
     requires { 1 ≤ workers }
     ensures { IfOk result (λ made. made
         ≡ map (λ (f : File). (placed_file workers f.1).parts) files.now) }

@@ -40,10 +40,7 @@ impl Held {
         ensures { option_copied result
             ≡ find (λ (r : ℕ × List Rows). r.0 == number) self.now.results }
     {
-        self.results
-            .as_slice()
-            .iter()
-            .find(|held| held.0 == number)
+        self.results.as_slice().iter().find(|held| held.0 == number)
     }
 
     /// The rows of each of some sources; no shared row is copied.

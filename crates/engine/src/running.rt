@@ -1,18 +1,18 @@
 //! The run of a checked script.
-ghost use Rattle.std.specs.Prelude.{◌≡◌, ◌==◌, All, IsTrue, Some, None, IfOk, IfSome, IsNone, find, vec_len};
+ghost use Rattle.std.specs.Prelude.{◌≡◌, ◌==◌, All, IsTrue, IfOk, IfErr, map, find, vec_len};
+ghost use Rattle.std.specs.Option.{option_copied};
 ghost use Rattle.rel_base.specs.Limits.{taps as tap_count};
-ghost use Rattle.algebra.specs.CheckedTrees.{checked_tree_of, step_tree_of};
+ghost use Rattle.algebra.specs.CheckedTrees.{checked_tree_of};
 ghost use Rattle.algebra.specs.Conditions.{is_of};
 ghost use Rattle.algebra.specs.Rewriting.{AreTyped};
-ghost use Rattle.algebra.specs.Trees.{StepTree};
-ghost use Rattle.algebra.specs.declared.settings.Settings.{Settings};
+ghost use Rattle.algebra.specs.declared.terms.Step.{Step};
 ghost use Rattle.algebra.specs.declared.terms.StoreStep.{StoreStep};
-ghost use Rattle.placement.specs.Layouts.{placed_stores};
-ghost use Rattle.placement.specs.Plans.{usual_placing};
-ghost use Rattle.run_laws.specs.Values.{meant, IsKnown};
-ghost use Rattle.engine.specs.Runs.{IsRun, IsStoredAt, AreStoredAt};
+ghost use Rattle.run_laws.specs.Values.{IsKnown};
+ghost use Rattle.run_laws.specs.Rewritten.{needed};
+ghost use Rattle.term_runs.specs.TermRuns.{AreFair};
+ghost use Rattle.engine.specs.Runs.{fault_of, IsRunFault, IsRun};
 ghost use Rattle.engine.specs.inner.Held.{IsHeld};
-ghost use Rattle.engine.specs.inner.Steps.{HoldsSource, HoldsStores};
+ghost use Rattle.engine.specs.inner.Steps.{AreRun, schema_at, held_store};
 
 use crate::dealing::dealt_files;
 use crate::held::Held;
@@ -28,10 +28,12 @@ use std::alloc::Global;
 use std::sync::Wait;
 use std::thread::Threads;
 
-/// Runs a checked script over its files, at so many workers as the settings say. It may wait as long as its threads do.
+/// Runs a checked script over its files, at so many workers as the settings say. It may wait as
+/// long as its threads do.
 ///
-/// Steps that no store needs aren't run. Tap `2w` is told the rows that worker `w` sends, and tap `2w + 1` those that it receives
-/// and lists; after another answer than Ok their sums may have risen.
+/// Steps that no store needs aren't run. Tap `2w` is told the rows that worker `w` sends, and tap
+/// `2w + 1` those that it receives and lists; after another answer than Ok their sums may have
+/// risen.
 pub fn run_script<R: Threads + Wait + Sync, T: Tap + Send>(
     rt: &R,
     alloc: Global,
@@ -43,22 +45,10 @@ pub fn run_script<R: Threads + Wait + Sync, T: Tap + Send>(
     requires of { IsTrue (is_of files.now (checked_tree_of checked.now)) }
     requires typed { AreTyped files.now }
     requires taps { vec_len taps.old ≡ tap_count }
-    ensures { IsRun settings.now files.now (checked_tree_of checked.now) T.totals T.tag taps.old.items
-        taps.new.items result }
+    ensures { IsRun settings.now files.now (checked_tree_of checked.now) T.totals T.tag
+        taps.old.items taps.new.items result }
 {
-    let planned = rewrite(alloc, checked)?;
-    let mut held = Held {
-        files: dealt_files(alloc, files, settings.workers)?,
-        results: Items::new(alloc),
-    };
-    let mut noted = Noted::new(alloc);
-    for pushed in planned.steps.as_slice() {
-        let Some(step) = step_of(checked, pushed.statement) else {
-            unreachable!()
-        };
-        let run = RunStep { step, pushed };
-        run_step(rt, alloc, &run, settings, &mut held, &mut noted, taps)?;
-    }
+    let (held, noted) = run_steps(rt, alloc, checked, files, settings, taps)?;
     let stored = stored_of(alloc, checked, files, &held)?;
     let Noted {
         plan,
@@ -73,12 +63,45 @@ pub fn run_script<R: Threads + Wait + Sync, T: Tap + Send>(
     })
 }
 
+/// Runs the steps that a store needs, one after another.
+fn run_steps<R: Threads + Wait + Sync, T: Tap + Send>(
+    rt: &R,
+    alloc: Global,
+    checked: &Checked,
+    files: &Files,
+    settings: &Settings,
+    taps: &mut Vec<T>,
+) -> Result<(Held, Noted), RunFault>
+    requires of { IsTrue (is_of files.now (checked_tree_of checked.now)) }
+    requires typed { AreTyped files.now }
+    requires taps { vec_len taps.old ≡ tap_count }
+    ensures fair { AreFair T.totals T.tag taps.old.items taps.new.items }
+    ensures ok { IfOk result (λ ran. AreRun settings.now files.now (checked_tree_of checked.now)
+        (needed (checked_tree_of checked.now)) ran.0 ran.1 T.totals T.tag
+        taps.old.items taps.new.items) }
+    ensures err { IfErr result (IsRunFault (fault_of settings.now files.now
+        (checked_tree_of checked.now))) }
+{
+    let planned = rewrite(alloc, checked)?;
+    let mut held = Held {
+        files: dealt_files(alloc, files, settings.workers)?,
+        results: Items::new(alloc),
+    };
+    let mut noted = Noted::new(alloc);
+    for pushed in planned.steps.as_slice() {
+        let Some(step) = step_of(checked, pushed.statement) else {
+            unreachable!()
+        };
+        let run = RunStep { step, pushed };
+        run_step(rt, alloc, &run, settings, &mut held, &mut noted, taps)?;
+    }
+    Ok((held, noted))
+}
+
 /// The step of this number, where there is one.
 fn step_of(checked: &Checked, statement: u32) -> Option<&Step>
-    ensures some { IfSome result (λ step. find (λ (s : StepTree). s.statement == statement)
-        (checked_tree_of checked.now).steps ≡ Some (step_tree_of step.now)) }
-    ensures none { IsNone result → find (λ (s : StepTree). s.statement == statement)
-        (checked_tree_of checked.now).steps ≡ None }
+    ensures { option_copied result
+        ≡ find (λ (s : Step). s.statement == statement) checked.now.steps }
 {
     checked
         .steps
@@ -95,10 +118,9 @@ fn stored_of(
     held: &Held,
 ) -> Result<SpreadStores, Memory>
     requires of { IsTrue (is_of files.now (checked_tree_of checked.now)) }
-    requires known { All (λ (t : StoreStep). IsKnown files.now (checked_tree_of checked.now).steps t.source) checked.now.stores }
     requires held { All (λ (t : StoreStep). IsHeld held.now t.source) checked.now.stores }
-    ensures { IfOk result (λ made. (s : Settings) → HoldsStores s files.now (checked_tree_of checked.now) held.now
-        → AreStoredAt made (placed_stores (usual_placing s) files.now (checked_tree_of checked.now))) }
+    ensures { IfOk result (λ made. made
+        ≡ map (held_store files.now (checked_tree_of checked.now) held.now) checked.now.stores) }
 {
     let mut stored = SpreadStores::with_capacity(alloc, checked.stores.len())?;
     for store in checked.stores.as_slice() {
@@ -116,11 +138,10 @@ fn stored_by(
     store: &StoreStep,
 ) -> Result<SpreadStore, Memory>
     requires of { IsTrue (is_of files.now (checked_tree_of checked.now)) }
-    requires known { IsKnown files.now (checked_tree_of checked.now).steps store.now.source }
+    requires known { IsKnown files.now (needed (checked_tree_of checked.now)) store.now.source }
     requires held { IsHeld held.now store.now.source }
-    ensures { IfOk result (λ made. (s : Settings)
-        → HoldsSource s files.now (checked_tree_of checked.now) held.now store.now.source
-        → IsStoredAt made (store.now.key, meant (usual_placing s) files.now (checked_tree_of checked.now) store.now.source)) }
+    ensures { IfOk result (λ made. made
+        ≡ held_store files.now (checked_tree_of checked.now) held.now store.now) }
 {
     let key = store.key.copy(alloc)?;
     let schema = schema_of(checked, files, store.source).copy(alloc)?;
@@ -131,9 +152,8 @@ fn stored_by(
 /// The columns of what a source stands for.
 fn schema_of<'a>(checked: &'a Checked, files: &'a Files, source: Source) -> &'a Schema
     requires of { IsTrue (is_of files.now (checked_tree_of checked.now)) }
-    requires known { IsKnown files.now (checked_tree_of checked.now).steps source }
-    ensures { (s : Settings) → result.now
-        ≡ (meant (usual_placing s) files.now (checked_tree_of checked.now) source).relation.schema }
+    requires known { IsKnown files.now (needed (checked_tree_of checked.now)) source }
+    ensures { result.now ≡ schema_at files.now (checked_tree_of checked.now) source }
 {
     match source {
         Source::File(place) => files.get(place).1.schema(),

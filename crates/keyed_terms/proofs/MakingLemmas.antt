@@ -1,9 +1,8 @@
 -- Rows that are made worker by worker.
-use Rattle.std.proofs.Common.{◌≡◌, ℕ, zero, suc, ◌+◌, ◌*◌, ◌^◌, ◌<◌, ◌≤◌, Bool, true, false, List, [], ◌∷◌, ◌++◌, length, get_or, refl, sym, ap, ◌∙◌, subst, arith, length-append, ⊎_elim}
-use Rattle.std.specs.Prelude.{◌&&◌, sum_by}
+use Rattle.std.proofs.Common.{◌≡◌, ℕ, zero, suc, ◌+◌, ◌*◌, ◌^◌, ◌<◌, ◌≤◌, Bool, true, false, List, [], ◌∷◌, ◌++◌, length, map, get_or, Result, Ok, Err, refl, inl, inr, sym, ap, ◌∙◌, subst, arith}
+use Rattle.std.specs.Prelude.{◌&&◌, sum_by, IfOk}
 use Rattle.std.specs.List.{list_all, range_with_len}
-use Rattle.std.proofs.lemmas.Bool.{cases_lt}
-use Rattle.std.proofs.lemmas.List.{get_or_append_left, get_or_default}
+use Rattle.std.proofs.lemmas.List.{get_or_default, get_or-map, length-map}
 use Rattle.std.proofs.lemmas.List.{map-id}
 use Rattle.std.proofs.lemmas.List.FromFn.{map-range_with_len_more}
 use Rattle.std.proofs.lemmas.List.Concat.{length-flat_map}
@@ -12,30 +11,13 @@ use Rattle.rel_base.specs.Bags.{SameBag}
 use Rattle.rel_base.specs.Limits.{most_workers}
 use Rattle.myrial_ast.specs.Combinations.{Rows}
 use Rattle.myrial_ast.specs.Groups.{Kinds}
-use Rattle.myrial_ast.specs.Partials.{partial_rows, merged}
+use Rattle.myrial_ast.specs.Partials.{merged}
+use Rattle.aggregate_ops.specs.Columns.{Overflows}
 use Rattle.aggregate_ops.specs.Forms.{merged_fits}
+use Rattle.aggregate_ops.specs.declared.faults.AggFault.{AggFault}
+use Rattle.aggregate_ops.specs.declared.faults.AggFault.TheVariants as fault
 use Rattle.placement.specs.Layouts.{together, by_worker}
-use Rattle.keyed_terms.specs.inner.Making.{AreMadeBy}
-
--- an item behind others
-pushed-at : {X : Type 0} (xs : List X) (x : X) (w : ℕ) (d : X) → w ≡ length xs → get_or (xs ++ x ∷ []) w d ≡ x
-pushed-at [] x w d at = ap (λ (j : ℕ). get_or (x ∷ []) j d) at
-pushed-at (y ∷ xs) x w d at = ap (λ (j : ℕ). get_or (y ∷ xs ++ x ∷ []) j d) at ∙ pushed-at xs x (length xs) d refl
-
--- one worker more
-pub more-made : (w : ℕ) (f : ℕ → Rows) (made : List Rows) (rows : Rows) → AreMadeBy w f made → SameBag (f w) rows → AreMadeBy (w + 1) f (made ++ rows ∷ [])
-more-made w f made rows so here = record {
-  count = length-append made (rows ∷ []) ∙ (let e : length made + 1 ≡ w + 1 = omega (arith, so.count) in e);
-  rows_are = λ v below.
-      ⊎_elim
-      (λ (h : v < w). subst (λ (x : Rows). SameBag (f v) x) (sym (get_or_append_left made (rows ∷ []) [] v (omega (arith, h, so.count)))) (so.rows_are v h))
-      (λ (h : w ≤ v). let at : w ≡ v = omega (arith, h, below) in
-      subst (λ (x : Rows). SameBag (f v) x) (sym (pushed-at made rows v [] (omega (arith, at, so.count)))) (subst (λ (j : ℕ). SameBag (f j) rows) at here))
-      (cases_lt v w);
-}
-
-pub none-made : (f : ℕ → Rows) → AreMadeBy 0 f []
-none-made f = record { count = refl; rows_are = λ w below. absurd (omega (arith, below)) }
+use Rattle.keyed_terms.specs.inner.Making.{AreMadeBy, IsFaultOf, IsMerged}
 
 -- the rows at a worker, whatever stands for those of others
 pub rows-at : (parts : List Rows) (w : ℕ) (d : Rows) → w < length parts → d ≡ get_or parts w d → d ≡ get_or parts w []
@@ -56,12 +38,21 @@ pub more-workers : (f : ℕ → Rows) (w : ℕ) (made made' : List Rows) (rows :
     → made' ≡ by_worker (w + 1) f
 more-workers f w made made' rows so here is = is ∙ (λ i. so i ++ here i ∷ []) ∙ sym (map-range_with_len_more f 0 w w (omega arith))
 
--- ---- partial rows
+-- what was made at each worker, taken together
+pub gathered-made : {E : Type 0} (n : ℕ) (f : ℕ → Rows) (all : List (Result Rows E)) (made : List Rows) → length all ≡ n
+    → ((w : ℕ) (d : Result Rows E) → w < n → IfOk (get_or all w d) (SameBag (f w))) → map Ok made ≡ all → AreMadeBy n f made
+gathered-made n f all made long each is = record {
+  count = count;
+  rows_are = λ w below.
+      subst (λ r. IfOk r (SameBag (f w)))
+      (sym (ap (λ (l : List (Result Rows _)). get_or l w (Ok [])) is) ∙ get_or-map Ok made w [] (Ok []) (omega (arith, below, count)))
+      (each w (Ok []) below);
+}
+  where
+    count : length made ≡ n
+    count = sym (length-map made Ok) ∙ ap length is ∙ long
 
--- the first workers' partial rows, of few rows each
-pub record ArePartialSoFar (kinds : Kinds) (w : ℕ) (listed made : List Rows) : Type 0 where
-  pub rows : AreMadeBy w (λ w. partial_rows kinds (get_or listed w [])) made
-  pub few : (v : ℕ) → v < w → length (get_or listed v []) < 2 ^ 32
+-- ---- partial rows
 
 pub few-together : (parts : List Rows) → length parts ≤ most_workers → ((v : ℕ) → v < length parts → length (get_or parts v []) < 2 ^ 32) → length (together parts) < 2 ^ 63
 few-together parts workers few =
@@ -71,11 +62,6 @@ few-together parts workers few =
     omega (arith, length-flat_map (λ (rows : Rows). rows) parts, each, workers)
 
 -- ---- merged rows
-
--- the first workers' groups, whose sums lie in 64 bits
-pub record AreMergedSoFar (kinds : Kinds) (w : ℕ) (partials made : List Rows) : Type 0 where
-  pub rows : AreMadeBy w (λ w. merged kinds (get_or partials w [])) made
-  pub fits : (v : ℕ) → v < w → merged_fits kinds (get_or partials v []) ≡ true
 
 pub all-fit : (p : Rows → Bool) (parts : List Rows) → ((v : ℕ) → v < length parts → p (get_or parts v []) ≡ true) → list_all p parts ≡ true
 all-fit p [] fits = refl
@@ -89,3 +75,31 @@ one-fails p (rows ∷ parts) (suc w) below fails = (λ i. p rows && one-fails p 
     by : (b : Bool) → (b && false) ≡ false
     by true = refl
     by false = refl
+
+-- ---- what merging answered at each worker
+
+pub merged-ok : (kinds : Kinds) (partials : Rows) (r : Result Rows AggFault) → IsMerged kinds partials r → IfOk r (SameBag (merged kinds partials))
+merged-ok kinds partials (Ok made) is = is.0
+merged-ok kinds partials (Err wrong) is = tt
+
+module _ (kinds : Kinds) (parts : List Rows) (all : List (Result Rows AggFault))
+    (each : (w : ℕ) (d : Result Rows AggFault) → w < length parts → IsMerged kinds (get_or parts w []) (get_or all w d)) (long : length all ≡ length parts) where
+  pub gathered-fits : (made : List Rows) → map Ok made ≡ all → list_all (merged_fits kinds) parts ≡ true
+  gathered-fits made is =
+      let count : length made ≡ length parts = sym (length-map made Ok) ∙ ap length is ∙ long in
+      all-fit (merged_fits kinds) parts
+      (λ w below.
+      let at : get_or all w (Ok []) ≡ Ok (get_or made w []) =
+      sym (ap (λ (l : List (Result Rows AggFault)). get_or l w (Ok [])) is) ∙ get_or-map Ok made w [] (Ok []) (omega (arith, below, count)) in
+      (subst (IsMerged kinds (get_or parts w [])) at (each w (Ok []) below)).1)
+
+  pub gathered-fault : (wrong : AggFault) → IsFaultOf all wrong → Overflows wrong (list_all (merged_fits kinds) parts)
+  gathered-fault wrong (inl (w, below, is)) =
+      let inside : w < length parts = omega (arith, below, long) in
+      by wrong (subst (IsMerged kinds (get_or parts w [])) (is (Ok [])) (each w (Ok []) inside)) (one-fails (merged_fits kinds) parts w inside)
+    where
+      by : (wrong : AggFault) → Overflows wrong (merged_fits kinds (get_or parts w [])) → (merged_fits kinds (get_or parts w []) ≡ false → list_all (merged_fits kinds) parts ≡ false)
+          → Overflows wrong (list_all (merged_fits kinds) parts)
+      by fault.AggregateOverflow o fails = fails o
+      by fault.Memory o fails = tt
+  gathered-fault wrong (inr is) = subst (λ wrong. Overflows wrong (list_all (merged_fits kinds) parts)) (sym is) tt

@@ -13,7 +13,8 @@ use rel_io::{Tap, Totals};
 use std::alloc::Global;
 use term_runs::{Moved, tell_listed, traffic_since};
 
-/// Tells the taps what each worker lists, and gives it with the numbers of its exchange, read off them.
+/// Tells the taps what each worker lists, and gives it with the numbers of its exchange, read off
+/// them.
 pub(crate) fn conclude<T: Tap>(
     alloc: Global,
     statement: u32,

@@ -28,8 +28,9 @@ pub struct Operands<'a> {
     pub width: u32,
 }
 
-/// Each row of the left operand that the right one doesn't have, once: all rows of both go to the homes of all their columns,
-/// in one exchange with a receipt for each operand. It may wait as long as the threads of its exchange do.
+/// Each row of the left operand that the right one doesn't have, once: all rows of both go to the
+/// homes of all their columns, in one exchange with a receipt for each operand. It may wait as long
+/// as the threads of its exchange do.
 pub fn run_diff<R: Threads + Wait + Sync, T: Tap + Send>(
     rt: &R,
     alloc: Global,
@@ -55,7 +56,7 @@ pub fn run_diff<R: Threads + Wait + Sync, T: Tap + Send>(
     let since = seconds_of(alloc, taps.as_slice(), settings.workers)?;
     let columns = all_columns(alloc, operands.width)?;
     let (met, others, receipts) = meet(rt, alloc, operands, &columns, settings, taps)?;
-    let made = difference_each(alloc, &met, &others)?;
+    let made = difference_each(rt, alloc, &met, &others)?;
     conclude(
         alloc,
         statement,
@@ -67,8 +68,8 @@ pub fn run_diff<R: Threads + Wait + Sync, T: Tap + Send>(
     )
 }
 
-/// Brings the rows of both operands to the homes of all their columns. Between the two the taps are asked again whether there is
-/// room in their sums.
+/// Brings the rows of both operands to the homes of all their columns. Between the two the taps are
+/// asked again whether there is room in their sums.
 fn meet<R: Threads + Wait + Sync, T: Tap + Send>(
     rt: &R,
     alloc: Global,

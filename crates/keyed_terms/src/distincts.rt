@@ -16,8 +16,8 @@ use std::sync::Wait;
 use std::thread::Threads;
 use term_runs::{Moved, have_room, seconds_of};
 
-/// Each row once: all rows go to the homes of all their columns, where each worker drops what it has twice. It may wait as long
-/// as the threads of its exchange do.
+/// Each row once: all rows go to the homes of all their columns, where each worker drops what it
+/// has twice. It may wait as long as the threads of its exchange do.
 ///
 /// `parts` holds a list of rows for each worker, each of which has `width` columns.
 pub fn run_distinct<R: Threads + Wait + Sync, T: Tap + Send>(
@@ -42,7 +42,7 @@ pub fn run_distinct<R: Threads + Wait + Sync, T: Tap + Send>(
     let since = seconds_of(alloc, taps.as_slice(), settings.workers)?;
     let columns = all_columns(alloc, width)?;
     let (met, receipt) = spread_by_key(rt, alloc, parts, &columns, settings, taps)?;
-    let made = distinct_each(alloc, &met)?;
+    let made = distinct_each(rt, alloc, &met)?;
     let receipts = one_receipt(alloc, receipt)?;
     conclude(
         alloc,

@@ -20,8 +20,9 @@ use std::sync::Wait;
 use std::thread::Threads;
 use term_runs::{Moved, have_room, seconds_of};
 
-/// A row for each group of the listed rows: each worker forms a partial row for each of its groups, these go to the homes of
-/// their keys, and are merged there. It may wait as long as the threads of its exchange do.
+/// A row for each group of the listed rows: each worker forms a partial row for each of its groups,
+/// these go to the homes of their keys, and are merged there. It may wait as long as the threads of
+/// its exchange do.
 ///
 /// `listed` holds a list of rows for each worker. No listed row is sent.
 pub fn run_group<R: Threads + Wait + Sync, T: Tap + Send>(
@@ -48,9 +49,9 @@ pub fn run_group<R: Threads + Wait + Sync, T: Tap + Send>(
     }
     let since = seconds_of(alloc, taps.as_slice(), settings.workers)?;
     let keys = partial_keys(alloc, kinds)?;
-    let partials = partial_each(alloc, listed, kinds)?;
+    let partials = partial_each(rt, alloc, listed, kinds)?;
     let (met, receipt) = spread_by_key(rt, alloc, &partials, &keys, settings, taps)?;
-    let made = merge_each(alloc, &met, kinds)?;
+    let made = merge_each(rt, alloc, &met, kinds)?;
     let receipts = one_receipt(alloc, receipt)?;
     let moved = conclude(
         alloc,

@@ -1,6 +1,7 @@
-//! What each worker makes of its own rows.
+//! What each worker makes of its own rows, all workers side by side.
 ghost use Rattle.std.specs.Prelude.{◌≡◌, ◌<◌, ◌≤◌, ◌^◌, true, [], length, map, All, IfOk, OnOk, IfErr, slice_index_or};
 ghost use Rattle.std.specs.List.{list_all};
+ghost use Rattle.rel_base.specs.Bags.{SameBag};
 ghost use Rattle.rel_base.specs.Limits.{most_workers};
 ghost use Rattle.myrial_ast.specs.Bags.{distinct, difference};
 ghost use Rattle.myrial_ast.specs.Partials.{partial_kinds, partial_rows, merged};
@@ -9,28 +10,36 @@ ghost use Rattle.algebra.specs.Trees.{kind_of_emit};
 ghost use Rattle.aggregate_ops.specs.Columns.{Overflows};
 ghost use Rattle.aggregate_ops.specs.Forms.{merged_fits};
 ghost use Rattle.placement.specs.Layouts.{together};
-ghost use Rattle.keyed_terms.specs.inner.Making.{AreMadeBy};
+ghost use Rattle.keyed_terms.specs.inner.Making.{AreMadeBy, IsMerged};
 
+use crate::gathering::{gather, gather_merged};
 use aggregate_ops::{AggFault, difference, distinct, merge, partial};
 use algebra::EmitKinds;
-use rel_base::{Memory, Spread};
+use rel_base::{Memory, Rows, Spread};
 use std::alloc::Global;
+use std::thread::{Threads, map_indices};
 
 /// At each worker each row once.
-pub(crate) fn distinct_each(alloc: Global, parts: &Spread) -> Result<Spread, Memory>
+pub(crate) fn distinct_each<R: Threads + Sync>(
+    rt: &R,
+    alloc: Global,
+    parts: &Spread,
+) -> Result<Spread, Memory>
     ensures { IfOk result (AreMadeBy (length parts.entry.now)
         (λ w. distinct (slice_index_or parts.entry.now w []))) }
 {
-    let mut made = Spread::with_capacity(alloc, parts.len())?;
-    for worker in 0..parts.len() {
-        let rows = distinct(alloc, parts.get(worker))?;
-        made.push(rows)?;
-    }
-    Ok(made)
+    let workers = parts.as_slice();
+    let at = |worker: usize| -> Result<Rows, Memory>
+        requires { worker < length workers.now }
+        ensures { IfOk result (SameBag (distinct (slice_index_or workers.entry.now worker []))) }
+    { distinct(alloc, &workers[worker]) };
+    let all = map_indices(rt, alloc, workers.len(), &at)?;
+    gather(alloc, all)
 }
 
 /// At each worker each row of the first that the second doesn't have, once.
-pub(crate) fn difference_each(
+pub(crate) fn difference_each<R: Threads + Sync>(
+    rt: &R,
     alloc: Global,
     parts: &Spread,
     others: &Spread,
@@ -39,16 +48,21 @@ pub(crate) fn difference_each(
     ensures { IfOk result (AreMadeBy (length parts.entry.now) (λ w. difference
         (slice_index_or parts.entry.now w []) (slice_index_or others.entry.now w []))) }
 {
-    let mut made = Spread::with_capacity(alloc, parts.len())?;
-    for worker in 0..parts.len() {
-        let rows = difference(alloc, parts.get(worker), others.get(worker))?;
-        made.push(rows)?;
-    }
-    Ok(made)
+    let workers = parts.as_slice();
+    let others = others.as_slice();
+    let at = |worker: usize| -> Result<Rows, Memory>
+        requires { (worker < length workers.now) × (worker < length others.now) }
+        ensures { IfOk result (SameBag (difference (slice_index_or workers.entry.now worker [])
+            (slice_index_or others.entry.now worker []))) }
+    { difference(alloc, &workers[worker], &others[worker]) };
+    let all = map_indices(rt, alloc, workers.len(), &at)?;
+    gather(alloc, all)
 }
 
-/// At each worker a partial row for each of its groups. So few rows are listed that every count of them fits.
-pub(crate) fn partial_each(
+/// At each worker a partial row for each of its groups. So few rows are listed that every count of
+/// them fits.
+pub(crate) fn partial_each<R: Threads + Sync>(
+    rt: &R,
     alloc: Global,
     listed: &Spread,
     kinds: &EmitKinds,
@@ -59,19 +73,33 @@ pub(crate) fn partial_each(
         (map kind_of_emit kinds.entry.now) (slice_index_or listed.entry.now w []))) }
     ensures few { OnOk result (length (together listed.now) < 2 ^ 63) }
 {
-    let mut made = Spread::with_capacity(alloc, listed.len())?;
-    for worker in 0..listed.len() {
-        let own = listed.get(worker);
-        // A number that was read fits its type.
-        let _few = own.len();
-        let rows = partial(alloc, own, kinds)?;
-        made.push(rows)?;
-    }
-    Ok(made)
+    let workers = listed.as_slice();
+    let at = |worker: usize| -> Result<Rows, Memory>
+        requires { (worker < length workers.now)
+            × All (AreGrouped (map kind_of_emit kinds.now)) workers.now }
+        ensures { IfOk result (SameBag (partial_rows (map kind_of_emit kinds.entry.now)
+            (slice_index_or workers.entry.now worker [])))
+            × (length (slice_index_or workers.entry.now worker []) < 2 ^ 32) }
+    { partial_at(alloc, &workers[worker], kinds) };
+    let all = map_indices(rt, alloc, workers.len(), &at)?;
+    gather(alloc, all)
+}
+
+/// A partial row for each group of a worker, whose rows are few.
+fn partial_at(alloc: Global, own: &Rows, kinds: &EmitKinds) -> Result<Rows, Memory>
+    requires { AreGrouped (map kind_of_emit kinds.now) own.now }
+    ensures rows { IfOk result (λ made. SameBag
+        (partial_rows (map kind_of_emit kinds.now) own.now) made) }
+    ensures few { length own.now < 2 ^ 32 }
+{
+    // A number that was read fits its type.
+    let _few = own.len();
+    partial(alloc, own, kinds)
 }
 
 /// At each worker the groups of its partial rows.
-pub(crate) fn merge_each(
+pub(crate) fn merge_each<R: Threads + Sync>(
+    rt: &R,
     alloc: Global,
     partials: &Spread,
     kinds: &EmitKinds,
@@ -84,10 +112,15 @@ pub(crate) fn merge_each(
     ensures fault { IfErr result (λ fault. Overflows fault
         (list_all (merged_fits (map kind_of_emit kinds.now)) partials.now)) }
 {
-    let mut made = Spread::with_capacity(alloc, partials.len())?;
-    for worker in 0..partials.len() {
-        let rows = merge(alloc, partials.get(worker), kinds)?;
-        made.push(rows)?;
+    let workers = partials.as_slice();
+    let at = |worker: usize| -> Result<Rows, AggFault>
+        requires { (worker < length workers.now)
+            × All (AreGrouped (partial_kinds (map kind_of_emit kinds.now))) workers.now }
+        ensures { IsMerged (map kind_of_emit kinds.entry.now)
+            (slice_index_or workers.entry.now worker []) result }
+    { merge(alloc, &workers[worker], kinds) };
+    match map_indices(rt, alloc, workers.len(), &at) {
+        Ok(all) => gather_merged(alloc, all),
+        Err(_refused) => Err(AggFault::Memory),
     }
-    Ok(made)
 }

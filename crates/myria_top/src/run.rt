@@ -31,8 +31,9 @@ use algebra::{Checked, JoinKind, Settings, ShuffleKind};
 use engine::{Ran, run_script};
 use exchange_channels::Receipts;
 use myrial_ast::Script;
-use myrial_types::{check, fetches};
-use myrial_types::{steps_are_of_the_files, steps_have_the_fault, steps_mean_the_script};
+use myrial_types::{
+    check, fetches, steps_are_of_the_files, steps_have_the_fault, steps_mean_the_script,
+};
 use rel_base::{Files, TAPS, Text};
 use rel_io::{Shelf, Sink, SinkFault, Tap};
 use std::alloc::Global;
@@ -251,7 +252,9 @@ fn text_of_typed<R: Threads + Wait + Sync, T: Tap + Send>(
         Err(fault) => return Err(Outcome::from(fault)),
     };
     let Ran {
-        stored, receipts, ..
+        stored,
+        receipts,
+        ..
     } = ran;
     match Pieces::of_stored(rt, alloc, &stored) {
         Ok(text) => Ok(Unprinted { text, receipts }),

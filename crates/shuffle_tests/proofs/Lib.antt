@@ -1,2 +1,3 @@
 -- Laws of what the tests ask.
 pub mod NumberLemmas
+pub mod PositiveLemmas

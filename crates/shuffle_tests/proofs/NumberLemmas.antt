@@ -1,6 +1,5 @@
 -- Numbers at workers are such as a shuffle asks.
-use Rattle.std.proofs.Common.{◌≡◌, ℕ, zero, suc, ◌<◌, Bool, true, List, [], ◌∷◌, length, get_or, All, refl, sym, subst, arith}
-use Rattle.std.specs.Prelude.{IsTrue}
+use Rattle.std.proofs.Common.{◌≡◌, ℕ, zero, suc, ◌<◌, true, List, [], ◌∷◌, length, get_or, All, refl, sym, subst, arith}
 use Rattle.std.specs.Ordering.{is_eq}
 use Rattle.rel_base.specs.Values.{value_order}
 use Rattle.myrial_ast.specs.Scalars.{Scalar, value_at}

@@ -12,3 +12,7 @@ mod homes;
 mod locals;
 #[cfg(test)]
 mod numbers;
+#[cfg(test)]
+mod positives;
+#[cfg(test)]
+mod runs;

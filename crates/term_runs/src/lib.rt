@@ -1,11 +1,13 @@
-//! What running a term at workers does, said once for all terms: the rows that it leaves at each worker, the notes and receipts of
-//! its exchanges, and what the taps are told.
+//! What running a term at workers does, said once for all terms: the rows that it leaves at each
+//! worker, the notes and receipts of its exchanges, and what the taps are told.
 //!
-//! Stands on `placement` for exchanges, on `placed_joins` for sizes, and on the crates of the exchange for receipts and taps.
+//! Stands on `placement` for exchanges, on `placed_joins` for sizes, and on the crates of the
+//! exchange for receipts and taps.
 //!
-//! Promises: `tell_listed` tells the taps what each worker lists; `have_room` says whether every sum of taps is far from its end.
-//! `seconds_of` and `traffic_since` read the numbers of an exchange off what the taps were told.
-//! By the laws what exchanges tell one after another is what all of them tell.
+//! Promises: `tell_listed` tells the taps what each worker lists; `have_room` says whether every
+//! sum of taps is far from its end. `seconds_of` and `traffic_since` read the numbers of an
+//! exchange off what the taps were told. By the laws what exchanges tell one after another is what
+//! all of them tell.
 //!
 //! Read `specs/TermRuns.antt`, then `telling.rt` and `specs/Laws.antt`.
 #![tactic(auto)]

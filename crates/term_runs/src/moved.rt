@@ -10,7 +10,7 @@ pub struct Moved {
     pub parts: Spread,
     /// The numbers of each exchange, in order.
     pub traffic: TrafficNotes,
-    /// The receipts, in order: one for each exchange, but for a `diff`, which has one for the rows of
-    /// each operand.
+    /// The receipts, in order: one for each exchange, but for a `diff`, which has one for the rows
+    /// of each operand.
     pub receipts: Receipts,
 }

@@ -20,7 +20,8 @@ pub fn seconds_of<T: Tap>(alloc: Global, taps: &[T], workers: u32) -> Result<Vec
     Ok(made)
 }
 
-/// The numbers of an exchange: how many rows each worker received and listed since its second tap had these sums.
+/// The numbers of an exchange: how many rows each worker received and listed since its second tap
+/// had these sums.
 pub fn traffic_since<T: Tap>(
     alloc: Global,
     statement: u32,

@@ -3,10 +3,12 @@
 --   IsStepDone ..              what running a step does on Ok: its result is held, and what it did is noted
 --   IsStep ..                  what it does, whatever it answers
 --   AreRun ..                  some steps have run: what is held and noted is what they mean
---   HoldsSource, HoldsStores   what is held of a source, and of all stores, is what they stand for
+--   schema_at files c o        the columns of what a source stands for
+--   held_store files c held t  what a store stores, where its rows are held
 use Rattle.std.specs.Prelude.{◌≡◌, ⊤, ℕ, List, [], ◌∷◌, ◌++◌, map, length, All, None, Result, IfErr, OnOk}
 use Rattle.std.specs.List.{flat_map}
 use Rattle.rel_base.specs.Keys.{File}
+use Rattle.rel_base.specs.declared.relations.Column.{Column}
 use Rattle.rel_base.specs.declared.faults.RunFault.{RunFault}
 use Rattle.rel_io.specs.declared.taps.Totals.{Totals}
 use Rattle.exchange_channels.specs.Wirings.{ReceiptState}
@@ -15,7 +17,8 @@ use Rattle.bag_laws.specs.Permuted.{SameTables}
 use Rattle.algebra.specs.declared.notes.PlanNote.TheVariants as note
 use Rattle.algebra.specs.declared.settings.Settings.{Settings}
 use Rattle.algebra.specs.declared.terms.Source.{Source}
-use Rattle.algebra.specs.Meanings.{term_fault}
+use Rattle.algebra.specs.declared.terms.StoreStep.{StoreStep}
+use Rattle.algebra.specs.Meanings.{found, no_relation, relations_of, step_relations, term_fault}
 use Rattle.algebra.specs.Trees.{StepTree, CheckedTree}
 use Rattle.placement.specs.Layouts.{together, term_parts}
 use Rattle.placement.specs.Exchanges.{PlacedExchange, term_exchanges, traffic_note}
@@ -24,9 +27,10 @@ use Rattle.placed_joins.specs.PlacedJoins.{size_of}
 use Rattle.term_runs.specs.TermRuns.{shown_moves, AreShown, AreMoved, AreFair}
 use Rattle.run_laws.specs.Values.{meant}
 use Rattle.run_laws.specs.Scripts.{step_exchanges, IsSound}
-use Rattle.run_laws.specs.Held.{AreHeld, IsHeldStore}
+use Rattle.run_laws.specs.Held.{AreHeld}
 use Rattle.engine.specs.declared.held.Held.{Held}
 use Rattle.engine.specs.declared.noted.Noted.{Noted}
+use Rattle.engine.specs.declared.runs.SpreadStore.{SpreadStore}
 use Rattle.engine.specs.Runs.{prefixes_of, IsRunFault}
 use Rattle.engine.specs.inner.Held.{parts_held, value_held}
 
@@ -86,10 +90,10 @@ pub record AreRun {T : Type 0} (s : Settings) (files : List File) (c : CheckedTr
 
 -- ---- stores
 
--- what is held of a source is what it stands for, worker by worker, as bags
-abbrev pub HoldsSource : Settings → List File → CheckedTree → Held → Source → Type 0
-HoldsSource s files c held o = SameTables (meant (usual_placing s) files c o).parts (parts_held held o)
+-- the columns of what a source stands for
+abbrev pub schema_at : List File → CheckedTree → Source → List Column
+schema_at files c o = (found no_relation (relations_of files) (step_relations files c.steps) o).schema
 
--- what is held of the source of each store is what it stands for
-abbrev pub HoldsStores : Settings → List File → CheckedTree → Held → Type 0
-HoldsStores s files c held = All (IsHeldStore (usual_placing s) files c held.files held.results) c.stores
+-- what is stored of what is held
+abbrev pub held_store : List File → CheckedTree → Held → StoreStep → SpreadStore
+held_store files c held t = record { key = t.key; schema = schema_at files c t.source; parts = parts_held held t.source }

@@ -24,16 +24,16 @@ abbrev pub at_home : Settings → List Rows → ℕ → Rows
 at_home s parts w = filter (λ row. home_of s.seed row s.workers == w) (together parts)
 
 -- the rows of both are at their homes, and their exchange is told and shown
-pub record HaveMet {T : Type 0} (s : Settings) (left right : List Rows) (totals : T → Totals) (tag : T → ℕ) (before after : List T)
-    (met others : List Rows) (receipts : List ReceiptState) : Type 0 where
+pub record HaveMet {T : Type 0} (s : Settings) (left right : List Rows) (totals : T → Totals) (tag : T → ℕ)
+    (before after : List T) (met others : List Rows) (receipts : List ReceiptState) : Type 0 where
   pub met_are : AreMadeBy s.workers (at_home s left) met
   pub others_are : AreMadeBy s.workers (at_home s right) others
   pub moved : AreMoved totals tag s.workers (unlisted_exchange s left right ∷ []) before after
   pub shown : AreShown (size_of s) (shown_moves (unlisted_exchange s left right)) receipts
 
 -- what bringing them together does, whatever it answers
-pub record IsMeeting {T : Type 0} (s : Settings) (left right : List Rows) (totals : T → Totals) (tag : T → ℕ) (before after : List T)
-    (answer : Result (List Rows × List Rows × List ReceiptState) Memory) : Type 0 where
+pub record IsMeeting {T : Type 0} (s : Settings) (left right : List Rows) (totals : T → Totals) (tag : T → ℕ)
+    (before after : List T) (answer : Result (List Rows × List Rows × List ReceiptState) Memory) : Type 0 where
   pub fair : AreFair totals tag before after
   pub unlisted : All (λ t. IsLow (totals t)) after
   pub ok : IfOk answer (λ made. HaveMet s left right totals tag before after made.0 made.1 made.2)

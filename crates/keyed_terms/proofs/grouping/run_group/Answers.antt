@@ -61,8 +61,8 @@ returns-in_err-met-clause-run g c =
     run-faulty s a.statement (group_parts s kinds listed) (group_exchanges s kinds listed) totals tag (IsGroupFault kinds listed) before middle
     c.from_residual-in_err-met.result fault.Memory (p.1 ∙ ap Err p.2) fair tt
 
-pub merge_each-requires : goal.merge_each-requires
-merge_each-requires g c =
+pub merge_each-requires-after_bounds : goal.merge_each-requires-after_bounds
+merge_each-requires-after_bounds g c κs within =
     let a = c.args in
     let s = a.settings.now in
     let n = s.workers in

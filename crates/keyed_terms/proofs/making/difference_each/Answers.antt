@@ -1,19 +1,25 @@
-use Rattle.std.proofs.Common.{◌+◌, ◌<◌, [], length, get_or, sym, subst, ℕ, arith}
+use Rattle.std.proofs.Common.{◌≡◌, ◌<◌, ℕ, List, [], length, map, get_or, Result, Ok, ap, subst, arith}
+use Rattle.std.specs.Prelude.{IfOk}
+use Rattle.std.proofs.lemmas.Result.{IfOk-weaker}
 use Rattle.rel_base.specs.Bags.{SameBag}
+use Rattle.rel_base.specs.declared.failure.Memory.{Memory}
 use Rattle.myrial_ast.specs.Bags.{difference}
 use Rattle.myrial_ast.specs.Combinations.{Rows}
 use Rattle.keyed_terms.specs.inner.Making.{AreMadeBy}
-use Rattle.keyed_terms.proofs.MakingLemmas.{rows-at, more-made}
+use Rattle.keyed_terms.proofs.MakingLemmas.{gathered-made}
 use Rattle.keyed_terms.proofs.making.difference_each.Goals as goal
 
-pub loop-worker-preserved : goal.loop-worker-preserved
-loop-worker-preserved c =
-    let w = c.loop-worker.worker in
-    let inside : w < length c.args.parts.now = omega arith in
-    let there : w < length c.args.others.now = omega arith in
-    let a = rows-at c.args.parts.now w c.get.result.now inside c.get.ensures in
-    let b = rows-at c.args.others.now w c.get-in-loop-worker.result.now there c.get-in-loop-worker.ensures in
-    let made : ℕ → Rows = λ w. difference (get_or c.args.parts.now w []) (get_or c.args.others.now w []) in
-    subst (AreMadeBy (w + 1) made) (sym c.in_ok-push.ensures.ok)
-    (more-made w made c.loop-worker.made c.in_ok-rows.rows c.loop-worker.invariant
-    (subst (λ (x : Rows × Rows). SameBag (difference x.0 x.1) c.in_ok-rows.rows) (λ i. (a i, b i)) c.in_ok-rows.ensures))
+pub returns : goal.returns
+returns g c =
+    let parts = c.args.parts.now in
+    let others = c.args.others.now in
+    let made : ℕ → Rows = λ w. difference (get_or parts w []) (get_or others w []) in
+    let all = c.in_ok-all.all.items in
+    let one = c.as_slice-workers.ensures.value in
+    let two = c.as_slice-others.ensures.value in
+    let long : length all ≡ length parts = omega (arith, c.in_ok-all.ensures.len, c.in_ok-all.all.ok.0, ap length one) in
+    let each : (w : ℕ) (d : Result Rows Memory) → w < length parts → IfOk (get_or all w d) (SameBag (made w)) =
+    λ w d below. let h = (c.in_ok-all.ensures.each w d (omega (arith, below, ap length one))).1.met in
+    subst (λ (x : List Rows × List Rows). IfOk (get_or all w d) (SameBag (difference (get_or x.0 w []) (get_or x.1 w [])))) (λ i. (one i, two i)) h in
+    IfOk-weaker c.gather.result (λ rows. map Ok rows ≡ all) (AreMadeBy (length parts) made)
+    (λ rows is. gathered-made (length parts) made all rows long each is) c.gather.ensures

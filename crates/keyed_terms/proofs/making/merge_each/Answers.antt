@@ -1,27 +1,53 @@
-use Rattle.std.proofs.Common.{◌≡◌, ◌+◌, ◌<◌, true, [], length, map, get_or, sym, subst, ℕ, arith, below_more}
-use Rattle.rel_base.specs.Bags.{SameBag}
-use Rattle.myrial_ast.specs.Combinations.{Rows}
+use Rattle.std.proofs.Common.{◌≡◌, ◌<◌, true, ℕ, List, [], length, map, get_or, Result, Ok, ap, subst, arith}
+use Rattle.std.specs.List.{list_all}
+use Rattle.std.proofs.lemmas.Result.{IfOk-weaker, IfErr-weaker}
 use Rattle.myrial_ast.specs.Partials.{merged}
+use Rattle.myrial_ast.specs.Combinations.{Rows}
 use Rattle.algebra.specs.Trees.{kind_of_emit}
+use Rattle.aggregate_ops.specs.Columns.{Overflows}
 use Rattle.aggregate_ops.specs.Forms.{merged_fits}
-use Rattle.keyed_terms.proofs.MakingLemmas.{rows-at, more-made, AreMergedSoFar, all-fit}
+use Rattle.aggregate_ops.specs.declared.faults.AggFault.{AggFault}
+use Rattle.keyed_terms.specs.inner.Making.{AreMadeBy, IsMerged, IsFaultOf}
+use Rattle.keyed_terms.proofs.MakingLemmas.{gathered-made, merged-ok, gathered-fits, gathered-fault}
 use Rattle.keyed_terms.proofs.making.merge_each.Goals as goal
 
-pub loop-worker-preserved : goal.loop-worker-preserved
-loop-worker-preserved c =
-    let w = c.loop-worker.worker in
+pub returns-in-Ok-clause-rows : goal.returns-in-Ok-clause-rows
+returns-in-Ok-clause-rows g c =
+    let parts = c.args.partials.now in
     let kinds = map kind_of_emit c.args.kinds.now in
-    let inside : w < length c.args.partials.now = omega arith in
-    let a = rows-at c.args.partials.now w c.get.result.now inside c.get.ensures in
-    let made : ℕ → Rows = λ w. merged kinds (get_or c.args.partials.now w []) in
-    subst (AreMergedSoFar kinds (w + 1) c.args.partials.now) (sym c.in_ok-push.ensures.ok)
-    (record {
-      rows = more-made w made c.loop-worker.made c.in_ok-rows.rows c.loop-worker.invariant.rows
-          (subst (λ (x : Rows). SameBag (merged kinds x) c.in_ok-rows.rows) a c.in_ok-rows.ensures.bag);
-      fits = below_more _ _ c.loop-worker.invariant.fits (subst (λ (x : Rows). merged_fits kinds x ≡ true) a c.in_ok-rows.ensures.fits);
-    })
+    let all = c.in-Ok.all.items in
+    let one = c.as_slice-workers.ensures.value in
+    let long : length all ≡ length parts = omega (arith, c.in-Ok.ensures.len, c.in-Ok.all.ok.0, ap length one) in
+    let each : (w : ℕ) (d : Result Rows AggFault) → w < length parts → IsMerged kinds (get_or parts w []) (get_or all w d) =
+    λ w d below. let h = (c.in-Ok.ensures.each w d (omega (arith, below, ap length one))).1.met in
+    subst (λ (x : List Rows). IsMerged kinds (get_or x w []) (get_or all w d)) one h in
+    let made : ℕ → Rows = λ w. merged kinds (get_or parts w []) in
+    IfOk-weaker c.gather_merged.result (λ rows. map Ok rows ≡ all) (AreMadeBy (length parts) made)
+    (λ rows is. gathered-made (length parts) made all rows long (λ w d below. merged-ok kinds (get_or parts w []) (get_or all w d) (each w d below)) is)
+    c.gather_merged.ensures.ok
 
-pub returns-clause-fits : goal.returns-clause-fits
-returns-clause-fits c =
-    all-fit (merged_fits (map kind_of_emit c.args.kinds.now)) c.args.partials.now
-    (λ v below. c.loop-worker.invariant.fits v (omega (arith, below, c.loop-worker-test.false, c.loop-worker.auto.worker-end)))
+pub returns-in-Ok-clause-fits : goal.returns-in-Ok-clause-fits
+returns-in-Ok-clause-fits g c =
+    let parts = c.args.partials.now in
+    let kinds = map kind_of_emit c.args.kinds.now in
+    let all = c.in-Ok.all.items in
+    let one = c.as_slice-workers.ensures.value in
+    let long : length all ≡ length parts = omega (arith, c.in-Ok.ensures.len, c.in-Ok.all.ok.0, ap length one) in
+    let each : (w : ℕ) (d : Result Rows AggFault) → w < length parts → IsMerged kinds (get_or parts w []) (get_or all w d) =
+    λ w d below. let h = (c.in-Ok.ensures.each w d (omega (arith, below, ap length one))).1.met in
+    subst (λ (x : List Rows). IsMerged kinds (get_or x w []) (get_or all w d)) one h in
+    IfOk-weaker c.gather_merged.result (λ rows. map Ok rows ≡ all) (λ rows. list_all (merged_fits kinds) parts ≡ true)
+    (λ rows is. gathered-fits kinds parts all each long rows is) c.gather_merged.ensures.ok
+
+pub returns-in-Ok-clause-fault : goal.returns-in-Ok-clause-fault
+returns-in-Ok-clause-fault g c =
+    let parts = c.args.partials.now in
+    let kinds = map kind_of_emit c.args.kinds.now in
+    let all = c.in-Ok.all.items in
+    let one = c.as_slice-workers.ensures.value in
+    let long : length all ≡ length parts = omega (arith, c.in-Ok.ensures.len, c.in-Ok.all.ok.0, ap length one) in
+    let each : (w : ℕ) (d : Result Rows AggFault) → w < length parts → IsMerged kinds (get_or parts w []) (get_or all w d) =
+    λ w d below. let h = (c.in-Ok.ensures.each w d (omega (arith, below, ap length one))).1.met in
+    subst (λ (x : List Rows). IsMerged kinds (get_or x w []) (get_or all w d)) one h in
+    IfErr-weaker c.gather_merged.result (IsFaultOf all) (λ wrong. Overflows wrong (list_all (merged_fits kinds) parts))
+    (λ wrong is. gathered-fault kinds parts all each long wrong is) c.gather_merged.ensures.err

@@ -1,27 +1,39 @@
-use Rattle.std.proofs.Common.{◌+◌, ◌<◌, ◌^◌, [], length, map, get_or, sym, subst, ℕ, arith, below_more}
+use Rattle.std.proofs.Common.{◌≡◌, ◌<◌, ◌^◌, ℕ, List, [], length, map, get_or, Result, Ok, ap, subst, arith}
+use Rattle.std.specs.Prelude.{IfOk}
+use Rattle.std.proofs.lemmas.Result.{IfOk-weaker}
 use Rattle.rel_base.specs.Bags.{SameBag}
-use Rattle.myrial_ast.specs.Combinations.{Rows}
+use Rattle.rel_base.specs.declared.failure.Memory.{Memory}
 use Rattle.myrial_ast.specs.Partials.{partial_rows}
+use Rattle.myrial_ast.specs.Combinations.{Rows}
 use Rattle.algebra.specs.Trees.{kind_of_emit}
-use Rattle.keyed_terms.proofs.MakingLemmas.{rows-at, more-made, ArePartialSoFar, few-together}
+use Rattle.placement.specs.Layouts.{together}
+use Rattle.keyed_terms.specs.inner.Making.{AreMadeBy}
+use Rattle.keyed_terms.proofs.MakingLemmas.{gathered-made, few-together}
 use Rattle.keyed_terms.proofs.making.partial_each.Goals as goal
 
-pub loop-worker-preserved : goal.loop-worker-preserved
-loop-worker-preserved c =
-    let w = c.loop-worker.worker in
+pub returns-clause-rows : goal.returns-clause-rows
+returns-clause-rows g c =
+    let parts = c.args.listed.now in
     let kinds = map kind_of_emit c.args.kinds.now in
-    let inside : w < length c.args.listed.now = omega arith in
-    let own = rows-at c.args.listed.now w c.get-own.result.now inside c.get-own.ensures in
-    let made : ℕ → Rows = λ w. partial_rows kinds (get_or c.args.listed.now w []) in
-    let few : length c.get-own.result.now < 2 ^ 32 = omega (arith, c.len-few.ensures, c.len-few.type_inv) in
-    subst (ArePartialSoFar kinds (w + 1) c.args.listed.now) (sym c.in_ok-push.ensures.ok)
-    (record {
-      rows = more-made w made c.loop-worker.made c.in_ok-rows.rows c.loop-worker.invariant.rows
-          (subst (λ (x : Rows). SameBag (partial_rows kinds x) c.in_ok-rows.rows) own c.in_ok-rows.ensures);
-      few = below_more _ _ c.loop-worker.invariant.few (subst (λ (x : Rows). length x < 2 ^ 32) own few);
-    })
+    let all = c.in_ok-all.all.items in
+    let one = c.as_slice-workers.ensures.value in
+    let long : length all ≡ length parts = omega (arith, c.in_ok-all.ensures.len, c.in_ok-all.all.ok.0, ap length one) in
+    let each : (w : ℕ) (d : Result Rows Memory) → w < length parts → IfOk (get_or all w d) (SameBag (partial_rows kinds (get_or parts w []))) × (length (get_or parts w []) < 2 ^ 32) =
+    λ w d below. let h = (c.in_ok-all.ensures.each w d (omega (arith, below, ap length one))).1.met in
+    subst (λ (x : List Rows). IfOk (get_or all w d) (SameBag (partial_rows kinds (get_or x w []))) × (length (get_or x w []) < 2 ^ 32)) one h in
+    let made : ℕ → Rows = λ w. partial_rows kinds (get_or parts w []) in
+    IfOk-weaker c.gather.result (λ rows. map Ok rows ≡ all) (AreMadeBy (length parts) made)
+    (λ rows is. gathered-made (length parts) made all rows long (λ w d below. (each w d below).0) is) c.gather.ensures
 
 pub returns-clause-few : goal.returns-clause-few
-returns-clause-few c =
-    few-together c.args.listed.now c.requires.workers
-    (λ v below. c.loop-worker.invariant.few v (omega (arith, below, c.loop-worker-test.false, c.loop-worker.auto.worker-end)))
+returns-clause-few g c =
+    let parts = c.args.listed.now in
+    let kinds = map kind_of_emit c.args.kinds.now in
+    let all = c.in_ok-all.all.items in
+    let one = c.as_slice-workers.ensures.value in
+    let long : length all ≡ length parts = omega (arith, c.in_ok-all.ensures.len, c.in_ok-all.all.ok.0, ap length one) in
+    let each : (w : ℕ) (d : Result Rows Memory) → w < length parts → IfOk (get_or all w d) (SameBag (partial_rows kinds (get_or parts w []))) × (length (get_or parts w []) < 2 ^ 32) =
+    λ w d below. let h = (c.in_ok-all.ensures.each w d (omega (arith, below, ap length one))).1.met in
+    subst (λ (x : List Rows). IfOk (get_or all w d) (SameBag (partial_rows kinds (get_or x w []))) × (length (get_or x w []) < 2 ^ 32)) one h in
+    IfOk-weaker c.gather.result (λ rows. map Ok rows ≡ all) (λ rows. length (together parts) < 2 ^ 63)
+    (λ rows is. few-together parts c.requires.workers (λ w below. (each w (Ok []) below).1)) c.gather.ensures

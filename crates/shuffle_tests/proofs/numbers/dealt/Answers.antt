@@ -1,4 +1,4 @@
-use Rattle.std.proofs.Common.{◌≡◌, ◌+◌, List, [], ◌∷◌, length, length-append, sym, subst, arith}
+use Rattle.std.proofs.Common.{◌+◌, List, [], ◌∷◌, length-append, sym, subst, arith}
 use Rattle.std.proofs.lemmas.List.Elements.{All-nil, All-cons, All-append}
 use Rattle.myrial_ast.specs.Combinations.{Rows}
 use Rattle.algebra.specs.ShapeConditions.{HasKinds}

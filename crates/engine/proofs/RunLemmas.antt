@@ -1,0 +1,439 @@
+-- The steps of a script, one after another.
+use Rattle.std.proofs.Common.{◌≡◌, ℕ, ◌+◌, ◌<◌, ◌≤◌, ◌++◌, ◌==◌, Bool, true, false, cond, IsTrue, List, [], ◌∷◌, map, take, length, get_or, refl, sym, ap, subst, ◌∙◌, Ok, Some, None, Option, inl, inr, arith}
+use Rattle.std.specs.Prelude.{⊤, All, Contains, find, option_map, unwrap_or, IsSome}
+use Rattle.std.specs.List.{flat_map}
+use Rattle.std.proofs.lemmas.List.{append-nil, get_or-map, length-map, map-append, take_all, take_more}
+use Rattle.std.proofs.lemmas.List.Concat.{flat_map-append}
+use Rattle.std.proofs.lemmas.List.Elements.{All-nil, All-head, All-tail, All-more, All-weaker}
+use Rattle.rel_base.specs.Keys.{File}
+use Rattle.rel_base.specs.Relations.{RelationState}
+use Rattle.rel_base.specs.declared.faults.RunFault.{RunFault}
+use Rattle.rel_base.specs.declared.relations.Column.{Column}
+use Rattle.rel_base.specs.declared.faults.RunFault.TheVariants as fault
+use Rattle.rel_io.specs.declared.taps.Totals.{Totals}
+use Rattle.myrial_ast.specs.Combinations.{Rows}
+use Rattle.algebra.specs.declared.settings.Settings.{Settings}
+use Rattle.algebra.specs.declared.terms.Checked.{Checked}
+use Rattle.algebra.specs.declared.terms.Source.{Source}
+use Rattle.algebra.specs.declared.terms.Source.TheVariants as source
+use Rattle.algebra.specs.declared.terms.Step.{Step}
+use Rattle.algebra.specs.declared.terms.StoreStep.{StoreStep}
+use Rattle.algebra.specs.CheckedTrees.{checked_tree_of, step_tree_of, term_tree_of}
+use Rattle.algebra.specs.Conditions.{is_of}
+use Rattle.algebra.specs.Meanings.{sources_of, term_fault}
+use Rattle.algebra.specs.Rewriting.{AreTables, AreTyped, IsSameTerm, IsRewritten}
+use Rattle.algebra.specs.Trees.{Shape, TermTree, Same, Empty, UnionAll, Diff, Distinct, Join, Group, StepTree, CheckedTree}
+use Rattle.placement.specs.Exchanges.{PlacedExchange, term_exchanges, traffic_note}
+use Rattle.placement.specs.Laws.{IsPlaced, IsPlacing, IsReady, HasReadyItems}
+use Rattle.placement.specs.Layouts.{PlacedRelation, Placing, ByKeys, placed_file, placed_stores, rows_of, term_parts}
+use Rattle.placement.specs.Plans.{usual_placing, step_notes}
+use Rattle.placement.proofs.UsualLemmas.{usual_is_placing}
+use Rattle.placed_joins.specs.PlacedJoins.{placed_rows, placed_items, size_of}
+use Rattle.term_runs.specs.declared.moved.Moved.{Moved}
+use Rattle.term_runs.specs.TermRuns.{shown_moves, AreShown, no_receipt, AreMoved, AreFair, IsMoved}
+use Rattle.term_runs.proofs.ReceiptLemmas.{joined-runs}
+use Rattle.term_runs.proofs.TapLemmas.{joined-moves}
+use Rattle.run_laws.specs.Values.{IsKnown, meant}
+use Rattle.plan_rewrite.specs.declared.rewriting.Planned.{Planned}
+use Rattle.plan_rewrite.specs.Planned.{planned_tree_of}
+use Rattle.run_laws.specs.Rewritten.{needed, numbers_of, IsStepAt}
+use Rattle.run_laws.specs.Scripts.{placed_store, step_exchanges, HasTypedSources, IsSound}
+use Rattle.run_laws.specs.Held.{parts_in, AreHeld, IsHeldStep, IsReadyStep, IsHeldResult, IsHeldStore}
+use Rattle.run_laws.proofs.SourceLemmas.{in_front, behind, first_or_behind, nothing_in_none}
+use Rattle.run_laws.proofs.NeededLemmas.{number-of}
+use Rattle.run_laws.proofs.FoundLemmas.{found-some}
+use Rattle.run_laws.proofs.MeantLemmas.{meant-related}
+use Rattle.run_laws.proofs.RewrittenLemmas.{needed-own, steps_by_place, rewritten_are_kept}
+use Rattle.run_laws.proofs.HeldLemmas.{results_are_held}
+use Rattle.run_laws.proofs.LoopLemmas.{held_are_ready, one_more_is_held, stores_are_held}
+use Rattle.run_laws.proofs.ScriptLemmas.{scripts_are_of_steps, results_are_found, faults_are_first}
+use Rattle.bag_runs.specs.BagRuns.{IsSameRun}
+use Rattle.bag_runs.proofs.RunLemmas.{run-same}
+use Rattle.bag_runs.proofs.TermLemmas.{terms_are_of_bags}
+use Rattle.engine.specs.declared.held.Held.{Held}
+use Rattle.engine.specs.declared.noted.Noted.{Noted}
+use Rattle.engine.specs.declared.runs.Ran.{Ran}
+use Rattle.engine.specs.Runs.{run_exchanges, IsRan, AreStoredAt, no_store, a_store, prefixes_of, fault_of, IsRunFault}
+use Rattle.engine.specs.inner.Held.{IsHeld, parts_held, value_held, IsJoinable, HasJoinable, IsRunnable}
+use Rattle.engine.specs.inner.Steps.{held_exchanges, IsStepDone, numbered_exchanges, bare_exchanges, AreRun, schema_at, held_store}
+
+-- ---- lists
+
+-- what is found among mapped items
+pub find-mapped : {X Y : Type 0} (f : X → Y) (test : Y → Bool) (xs : List X)
+    → find test (map f xs) ≡ option_map f (find (λ x. test (f x)) xs)
+find-mapped f test [] = refl
+find-mapped f test (x ∷ xs) = by (test (f x)) (find-mapped f test xs)
+  where
+    by : (b : Bool) → find test (map f xs) ≡ option_map f (find (λ x. test (f x)) xs)
+        → cond b (Some (f x)) (find test (map f xs)) ≡ option_map f (cond b (Some x) (find (λ x. test (f x)) xs))
+    by true h = refl
+    by false h = h
+
+-- a list of lists with one item more
+flat-more : {X A : Type 0} (f : X → List A) (xs : List X) (i : ℕ) (d : X) → i < length xs
+    → flat_map f (take (i + 1) xs) ≡ flat_map f (take i xs) ++ f (get_or xs i d)
+flat-more f xs i d l =
+    ap (flat_map f) (take_more xs i d l) ∙ flat_map-append f (take i xs) (get_or xs i d ∷ [])
+    ∙ ap (λ ys. flat_map f (take i xs) ++ ys) (append-nil (f (get_or xs i d)))
+
+map-both : {X Y Z : Type 0} (f : Y → Z) (g : X → Y) (xs : List X) → map f (map g xs) ≡ map (λ x. f (g x)) xs
+map-both f g [] = refl
+map-both f g (x ∷ xs) = ap (λ ys. f (g x) ∷ ys) (map-both f g xs)
+
+map-itself : {X : Type 0} (xs : List X) → map (λ x. x) xs ≡ xs
+map-itself [] = refl
+map-itself (x ∷ xs) = ap (λ ys. x ∷ ys) (map-itself xs)
+
+-- ---- what a step asks
+
+joined-by : (n : ℕ) (held : Held) (shape : Shape) (sources : List Source) → IsReady n shape (map (value_held held) sources)
+    → AreTables shape.atoms (rows_of (map (value_held held) sources)) → IsJoinable n shape (map (parts_held held) sources)
+joined-by n held shape sources h k =
+    let same : map (value_held held) sources ≡ placed_items (map (parts_held held) sources) =
+    sym (map-both placed_rows (parts_held held) sources) in
+    record { ready = subst (IsReady n shape) same h; typed = subst (λ items. AreTables shape.atoms (rows_of items)) same k }
+
+joinable-by : (n : ℕ) (held : Held) (schema : List Column) (t : TermTree) → HasReadyItems n (value_held held) t
+    → HasTypedSources schema (value_held held) t → HasJoinable n held t
+joinable-by n held schema (Same s) h k = tt
+joinable-by n held schema Empty h k = tt
+joinable-by n held schema (UnionAll s t) h k = tt
+joinable-by n held schema (Diff s t) h k = tt
+joinable-by n held schema (Distinct s) h k = tt
+joinable-by n held schema (Join shape sources) h k = joined-by n held shape sources h k
+joinable-by n held schema (Group shape sources kinds) h k = (joined-by n held shape sources h.0 k, h.1)
+
+-- ---- faults
+
+module _ (own all : Option RunFault) (first : (e : RunFault) → own ≡ Some e → all ≡ Some e) where
+  -- a fault of one thing is that of all
+  pub fault-of-all : (e : RunFault) → IsRunFault own e → IsRunFault all e
+  fault-of-all fault.Memory h = tt
+  fault-of-all (fault.TooManyRows n) h = first (fault.TooManyRows n) h
+  fault-of-all (fault.Overflow n) h = first (fault.Overflow n) h
+  fault-of-all (fault.AggregateOverflow n) h = first (fault.AggregateOverflow n) h
+
+-- ---- a step more
+
+module _ {T : Type 0} (s : Settings) (files : List File) (c : CheckedTree) (of_files : IsTrue (is_of files c))
+    (typed : AreTyped files) (totals : T → Totals) (tag : T → ℕ) (i : ℕ) (a : StepTree) (l : i < length (needed c)) (held : Held)
+    (noted : Noted) (before middle : List T) (run : AreRun s files c (take i (needed c)) held noted totals tag before middle) where
+  abbrev p : Placing
+  p = usual_placing s
+
+  abbrev x : StepTree
+  x = get_or (needed c) i a
+
+  abbrev value : Source → PlacedRelation
+  value = meant p files c
+
+  good : IsPlacing p
+  good = usual_is_placing s s.workers_in_range.0
+
+  ready : IsReadyStep p files c (parts_held held) x
+  ready = (held_are_ready p files c good of_files typed held.files held.results i a l run.held_as_meant).1
+
+  -- what it asks is there
+  pub runnable : IsRunnable s.workers (length x.schema) held x.term
+  runnable = record {
+    known = (held_are_ready p files c good of_files typed held.files held.results i a l run.held_as_meant).0;
+    at_workers =
+        All-weaker (λ o. IsPlaced s.workers (value_held held o)) (λ o. length (parts_held held o) ≡ s.workers)
+        (λ o h. h.each_worker) (sources_of x.term) ready.placed;
+    wide = ready.wide;
+    joinable = joinable-by s.workers held x.schema x.term ready.ready ready.typed;
+  }
+
+  as-meant : IsSameRun s x.statement value (value_held held) x.term
+  as-meant = terms_are_of_bags s x.statement value (value_held held) x.term ready.same
+
+  abbrev own_fault : Option RunFault
+  own_fault = term_fault (prefixes_of s.shuffle) x.statement (λ o. (value_held held o).relation.rows) x.term
+
+  -- its fault is that of the script
+  pub first-fault : (e : RunFault) → IsRunFault own_fault e → IsRunFault (fault_of s files c) e
+  first-fault =
+      fault-of-all own_fault (fault_of s files c)
+      (λ e h. (faults_are_first p files c of_files (λ number. prefixes_of s.shuffle)).first i a l run.sound e
+      (as-meant.fault (prefixes_of s.shuffle) ∙ h))
+
+  module _ (after_held : Held) (after_noted : Noted) (after : List T) (fair : AreFair totals tag middle after)
+      (done : IsStepDone s x held after_held noted after_noted totals tag middle after) where
+    abbrev exchanges : List PlacedExchange
+    exchanges = term_exchanges p x.statement value x.term
+
+    abbrev moved_by : Moved
+    moved_by = record {
+      parts = done.made;
+      traffic = map (λ (e : PlacedExchange). traffic_note s.workers (x.statement, e)) (held_exchanges s held x);
+      receipts = done.receipts;
+    }
+
+    moved : IsMoved s x.statement (term_parts p x.statement value x.term) exchanges moved_by
+        × AreMoved totals tag s.workers exchanges middle after
+    moved =
+        (run-same totals tag s x.statement (term_parts p x.statement (value_held held) x.term)
+        (term_parts p x.statement value x.term) (held_exchanges s held x) exchanges (λ (e : RunFault). ⊤) middle after (Ok moved_by)
+        as-meant.parts as-meant.exchanges (record {
+          fair = fair;
+          ok = (record { parts = done.parts; traffic = refl; receipts = done.shown }, done.moved);
+          err = tt;
+        })).ok
+
+    result : IsHeldResult s files c (parts_held held) x done.made
+    result =
+        results_are_held s files c s.workers_in_range.0 of_files typed (parts_held held) i a l ready.same done.made moved.0.parts
+
+    numbered : numbered_exchanges s files c (take (i + 1) (needed c))
+        ≡ numbered_exchanges s files c (take i (needed c)) ++ step_exchanges p value x
+    numbered = flat-more (step_exchanges p value) (needed c) i a l
+
+    bare : bare_exchanges s files c (take (i + 1) (needed c)) ≡ bare_exchanges s files c (take i (needed c)) ++ exchanges
+    bare =
+        ap (map (λ (e : ℕ × PlacedExchange). e.1)) numbered
+        ∙ map-append (λ (e : ℕ × PlacedExchange). e.1) (numbered_exchanges s files c (take i (needed c))) (step_exchanges p value x)
+        ∙ ap (λ es. bare_exchanges s files c (take i (needed c)) ++ es)
+        (map-both (λ (e : ℕ × PlacedExchange). e.1) (λ e. (x.statement, e)) exchanges ∙ map-itself exchanges)
+
+    -- with it one step more has run
+    pub one-more : AreRun s files c (take (i + 1) (needed c)) after_held after_noted totals tag before after
+    one-more = record {
+      held_as_meant =
+          subst (λ dealt. AreHeld p files c (take (i + 1) (needed c)) dealt after_held.results) (sym done.files)
+          (subst (AreHeld p files c (take (i + 1) (needed c)) held.files) (sym done.results)
+          (one_more_is_held p files c of_files held.files held.results i a l run.held_as_meant done.made result.rows));
+      plan =
+          done.plan ∙ (λ k. run.plan k ++ sym (result.lines s.local) k)
+          ∙ sym (flat-more (step_notes p s.local value) (needed c) i a l);
+      traffic =
+          done.traffic
+          ∙ (λ k. run.traffic k ++ (moved.0.traffic ∙ sym (map-both (traffic_note s.workers) (λ e. (x.statement, e)) exchanges)) k)
+          ∙ sym (map-append (traffic_note s.workers) (numbered_exchanges s files c (take i (needed c))) (step_exchanges p value x))
+          ∙ ap (map (traffic_note s.workers)) (sym numbered);
+      receipts =
+          subst (AreShown (size_of s) (flat_map shown_moves (bare_exchanges s files c (take (i + 1) (needed c)))))
+          (sym done.noted_receipts)
+          (subst (λ es. AreShown (size_of s) (flat_map shown_moves es) (noted.receipts ++ done.receipts)) (sym bare)
+          (subst (λ ms. AreShown (size_of s) ms (noted.receipts ++ done.receipts))
+          (sym (flat_map-append shown_moves (bare_exchanges s files c (take i (needed c))) exchanges))
+          (joined-runs.receipts (size_of s) (flat_map shown_moves (bare_exchanges s files c (take i (needed c))))
+          (flat_map shown_moves exchanges) noted.receipts done.receipts run.receipts moved.0.receipts)));
+      moved =
+          subst (λ es. AreMoved totals tag s.workers es before after) (sym bare)
+          ((joined-moves totals tag).joined s.workers (bare_exchanges s files c (take i (needed c))) exchanges before middle after
+          run.moved moved.1);
+      sound =
+          All-more (IsSound p (λ number. prefixes_of s.shuffle) files c) (needed c) i a l run.sound
+          (as-meant.fault (prefixes_of s.shuffle) ∙ done.sound);
+    }
+
+-- ---- the loop over the rewritten steps
+
+module _ (files : List File) (checked : Checked) (of_files : IsTrue (is_of files (checked_tree_of checked)))
+    (planned : Planned) (same : IsRewritten (checked_tree_of checked) (planned_tree_of planned)) where
+  abbrev script : CheckedTree
+  script = checked_tree_of checked
+
+  -- a step of the rewritten script, and that of the script with its number
+  pub record IsTurn (i : ℕ) (step pushed : Step) : Type 0 where
+    pub low : i < length (needed script)
+    pub own : get_or (needed script) i (step_tree_of step) ≡ step_tree_of step
+    pub term : IsSameTerm (term_tree_of step.term) (term_tree_of pushed.term)
+
+  many : length planned.steps ≡ length (needed script)
+  many =
+      sym (length-map planned.steps step_tree_of)
+      ∙ (rewritten_are_kept files script (planned_tree_of planned) of_files same).many
+
+  module _ (steps : List Step) (handed : steps ≡ planned.steps) where
+    -- all steps have run once the rewritten ones have
+    pub all-taken : (i : ℕ) → length steps ≤ i → take i (needed script) ≡ needed script
+    all-taken i past = take_all i (needed script) (omega (arith, past, ap length handed, many))
+
+    module _ (i : ℕ) (pushed : Step) (l : i < length steps) (is : pushed ≡ get_or steps i pushed) where
+      here : step_tree_of pushed ≡ get_or (planned_tree_of planned).steps i (step_tree_of pushed)
+      here =
+          ap step_tree_of (is ∙ ap (λ (xs : List Step). get_or xs i pushed) handed)
+          ∙ sym (get_or-map step_tree_of planned.steps i pushed (step_tree_of pushed) (omega (arith, l, ap length handed)))
+
+      at : (a : StepTree) → IsStepAt files script i (get_or (needed script) i a) (step_tree_of pushed)
+      at a =
+          subst (IsStepAt files script i (get_or (needed script) i a)) (sym here)
+          (steps_by_place files script (planned_tree_of planned) of_files same i a (step_tree_of pushed)
+          (omega (arith, l, ap length handed, length-map planned.steps step_tree_of)))
+
+      abbrev found_step : Option Step
+      found_step = find (λ (s : Step). s.statement == pushed.statement) checked.steps
+
+      found-is : (a : StepTree) → option_map step_tree_of found_step ≡ Some (get_or (needed script) i a)
+      found-is a =
+          sym (find-mapped step_tree_of (λ (s : StepTree). s.statement == pushed.statement) checked.steps) ∙ (at a).found
+
+      pub is-found : None ≡ found_step → ⊥
+      is-found none =
+          let never : None ≡ Some (get_or (needed script) i (step_tree_of pushed)) =
+          ap (option_map step_tree_of) none ∙ found-is (step_tree_of pushed) in
+          absurd (cc)
+
+      pub turn : (step : Step) → Some step ≡ found_step → IsTurn i step pushed
+      turn step found =
+          let a = step_tree_of step in
+          let own : get_or (needed script) i a ≡ a =
+          ap (λ (o : Option StepTree). unwrap_or o a) (sym (found-is a) ∙ ap (option_map step_tree_of) (sym found)) in
+          record {
+            low = omega (arith, l, ap length handed, many);
+            own = own;
+            term = subst (λ (t : StepTree). IsSameTerm t.term (term_tree_of pushed.term)) own (at a).same.term;
+          }
+
+      module _ {T : Type 0} (s : Settings) (typed : AreTyped files) (totals : T → Totals) (tag : T → ℕ) (held : Held)
+          (noted : Noted) (before middle : List T)
+          (run : AreRun s files script (take i (needed script)) held noted totals tag before middle)
+          (step : Step) (found : Some step ≡ found_step) where
+        pub turn-runnable : IsRunnable s.workers (length step.schema) held (term_tree_of step.term)
+        turn-runnable =
+            let t = turn step found in
+            subst (λ (x : StepTree). IsRunnable s.workers (length x.schema) held x.term) t.own
+            (runnable s files script of_files typed totals tag i (step_tree_of step) t.low held noted before middle run)
+
+        pub turn-fault : (e : RunFault)
+            → IsRunFault (term_fault (prefixes_of s.shuffle) step.statement (λ o. (value_held held o).relation.rows)
+            (term_tree_of step.term)) e → IsRunFault (fault_of s files script) e
+        turn-fault e =
+            let t = turn step found in
+            subst (λ (x : StepTree). IsRunFault (term_fault (prefixes_of s.shuffle) x.statement
+            (λ o. (value_held held o).relation.rows) x.term) e → IsRunFault (fault_of s files script) e) t.own
+            (first-fault s files script of_files typed totals tag i (step_tree_of step) t.low held noted before middle run e)
+
+        pub turn-done : (after_held : Held) (after_noted : Noted) (after : List T) → AreFair totals tag middle after
+            → IsStepDone s (step_tree_of step) held after_held noted after_noted totals tag middle after
+            → AreRun s files script (take (i + 1) (needed script)) after_held after_noted totals tag before after
+        turn-done after_held after_noted after fair done =
+            let t = turn step found in
+            one-more s files script of_files typed totals tag i (step_tree_of step) t.low held noted before middle run
+            after_held after_noted after fair
+            (subst (λ x. IsStepDone s x held after_held noted after_noted totals tag middle after) (sym t.own) done)
+
+-- ---- the first step
+
+pub none-run : {T : Type 0} (s : Settings) (files : List File) (c : CheckedTree) (held : Held) (noted : Noted) (totals : T → Totals)
+    (tag : T → ℕ) (taps : List T) → held.files ≡ map (λ (f : File). (placed_file s.workers f.1).parts) files → held.results ≡ []
+    → noted.plan ≡ [] → noted.traffic ≡ [] → noted.receipts ≡ [] → AreRun s files c [] held noted totals tag taps taps
+none-run s files c held noted totals tag taps dealt results plan traffic receipts = record {
+  held_as_meant = record {
+    files_dealt = dealt;
+    numbers = ap (map (λ (r : ℕ × List Rows). r.0)) results;
+    rows = All-nil (IsHeldStep (usual_placing s) files c (parts_in held.files held.results));
+  };
+  plan = plan;
+  traffic = traffic;
+  receipts = subst (AreShown (size_of s) []) (sym receipts) no_receipt;
+  moved = (joined-moves totals tag).none s.workers taps;
+  sound = All-nil (IsSound (usual_placing s) (λ number. prefixes_of s.shuffle) files c);
+}
+
+-- ---- stores, and the end
+
+module _ (p : Placing) (files : List File) (c : CheckedTree) (held : Held) where
+  each-stored : (ts : List StoreStep) → All (IsHeldStore p files c held.files held.results) ts
+      → AreStoredAt (map (held_store files c held) ts) (map (placed_store p files c) ts)
+  each-stored [] h = no_store
+  each-stored (t ∷ ts) h =
+      a_store (held_store files c held t) (placed_store p files c t) (map (held_store files c held) ts)
+      (map (placed_store p files c) ts)
+      (record {
+        key = refl;
+        schema = ap (λ (r : RelationState). r.schema) (sym (meant-related p files c t.source));
+        parts = (All-head (IsHeldStore p files c held.files held.results) t ts h).rows;
+      })
+      (each-stored ts (All-tail (IsHeldStore p files c held.files held.results) t ts h))
+
+module _ {T : Type 0} (s : Settings) (files : List File) (c : CheckedTree) (of_files : IsTrue (is_of files c)) (held : Held)
+    (noted : Noted) (totals : T → Totals) (tag : T → ℕ) (before after : List T)
+    (run : AreRun s files c (needed c) held noted totals tag before after) where
+  stores-held : All (IsHeldStore (usual_placing s) files c held.files held.results) c.stores
+  stores-held = stores_are_held (usual_placing s) files c of_files held.files held.results run.held_as_meant
+
+  -- what is stored is held
+  pub sources-held : All (λ (t : StoreStep). IsHeld held t.source) c.stores
+  sources-held =
+      All-weaker (IsHeldStore (usual_placing s) files c held.files held.results) (λ (t : StoreStep). IsHeld held t.source)
+      (λ t h. h.there) c.stores stores-held
+
+  -- where all steps have run, the script has
+  pub all-ran : (ran : Ran) → ran.stored ≡ map (held_store files c held) c.stores → ran.plan ≡ noted.plan
+      → ran.traffic ≡ noted.traffic → ran.receipts ≡ noted.receipts
+      → IsRan s files c ran × AreMoved totals tag s.workers (run_exchanges s files c) before after
+  all-ran ran stored plan traffic receipts =
+      let steps = scripts_are_of_steps (usual_placing s) files c in (
+        record {
+          sound = (faults_are_first (usual_placing s) files c of_files (λ number. prefixes_of s.shuffle)).none run.sound;
+          stored =
+              subst (λ made. AreStoredAt made (placed_stores (usual_placing s) files c)) (sym stored)
+              (subst (AreStoredAt (map (held_store files c held) c.stores)) (sym steps.placed)
+              (each-stored (usual_placing s) files c held c.stores stores-held));
+          plan = plan ∙ run.plan ∙ sym (steps.plan s.local);
+          traffic = traffic ∙ run.traffic ∙ ap (map (traffic_note s.workers)) (sym steps.exchanges);
+          receipts =
+              subst (AreShown (size_of s) (flat_map shown_moves (run_exchanges s files c))) (sym receipts)
+              (subst (λ (es : List (ℕ × PlacedExchange)). AreShown (size_of s)
+              (flat_map shown_moves (map (λ (e : ℕ × PlacedExchange). e.1) es)) noted.receipts)
+              (sym steps.exchanges) run.receipts);
+        },
+        subst (λ (es : List (ℕ × PlacedExchange)). AreMoved totals tag s.workers (map (λ (e : ℕ × PlacedExchange). e.1) es)
+            before after) (sym steps.exchanges) run.moved,
+      )
+
+-- ---- the step of a source
+
+some-of : {X Y : Type 0} (f : X → Y) (o : Option X) → IsSome (option_map f o) → IsSome o
+some-of f (Some y) h = refl
+some-of f None h = h
+
+-- the number of some of these steps is that of one of those
+among-numbers : (xs ys : List StepTree) (number : ℕ) → ((x : StepTree) → Contains xs x → Contains ys x)
+    → Contains (numbers_of xs) number → Contains (numbers_of ys) number
+among-numbers [] ys number among h = absurd (nothing_in_none number h)
+among-numbers (x ∷ xs) ys number among h = elim (first_or_behind x.statement (numbers_of xs) number h) [
+  | inl same ↦ subst (Contains (numbers_of ys)) same (number-of ys x (among x (in_front x xs)))
+  | inr others ↦ among-numbers xs ys number (λ y k. among y (behind x xs y k)) others
+]
+
+-- there is a step of the number
+number-found : (steps : List StepTree) (number : ℕ) → Contains (numbers_of steps) number
+    → IsSome (find (λ (s : StepTree). s.statement == number) steps)
+number-found steps number h =
+    let pair : StepTree → ℕ × StepTree = λ s. (s.statement, s) in
+    some-of pair (find (λ (s : StepTree). s.statement == number) steps)
+    (subst IsSome (find-mapped pair (λ (r : ℕ × StepTree). r.0 == number) steps)
+    (found-some (map pair steps) number
+    (subst (λ ns. Contains ns number) (sym (map-both (λ (r : ℕ × StepTree). r.0) pair steps)) h)))
+
+-- a known result is that of a step
+pub result-found : (files : List File) (checked : Checked) (number : ℕ)
+    → IsKnown files (needed (checked_tree_of checked)) (source.Result number)
+    → None ≡ find (λ (s : Step). s.statement == number) checked.steps → ⊥
+result-found files checked number h none =
+    let c = checked_tree_of checked in
+    let there : IsSome (find (λ (s : StepTree). s.statement == number) c.steps) =
+    number-found c.steps number
+    (among-numbers (needed c) c.steps number (needed-own c) h) in
+    let lost : find (λ (s : StepTree). s.statement == number) c.steps ≡ None =
+    find-mapped step_tree_of (λ (s : StepTree). s.statement == number) checked.steps ∙ ap (option_map step_tree_of) (sym none) in
+    let gone : IsSome {T = StepTree} None = subst IsSome lost there in
+    absurd (cc)
+
+-- whatever the workers are, its columns are that step's
+by-keys : Placing
+by-keys = record { workers = 1; seed = 0; joined = λ shape given. given; shuffle = λ number shape given. ByKeys }
+
+module _ (files : List File) (checked : Checked) (of_files : IsTrue (is_of files (checked_tree_of checked))) where
+  pub result-schema : (number : ℕ) (step : Step) → Some step ≡ find (λ (s : Step). s.statement == number) checked.steps
+      → step.schema ≡ schema_at files (checked_tree_of checked) (source.Result number)
+  result-schema number step found =
+      ap (λ (q : PlacedRelation). q.relation.schema)
+      (sym (results_are_found by-keys files (checked_tree_of checked) of_files number (step_tree_of step)
+      (find-mapped step_tree_of (λ (s : StepTree). s.statement == number) checked.steps
+      ∙ ap (option_map step_tree_of) (sym found))))
+      ∙ ap (λ (r : RelationState). r.schema) (meant-related by-keys files (checked_tree_of checked) (source.Result number))
