@@ -1,1 +1,5 @@
 -- Laws of the words, and worked rows.
+pub mod CommandLemmas
+pub mod MatchLemmas
+pub mod NumberLemmas
+pub mod WorkedRows

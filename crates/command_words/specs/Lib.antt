@@ -1,4 +1,5 @@
 -- The words of this crate.
 pub mod Commands
+pub mod Limits
 pub mod Texts
 pub mod Requests

@@ -17,16 +17,9 @@ use Rattle.clap.specs.Words.{Row, Text, first_of, matches_of}
 use Rattle.command_words.specs.declared.requests.Mode.{Mode}
 use Rattle.command_words.specs.declared.requests.Mode.TheVariants.{Run}
 use Rattle.command_words.specs.declared.requests.Request.{Request}
+use Rattle.command_words.specs.Limits.{most_seed, most_size}
 use Rattle.command_words.specs.Commands.{command, is_read}
 use Rattle.command_words.specs.Texts.{number_within, mode_of, shuffle_of, join_of}
-
--- the most rows of each relation of a trial
-abbrev pub most_size : ℕ
-most_size = 100000
-
--- the greatest hash seed
-abbrev pub most_seed : ℕ
-most_seed = 18446744073709551615
 
 -- the settings of a run, each within its limits where the words are read
 pub record AskedSettings : Type 0 where

@@ -4,7 +4,9 @@
 --   number_within least most text     the number that the text writes, where it lies within the limits
 --   mode_of text ..                   the choice that the text names, in just these letters
 use Rattle.std.specs.Prelude.{◌==◌, ◌&&◌, ℕ, Bool, List, Option, Some, None, not, nat_lt, length, codes, if◌then◌else◌}
-use Rattle.std.specs.Str.{all_ascii_digits, bytes_eq}
+use Rattle.std.specs.Char.{is_ascii_digit}
+use Rattle.std.specs.List.{list_all}
+use Rattle.std.specs.Str.{bytes_eq}
 use Rattle.std.specs.Str.Parse.{digits_value}
 use Rattle.algebra.specs.declared.settings.ShuffleKind.{ShuffleKind}
 use Rattle.algebra.specs.declared.settings.ShuffleKind.TheVariants.{Hc, Rs, Br}
@@ -14,7 +16,7 @@ use Rattle.command_words.specs.declared.requests.Mode.{Mode}
 use Rattle.command_words.specs.declared.requests.Mode.TheVariants.{Run, Check, Explain, Trial}
 
 abbrev pub is_numeral : List ℕ → Bool
-is_numeral text = not (length text == 0) && all_ascii_digits text
+is_numeral text = not (length text == 0) && list_all is_ascii_digit text
 
 -- whether the number is at least the one and at most the other
 abbrev pub lies_within : ℕ → ℕ → ℕ → Bool

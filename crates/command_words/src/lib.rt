@@ -12,7 +12,9 @@
 
 mod commands;
 mod matches;
+mod reading;
 mod requests;
 mod texts;
 
-pub use requests::{MOST_SIZE, Mode, Request, WordsFault, read_words};
+pub use reading::read_words;
+pub use requests::{MOST_SIZE, Mode, Request, WordsFault};

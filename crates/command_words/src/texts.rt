@@ -1,6 +1,7 @@
 //! What the text of an option says.
-ghost use Rattle.std.specs.Prelude.{◌≡◌, true};
-ghost use Rattle.std.specs.Str.{all_ascii_digits};
+ghost use Rattle.std.specs.Prelude.{◌≡◌};
+ghost use Rattle.std.specs.Char.{is_ascii_digit};
+ghost use Rattle.std.specs.List.{list_all};
 ghost use Rattle.command_words.specs.Texts as spec;
 
 use crate::Mode;
@@ -10,17 +11,14 @@ use algebra::{JoinKind, ShuffleKind};
 fn is_numeral(text: &str) -> bool
     ensures { result ≡ spec.is_numeral text.now }
 {
-    !text.is_empty() && has_only_digits(text.as_bytes())
+    !text.is_empty() && are_digits(text.as_bytes())
 }
 
 /// Whether each byte is a digit.
-fn has_only_digits(bytes: &[u8]) -> bool
-    ensures { result ≡ all_ascii_digits bytes.now }
+fn are_digits(bytes: &[u8]) -> bool
+    ensures { result ≡ list_all is_ascii_digit bytes.now }
 {
-    match bytes {
-        [] => true,
-        [first, rest @ ..] => first.is_ascii_digit() && has_only_digits(rest),
-    }
+    bytes.iter().all(|byte| byte.is_ascii_digit())
 }
 
 /// The number that the text writes, where it lies within these limits.
