@@ -1,5 +1,6 @@
 -- The command that is built is that of the definitions, and what clap says of it.
 use Rattle.std.proofs.Common.{◌≡◌, ◌≢◌, ◌∙◌, ap, ap₂, sym, refl, inl, inr, Bool, true, false, eqb, List, [], ◌∷◌, length, Result, Ok, Err, arith}
+use Rattle.std.proofs.lemmas.Bool.{ne_eqb}
 use Rattle.clap.specs.Words.{AddsArg, App, FailsBy, HasMatchesOf, IsAmong, Kinds, Rule, Text, app_of, fault_of, found_of, is_simple, is_simple_and_free, kind_of, matches_of, rows_of, rule_of, with_rule}
 use Rattle.clap.specs.declared.builder.arg.Arg.{Arg}
 use Rattle.clap.specs.declared.builder.command.Command.{Command}
@@ -37,7 +38,7 @@ rows-at-ok app words m e has = (has (ap is_simple e ∙ command-is-simple)).0 �
 
 among-some : (k : ErrorKind) (ks : Kinds) → IsAmong k ks → eqb (length ks) 0 ≡ false
 among-some k [] h = absurd h
-among-some k (x ∷ xs) h = omega arith
+among-some k (x ∷ xs) h = ne_eqb (length (x ∷ xs)) 0 (λ e. omega arith)
 
 pub refused-at-err : (app : App) (words : List Text) (error : Error) → app ≡ command → Fails app words (Err error)
     → kind_of error ≢ kind.OutOfMemory → is_read words ≡ false

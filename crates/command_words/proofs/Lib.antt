@@ -2,4 +2,5 @@
 pub mod CommandLemmas
 pub mod MatchLemmas
 pub mod NumberLemmas
+pub mod RequestLemmas
 pub mod WorkedRows

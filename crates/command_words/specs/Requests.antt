@@ -85,16 +85,22 @@ settings_given rows =
       local = local;
     }) (join_given rows)) (shuffle_given rows)) (seed_given rows)) (batch_given rows)) (capacity_given rows)) (workers_given rows)
 
+-- what is asked for where each of its parts is told
+abbrev pub asked_from : Option Mode → Option AskedSettings → Option ℕ → Option (List ℕ) → Bool → Bool → Option Asked
+asked_from mode settings size script plan traffic =
+    option_and_then (λ m. option_and_then (λ s. option_and_then (λ n. option_map (λ t. record {
+      mode = m;
+      settings = s;
+      plan = plan;
+      traffic = traffic;
+      size = n;
+      script = t;
+    }) script) size) settings) mode
+
 abbrev pub asked_in : List Row → Option Asked
 asked_in rows =
-    option_and_then (λ mode. option_and_then (λ settings. option_and_then (λ size. option_map (λ script. record {
-      mode = mode;
-      settings = settings;
-      plan = is_flag_given (codes "plan") rows;
-      traffic = is_flag_given (codes "traffic") rows;
-      size = size;
-      script = script;
-    }) (first_of (codes "script") rows)) (size_given rows)) (settings_given rows)) (mode_given rows)
+    asked_from (mode_given rows) (settings_given rows) (size_given rows) (first_of (codes "script") rows)
+    (is_flag_given (codes "plan") rows) (is_flag_given (codes "traffic") rows)
 
 abbrev pub asked : List Text → Option Asked
 asked words = if is_read words then asked_in (matches_of command words) else None

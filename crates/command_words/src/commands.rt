@@ -1,12 +1,11 @@
 //! The command of the program, and the words that it reads.
-ghost use Rattle.std.specs.Prelude.{◌≡◌, true, false, IfOk, Err, map};
-ghost use Rattle.clap.specs.Words.{app_of, found_of, matches_of, rows_of, rule_of};
+ghost use Rattle.std.specs.Prelude.{◌≡◌, ◌≢◌, true, false, IfOk, Err, map};
+ghost use Rattle.clap.specs.Words.{app_of, found_of, kind_of, matches_of, rows_of, rule_of};
 ghost use Rattle.command_words.specs.Commands as spec;
 
 use crate::WordsFault;
 use clap::error::ErrorKind;
-use clap::{Arg, ArgAction, ArgMatches, Command};
-use rel_base::Memory;
+use clap::{Arg, ArgAction, ArgMatches, Command, Error};
 use std::alloc::{AllocError, Global};
 
 /// An option that takes one text.
@@ -62,7 +61,16 @@ pub fn matches_in<'a>(alloc: Global, words: &'a [&'a str]) -> Result<ArgMatches<
     let command = command(alloc)?;
     match command.try_get_matches_from(words) {
         Ok(matches) => Ok(matches),
-        Err(error) if matches!(error.kind(), ErrorKind::OutOfMemory) => Err(WordsFault::Memory),
-        Err(_) => Err(WordsFault::Usage),
+        Err(error) => Err(fault_of(&error)),
+    }
+}
+
+/// What an error of clap comes to here.
+fn fault_of(error: &Error) -> WordsFault
+    ensures { result ≡ WordsFault.Usage → kind_of error.now ≢ ErrorKind.OutOfMemory }
+{
+    match error.kind() {
+        ErrorKind::OutOfMemory => WordsFault::Memory,
+        _ => WordsFault::Usage,
     }
 }

@@ -1,7 +1,7 @@
 //! What the matches of the command say, option by option.
-ghost use Rattle.std.specs.Prelude.{◌≡◌, ◌≤◌, IfSome, option_map};
+ghost use Rattle.std.specs.Prelude.{◌≡◌, ◌≤◌, IfSome, codes, option_map};
 ghost use Rattle.rel_base.specs.Limits.{most_workers, most_capacity, most_batch};
-ghost use Rattle.clap.specs.Words.{found_of, rows_of};
+ghost use Rattle.clap.specs.Words.{first_of, found_of, rows_of};
 ghost use Rattle.command_words.specs.Requests as spec;
 
 use crate::Mode;
@@ -33,6 +33,13 @@ pub fn is_flag_in(matches: &ArgMatches<'_>, name: &str) -> bool
         Some(text) => text == "true",
         None => false,
     }
+}
+
+/// The name of the script.
+pub fn script_in<'a>(matches: &ArgMatches<'a>) -> Option<&'a str>
+    ensures { option_map (λ text. text.now) result ≡ first_of (codes "script") (rows_of (found_of matches.now)) }
+{
+    matches.get_str("script")
 }
 
 /// The mode.

@@ -4,7 +4,7 @@ ghost use Rattle.clap.specs.Words.{found_of, rows_of};
 ghost use Rattle.command_words.specs.Requests as spec;
 
 use crate::commands::matches_in;
-use crate::matches::{count_in, is_flag_in, mode_in, settings_in};
+use crate::matches::{count_in, is_flag_in, mode_in, script_in, settings_in};
 use crate::{MOST_SIZE, Request, WordsFault};
 use clap::ArgMatches;
 use rel_base::{Memory, Text};
@@ -47,7 +47,7 @@ fn request_in(alloc: Global, matches: &ArgMatches<'_>) -> Result<Request, WordsF
     let Some(size) = count_in(matches, "size", 1000, MOST_SIZE) else {
         return Err(WordsFault::Usage);
     };
-    let Some(script) = matches.get_str("script") else {
+    let Some(script) = script_in(matches) else {
         return Err(WordsFault::Usage);
     };
     Ok(Request {
