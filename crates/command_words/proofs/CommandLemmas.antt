@@ -1,5 +1,5 @@
 -- The command that is built is that of the definitions, and what clap says of it.
-use Rattle.std.proofs.Common.{◌≡◌, ◌≢◌, ◌∙◌, ap, ap₂, sym, refl, inl, inr, Bool, true, false, eqb, List, [], ◌∷◌, length, Result, Ok, Err, arith}
+use Rattle.std.proofs.Common.{◌≡◌, ◌≢◌, ◌∙◌, ap, ap₂, sym, refl, inl, inr, true, false, eqb, List, [], ◌∷◌, length, Result, Ok, Err, arith}
 use Rattle.std.proofs.lemmas.Bool.{ne_eqb}
 use Rattle.clap.specs.Words.{AddsArg, App, FailsBy, HasMatchesOf, IsAmong, Kinds, Rule, Text, app_of, fault_of, found_of, is_simple, is_simple_and_free, kind_of, matches_of, rows_of, rule_of, with_rule}
 use Rattle.clap.specs.declared.builder.arg.Arg.{Arg}

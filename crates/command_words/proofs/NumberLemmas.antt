@@ -1,5 +1,5 @@
 -- std's `parse` of a number without a sign reads what `number_within` says.
-use Rattle.std.proofs.Common.{◌≡◌, ℕ, zero, suc, ◌^◌, ◌<◌, ◌≤◌, Bool, true, false, cond, not, eqb, ltb, ◌&&◌, Some, None, Option, Result, Ok, Err, List, length, refl, ap, rules, arith}
+use Rattle.std.proofs.Common.{◌≡◌, ℕ, zero, suc, ◌^◌, ◌<◌, true, false, cond, not, eqb, ltb, Some, None, Option, Result, Ok, Err, List, length, refl, ap, rules, arith}
 use Rattle.std.specs.Char.{is_ascii_digit}
 use Rattle.std.specs.List.{list_all}
 use Rattle.std.specs.Result.{OkIff}

@@ -1,9 +1,9 @@
 -- What is asked for, put together from its parts.
-use Rattle.std.proofs.Common.{◌≡◌, ◌∙◌, ap, sym, refl, ℕ, List, Bool, true, false, cond, Option, Some, None, Result, Err}
+use Rattle.std.proofs.Common.{◌≡◌, ◌∙◌, ap, sym, refl, ℕ, List, Bool, true, false, cond, Option, None, Result, Err}
 use Rattle.clap.specs.Words.{Row, Text, matches_of}
 use Rattle.command_words.specs.declared.requests.Mode.{Mode}
 use Rattle.command_words.specs.Commands.{command, is_read}
-use Rattle.command_words.specs.Requests.{Asked, AskedSettings, asked, asked_from, asked_in}
+use Rattle.command_words.specs.Requests.{AskedSettings, asked, asked_from, asked_in}
 
 pub asked-from-same : (m m2 : Option Mode) (s s2 : Option AskedSettings) (n n2 : Option ℕ) (t t2 : Option Text) (p p2 q q2 : Bool)
     → m ≡ m2 → s ≡ s2 → n ≡ n2 → t ≡ t2 → p ≡ p2 → q ≡ q2 → asked_from m s n t p q ≡ asked_from m2 s2 n2 t2 p2 q2

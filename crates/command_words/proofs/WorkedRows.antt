@@ -1,5 +1,5 @@
 -- Words that a user types, worked by computing.
-use Rattle.std.proofs.Common.{◌≡◌, Bool, true, false, not, is_some, List, ℕ, [], ◌∷◌, ◌++◌, Some, None, codes, refl}
+use Rattle.std.proofs.Common.{◌≡◌, Bool, true, false, not, is_some, List, ℕ, [], ◌∷◌, Some, codes, refl}
 use Rattle.std.specs.List.{list_all}
 use Rattle.algebra.specs.declared.settings.ShuffleKind.TheVariants as shuffle
 use Rattle.algebra.specs.declared.settings.JoinKind.TheVariants as join

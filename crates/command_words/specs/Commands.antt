@@ -2,7 +2,7 @@
 --
 --   command          eight options that take one text, two flags, and the script
 --   is_read words    whether clap reads the words, by its own definition of what fails
-use Rattle.std.specs.Prelude.{◌==◌, Bool, List, ℕ, Some, true, codes, length}
+use Rattle.std.specs.Prelude.{◌==◌, Bool, List, Some, true, codes, length}
 use Rattle.clap.specs.declared.builder.action.ArgAction.TheVariants.{Set, SetTrue}
 use Rattle.clap.specs.Words.{App, Rule, Text, fault_of, new_app, new_rule, with_rule}
 

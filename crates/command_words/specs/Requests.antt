@@ -4,7 +4,7 @@
 --   asked_in rows       what the command's matches ask for
 --   asked words         what the words ask for; none exactly where they are refused
 --   asked_of request    what a request holds
-use Rattle.std.specs.Prelude.{◌≡◌, ℕ, Bool, true, false, List, [], ◌∷◌, Option, Some, None, option_map, option_and_then, codes, if◌then◌else◌}
+use Rattle.std.specs.Prelude.{ℕ, Bool, false, List, Option, Some, None, option_map, option_and_then, codes, if◌then◌else◌}
 use Rattle.std.specs.Option.{option_map_or}
 use Rattle.std.specs.Str.{bytes_eq}
 use Rattle.rel_base.specs.Limits.{most_workers, most_capacity, most_batch}

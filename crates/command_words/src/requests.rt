@@ -5,6 +5,8 @@ ghost use Rattle.command_words.specs.Limits.{most_size};
 use algebra::Settings;
 use rel_base::{Memory, Text};
 use std::alloc::AllocError;
+use std::error::Error;
+use std::fmt;
 
 /// The most rows of each relation of a trial.
 pub const MOST_SIZE: u32 = 100_000;
@@ -48,6 +50,23 @@ pub enum WordsFault {
     /// Memory was refused.
     Memory,
 }
+
+/// The fault in words, as `usage: myria [options] SCRIPT`.
+impl fmt::Display for WordsFault {
+    ghost use Rattle.std.specs.Prelude.{Some};
+    ghost use Rattle.command_words.specs.Faults.{fault_text};
+
+    ghost output = { λ fault. Some (fault_text fault) };
+
+    fn fmt<W: fmt::Write>(&self, f: &mut fmt::Formatter<W>) -> fmt::Result {
+        match self {
+            WordsFault::Usage => write!(f, "usage: myria [options] SCRIPT"),
+            WordsFault::Memory => write!(f, "out of memory"),
+        }
+    }
+}
+
+impl Error for WordsFault {}
 
 impl From<Memory> for WordsFault {
     ghost use Rattle.std.specs.Prelude.{◌≡◌};

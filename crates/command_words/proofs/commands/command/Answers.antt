@@ -1,6 +1,4 @@
-use Rattle.std.proofs.Common.{◌≡◌}
 use Rattle.std.proofs.lemmas.Result.{IfOk-weaker}
-use Rattle.clap.specs.Words.{app_of, rule_of}
 use Rattle.command_words.specs.Commands.{command}
 use Rattle.command_words.proofs.CommandLemmas.{added}
 use Rattle.command_words.proofs.commands.command.Goals as goal

@@ -1,4 +1,4 @@
-use Rattle.std.proofs.Common.{rules, ◌≡◌, ◌∙◌, sym, codes, option_map}
+use Rattle.std.proofs.Common.{rules, ◌≡◌, ◌∙◌, sym, codes}
 use Rattle.std.specs.Str.{bytes_eq}
 use Rattle.clap.specs.Words.{found_of, first_value}
 use Rattle.command_words.proofs.MatchLemmas.{behind, test-none, test-some}

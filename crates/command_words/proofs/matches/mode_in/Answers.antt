@@ -1,4 +1,4 @@
-use Rattle.std.proofs.Common.{rules, ◌≡◌, ◌∙◌, sym, codes, option_map}
+use Rattle.std.proofs.Common.{rules, ◌≡◌, ◌∙◌, sym, codes}
 use Rattle.clap.specs.Words.{found_of, first_value}
 use Rattle.command_words.proofs.MatchLemmas.{behind, given-none, given-some}
 use Rattle.command_words.specs.declared.requests.Mode.TheVariants.{Run}

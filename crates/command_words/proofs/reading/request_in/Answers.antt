@@ -1,4 +1,4 @@
-use Rattle.std.proofs.Common.{rules, ◌≡◌, ◌∙◌, sym, Some, None, codes}
+use Rattle.std.proofs.Common.{rules, ◌≡◌, Some, codes}
 use Rattle.clap.specs.Words.{first_of, found_of, rows_of}
 use Rattle.command_words.specs.Requests.{asked_settings_of, is_flag_given, mode_given, settings_given, size_given}
 use Rattle.command_words.proofs.RequestLemmas.{asked-from-same}

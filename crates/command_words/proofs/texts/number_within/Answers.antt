@@ -1,4 +1,4 @@
-use Rattle.std.proofs.Common.{rules, sym, ◌∙◌}
+use Rattle.std.proofs.Common.{rules}
 use Rattle.command_words.proofs.NumberLemmas.{number-parsed}
 use Rattle.command_words.proofs.texts.number_within.Goals as goal
 
