@@ -95,26 +95,26 @@ bad_choices = refl
 
 -- words that clap refuses: no script, two, an option or a flag twice, a flag with a text, a request for help
 pub bad_words : list_all (λ words. refuses (myria words)) (
-  []
-  ∷ (codes "--" ∷ [])
-  ∷ (codes "q" ∷ codes "r" ∷ [])
-  ∷ (codes "--workers" ∷ codes "4" ∷ codes "--workers" ∷ codes "4" ∷ codes "q" ∷ [])
-  ∷ (codes "--plan" ∷ codes "--plan" ∷ codes "q" ∷ [])
-  ∷ (codes "--plan=yes" ∷ codes "q" ∷ [])
-  ∷ (codes "q" ∷ codes "--workers" ∷ [])
-  ∷ (codes "--rows" ∷ codes "4" ∷ codes "q" ∷ [])
-  ∷ (codes "--help" ∷ [])
-  ∷ (codes "-h" ∷ [])
-  ∷ (codes "--version" ∷ [])
-  ∷ []) ≡ true
+    []
+    ∷ (codes "--" ∷ [])
+    ∷ (codes "q" ∷ codes "r" ∷ [])
+    ∷ (codes "--workers" ∷ codes "4" ∷ codes "--workers" ∷ codes "4" ∷ codes "q" ∷ [])
+    ∷ (codes "--plan" ∷ codes "--plan" ∷ codes "q" ∷ [])
+    ∷ (codes "--plan=yes" ∷ codes "q" ∷ [])
+    ∷ (codes "q" ∷ codes "--workers" ∷ [])
+    ∷ (codes "--rows" ∷ codes "4" ∷ codes "q" ∷ [])
+    ∷ (codes "--help" ∷ [])
+    ∷ (codes "-h" ∷ [])
+    ∷ (codes "--version" ∷ [])
+    ∷ []) ≡ true
 unfolding clap_on_literals command
 bad_words = refl
 
 -- an option is read where it has no effect, too
 pub without_effect : list_all (λ words. refuses (myria words)) (
-  (codes "--mode" ∷ codes "check" ∷ codes "--workers" ∷ codes "65" ∷ codes "q" ∷ [])
-  ∷ (codes "--mode" ∷ codes "trial" ∷ codes "--shuffle" ∷ codes "HC" ∷ codes "q" ∷ [])
-  ∷ (codes "--mode" ∷ codes "run" ∷ codes "--size" ∷ codes "x" ∷ codes "q" ∷ [])
-  ∷ []) ≡ true
+    (codes "--mode" ∷ codes "check" ∷ codes "--workers" ∷ codes "65" ∷ codes "q" ∷ [])
+    ∷ (codes "--mode" ∷ codes "trial" ∷ codes "--shuffle" ∷ codes "HC" ∷ codes "q" ∷ [])
+    ∷ (codes "--mode" ∷ codes "run" ∷ codes "--size" ∷ codes "x" ∷ codes "q" ∷ [])
+    ∷ []) ≡ true
 unfolding clap_on_literals command
 without_effect = refl
