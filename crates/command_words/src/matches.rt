@@ -1,6 +1,5 @@
 //! What the matches of the command say, option by option.
 ghost use Rattle.std.specs.Prelude.{◌≡◌, ◌≤◌, IfSome, codes, option_map};
-ghost use Rattle.rel_base.specs.Limits.{most_workers, most_capacity, most_batch};
 ghost use Rattle.clap.specs.Words.{first_of, found_of, rows_of};
 ghost use Rattle.command_words.specs.Requests as spec;
 
