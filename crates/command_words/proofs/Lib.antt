@@ -3,4 +3,5 @@ pub mod CommandLemmas
 pub mod MatchLemmas
 pub mod NumberLemmas
 pub mod RequestLemmas
+pub mod SettingsLemmas
 pub mod WorkedRows
