@@ -1,5 +1,5 @@
 //! Tests of what stands around a run: its stages, the texts that it prints of its plan and its
-//! traffic, the collecting of its rows, and trials. Each call is run once, with ample memory, and
+//! traffic, the collecting of its rows, trials, and the words that ask for it. Each call is run once, with ample memory, and
 //! those that may wait are seen to return.
 //!
 //! Stands on the crates that it runs, and on what their notes and steps are made of. Nothing here
@@ -14,3 +14,5 @@ mod printing;
 mod stages;
 #[cfg(test)]
 mod trials;
+#[cfg(test)]
+mod words;

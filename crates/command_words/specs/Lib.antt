@@ -1,0 +1,6 @@
+-- The words of this crate.
+pub mod Commands
+pub mod Faults
+pub mod Limits
+pub mod Texts
+pub mod Requests
