@@ -12,7 +12,7 @@ use Rattle.algebra.specs.Joins.{IsPart, agrees_in}
 use Rattle.algebra.proofs.ShapeLemmas.{tie-holds}
 use Rattle.row_exchange.specs.Routes.{rows_at}
 use Rattle.worker_joins.specs.RouteJoins.{ArePartsAtWorkers}
-use Rattle.shuffle_tests.specs.inner.Numbers.{number_kinds, number_atom, JoinsNumbers, AreNumbers}
+use Rattle.shuffle_tests.specs.inner.Numbers.{number_kinds, number_atom, JoinsNumbers, JoinsThree, AreNumbers}
 
 abbrev of_numbers : List Scalar → List Scalar → List Scalar → Shape
 of_numbers plain arith emits = record { atoms = number_atom ∷ number_atom ∷ []; variables = (0 ∷ 1 ∷ []) ∷ []; plain = plain; arith = arith; emits = emits }
@@ -42,3 +42,36 @@ numbers-ready shape n parts is two all =
 
     each : (j u : ℕ) → j < length parts → u < n → IsPart (of_numbers shape.plain shape.arith shape.emits) j (rows_at parts j u)
     each j u one here = part j u (omega (arith, one, two)) (typed j u one here)
+
+-- ---- three items
+
+abbrev of_three : List Scalar → List Scalar → List Scalar → Shape
+of_three plain arith emits =
+    record { atoms = number_atom ∷ number_atom ∷ number_atom ∷ []; variables = (0 ∷ 1 ∷ 2 ∷ []) ∷ []; plain = plain; arith = arith; emits = emits }
+
+agrees-0 : (plain arith emits : List Scalar) (row : Row) → agrees_in (of_three plain arith emits) 0 row ≡ true
+agrees-0 plain arith emits row = let a = itself row 0 in rw a refl
+
+agrees-1 : (plain arith emits : List Scalar) (row : Row) → agrees_in (of_three plain arith emits) 1 row ≡ true
+agrees-1 plain arith emits row = let a = itself (put_at 1 row) 1 in rw a refl
+
+agrees-2 : (plain arith emits : List Scalar) (row : Row) → agrees_in (of_three plain arith emits) 2 row ≡ true
+agrees-2 plain arith emits row = let a = itself (put_at 2 row) 2 in rw a refl
+
+pub three-ready : (shape : Shape) (n : ℕ) (parts : List (List Rows)) → JoinsThree shape → length parts ≡ 3 → All (AreNumbers n) parts → ArePartsAtWorkers shape n parts
+three-ready shape n parts is three all =
+    subst (λ s. ArePartsAtWorkers s n parts)
+    (λ i. record { atoms = sym is.atoms i; variables = sym is.variables i; plain = shape.plain; arith = shape.arith; emits = shape.emits })
+    (record { one_each = three; each_worker = λ k d below. (all k d below).0; each = each })
+  where
+    typed : (j u : ℕ) → j < length parts → u < n → HasKinds number_kinds (rows_at parts j u)
+    typed j u one here = let numbers = all j [] one in numbers.1 u [] (omega (arith, here, numbers.0))
+
+    part : (j u : ℕ) → j < 3 → HasKinds number_kinds (rows_at parts j u) → IsPart (of_three shape.plain shape.arith shape.emits) j (rows_at parts j u)
+    part zero u one kinds = record { typed = kinds; kept = λ k d l. refl; agreeing = λ k d l. agrees-0 shape.plain shape.arith shape.emits (get_or (rows_at parts 0 u) k d) }
+    part (suc zero) u one kinds = record { typed = kinds; kept = λ k d l. refl; agreeing = λ k d l. agrees-1 shape.plain shape.arith shape.emits (get_or (rows_at parts 1 u) k d) }
+    part (suc (suc zero)) u one kinds = record { typed = kinds; kept = λ k d l. refl; agreeing = λ k d l. agrees-2 shape.plain shape.arith shape.emits (get_or (rows_at parts 2 u) k d) }
+    part (suc (suc (suc j))) u one kinds = absurd (omega arith)
+
+    each : (j u : ℕ) → j < length parts → u < n → IsPart (of_three shape.plain shape.arith shape.emits) j (rows_at parts j u)
+    each j u one here = part j u (omega (arith, one, three)) (typed j u one here)

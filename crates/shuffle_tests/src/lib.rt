@@ -12,3 +12,5 @@ mod homes;
 mod locals;
 #[cfg(test)]
 mod numbers;
+#[cfg(test)]
+mod steps;

@@ -1,0 +1,21 @@
+use Rattle.std.proofs.Common.{◌≡◌, ap, arith}
+use Rattle.rel_io.specs.declared.taps.Totals.{Totals}
+use Rattle.algebra.specs.ShapeTrees.{shape_tree_of}
+use Rattle.shuffle_tests.proofs.NumberLemmas.{numbers-ready}
+use Rattle.shuffle_tests.proofs.numbers.join_by_broadcast.Goals as goal
+
+pub broadcast_join-requires-clause-ready : goal.broadcast_join-requires-clause-ready
+broadcast_join-requires-clause-ready g c κs within =
+    numbers-ready (shape_tree_of c.in_ok-shape.shape) c.args.settings.now.workers c.in_ok-parts.parts c.in_ok-shape.ensures c.in_ok-parts.ensures.two c.in_ok-parts.ensures.all
+
+pub broadcast_join-requires-clause-low : goal.broadcast_join-requires-clause-low
+broadcast_join-requires-clause-low g c κs within k d below =
+    let none = c.requires.blank k d below in
+    let sent = ap (λ (t : Totals). t.sent) none in
+    let got = ap (λ (t : Totals). t.got) none in
+    record { sent = omega (arith, sent); got = omega (arith, got) }
+
+pub broadcast_join-requires-clause-unlisted : goal.broadcast_join-requires-clause-unlisted
+broadcast_join-requires-clause-unlisted g c κs within k d below =
+    let listed = ap (λ (t : Totals). t.listed) (c.requires.blank k d below) in
+    omega (arith, listed)
