@@ -1,5 +1,5 @@
 //! Numbers of rows, for traffic.
-ghost use Rattle.std.specs.Prelude.{◌≡◌, ℕ, ◌+◌, ◌*◌, ◌^◌, ◌<◌, ◌≤◌, length, map, All, IfOk, slice_index_or, vec_len};
+ghost use Rattle.std.specs.Prelude.{◌≡◌, ◌*◌, ◌^◌, ◌<◌, ◌≤◌, length, All, IfOk, vec_len};
 ghost use Rattle.placement.specs.Exchanges.{row_counts};
 ghost use Rattle.placement.specs.Layouts.{together};
 ghost use Rattle.regular_shuffle.specs.inner.Counts.{AreGot, AreGotSince, HaveRisen};
