@@ -1,4 +1,4 @@
-use Rattle.std.proofs.Common.{◌≡◌, ap, arith}
+use Rattle.std.proofs.Common.{ap, arith}
 use Rattle.rel_io.specs.declared.taps.Totals.{Totals}
 use Rattle.algebra.specs.ShapeTrees.{shape_tree_of}
 use Rattle.shuffle_tests.proofs.NumberLemmas.{numbers-ready}

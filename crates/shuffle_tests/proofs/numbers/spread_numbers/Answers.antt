@@ -1,8 +1,5 @@
-use Rattle.std.proofs.Common.{◌≡◌, ◌∙◌, ◌<◌, ◌∷◌, [], length, All, ap, sym, subst, arith}
-use Rattle.rel_base.proofs.SortLemmas.{All-one}
+use Rattle.std.proofs.Common.{ap, arith}
 use Rattle.rel_io.specs.declared.taps.Totals.{Totals}
-use Rattle.myrial_ast.specs.Combinations.{Row}
-use Rattle.shuffle_tests.specs.inner.Numbers.{number_kinds}
 use Rattle.shuffle_tests.proofs.numbers.spread_numbers.Goals as goal
 
 pub spread_by_key-requires-clause-low : goal.spread_by_key-requires-clause-low
