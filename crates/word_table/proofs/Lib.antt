@@ -5,3 +5,4 @@ pub mod GatherLemmas
 pub mod RankLemmas
 pub mod EncodeLemmas
 pub mod WorkedRows
+pub mod TextKeyLemmas

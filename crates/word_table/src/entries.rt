@@ -1,39 +1,40 @@
-//! The strings of a dictionary, each beside its key.
+//! The strings of a dictionary, each beside its keys.
 ghost use Rattle.std.specs.Prelude.{◌≡◌, IfOk};
 ghost use Rattle.word_table.specs.Words.{text_order};
 
 use crate::keyed::Keyed;
+use crate::text_keys::TextKeys;
 use rel_base::{Duplicate, Memory, Text};
 use std::alloc::Global;
 use std::cmp::Ordering;
 use std::marker::Model;
 
-/// A string that a dictionary owns, beside its key. Contracts see it as the string's bytes.
+/// A string that a dictionary owns, beside its keys. Contracts see it as the string's bytes.
 #[derive(Drop)]
 pub(crate) struct Entry {
-    key: u64,
+    keys: TextKeys,
     text: Text,
 }
 
 impl Model for Entry {
     ghost use Rattle.std.specs.Prelude.{List, ℕ};
-    ghost use Rattle.rel_base.specs.SortKeys.{IsKeyOf};
+    ghost use Rattle.word_table.specs.inner.TextKeys.{AreKeysOf};
 
     ghost Value = { List ℕ };
 
     ghost view = { λ e. e.text };
 
-    ghost invariant = { λ e. IsKeyOf e.text e.key };
+    ghost invariant = { λ e. AreKeysOf e.text e.keys };
 }
 
 impl Entry {
-    /// A copy of the string beside its key.
+    /// A copy of the string beside its keys.
     pub(crate) fn of(alloc: Global, string: &Keyed<'_>) -> Result<Entry, Memory>
         ensures { IfOk result (λ made. made ≡ string.now) }
     {
         let text = Text::of(alloc, string.as_str())?;
         Ok(Entry {
-            key: string.key(),
+            keys: string.keys(),
             text,
         })
     }
@@ -49,15 +50,9 @@ impl Entry {
     pub(crate) fn compare(&self, other: &Keyed<'_>) -> Ordering
         ensures { result ≡ text_order self.now other.now }
     {
-        let key = other.key();
-        if self.key < key {
-            Ordering::Less
-        } else if key < self.key {
-            Ordering::Greater
-        } else if key % 2 == 0 {
-            Ordering::Equal
-        } else {
-            self.text.as_str().cmp(other.as_str())
+        match self.keys.compare(other.keys()) {
+            Some(order) => order,
+            None => self.text.as_str().cmp(other.as_str()),
         }
     }
 }

@@ -1,48 +1,49 @@
-//! Strings that are to be sorted, each beside its key.
+//! Strings that are to be sorted, each beside its keys.
 ghost use Rattle.std.specs.Prelude.{◌≡◌};
 ghost use Rattle.std.specs.Ordering.{eq_by_cmp, as_partial_cmp};
 ghost use Rattle.std.specs.Cmp.{eq_by_cmp_equiv, partial_equiv_from_equiv, partial_order_from_total};
 ghost use Rattle.std.specs.Cmp.Lexicographic.{nat_list_cmp_total};
-ghost use Rattle.rel_base.specs.SortKeys.{IsKeyOf};
+ghost use Rattle.word_table.specs.inner.TextKeys.{AreKeysOf};
 
-use rel_base::sort_key;
+use crate::text_keys::TextKeys;
 use std::cmp::Ordering;
 use std::marker::Model;
 
-/// A string of the rows beside its key, which contracts see as the string's bytes. It is ordered by its bytes.
+/// A string of the rows beside its keys, which contracts see as the string's bytes. It is ordered by
+/// its bytes.
 #[derive(Drop)]
 pub(crate) struct Keyed<'a> {
-    key: u64,
+    keys: TextKeys,
     text: &'a str,
 }
 
 impl<'a> Model for Keyed<'a> {
     ghost use Rattle.std.specs.Prelude.{List, ℕ};
-    ghost use Rattle.rel_base.specs.SortKeys.{IsKeyOf};
+    ghost use Rattle.word_table.specs.inner.TextKeys.{AreKeysOf};
 
     ghost Value = { List ℕ };
 
     ghost view = { λ k. k.text.now };
 
-    ghost invariant = { λ k. IsKeyOf k.text.now k.key };
+    ghost invariant = { λ k. AreKeysOf k.text.now k.keys };
 }
 
 impl<'a> Keyed<'a> {
-    /// The string beside its key.
+    /// The string beside its keys.
     pub(crate) fn of(text: &'a str) -> Keyed<'a>
         ensures { result ≡ text.now }
     {
         Keyed {
-            key: sort_key(text.as_bytes()),
+            keys: TextKeys::of(text),
             text,
         }
     }
 
-    /// The string's key.
-    pub(crate) fn key(&self) -> u64
-        ensures { IsKeyOf self.now result }
+    /// The string's keys.
+    pub(crate) fn keys(&self) -> TextKeys
+        ensures { AreKeysOf self.now result }
     {
-        self.key
+        self.keys
     }
 
     /// The string.
@@ -94,14 +95,9 @@ impl<'a> Ord for Keyed<'a> {
     ghost matches_eq = { λ s t. refl };
 
     fn cmp(&self, other: &Keyed<'a>) -> Ordering {
-        if self.key < other.key {
-            Ordering::Less
-        } else if other.key < self.key {
-            Ordering::Greater
-        } else if self.key % 2 == 0 {
-            Ordering::Equal
-        } else {
-            self.text.cmp(other.text)
+        match self.keys.compare(other.keys) {
+            Some(order) => order,
+            None => self.text.cmp(other.text),
         }
     }
 }

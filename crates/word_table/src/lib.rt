@@ -22,6 +22,7 @@ mod numbering;
 mod occurrences;
 mod ranking;
 mod tables;
+mod text_keys;
 
 pub use dictionary::{Dictionary, words_keep_order};
 pub use encoding::{Encoded, encode};
