@@ -1,0 +1,4 @@
+pub mod PieceLemmas
+pub mod StoreLemmas
+mod TrialLemmas
+mod LawLemmas
