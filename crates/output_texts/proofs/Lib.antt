@@ -2,3 +2,4 @@ pub mod PieceLemmas
 pub mod StoreLemmas
 mod TrialLemmas
 mod LawLemmas
+mod WorkedRows

@@ -1,12 +1,12 @@
 -- The text of what is stored at workers is the text of the bags of all workers' rows.
-use Rattle.std.proofs.Common.{◌≡◌, ℕ, List, [], ◌∷◌, ◌++◌, length, map, refl, sym, ◌∙◌, ap, append_assoc}
+use Rattle.std.proofs.Common.{◌≡◌, ℕ, List, [], ◌++◌, length, map, refl, sym, ◌∙◌, ap, append_assoc}
 use Rattle.std.specs.Prelude.{All}
 use Rattle.std.specs.Borrow.{Bor}
 use Rattle.std.specs.List.{flat_map}
 use Rattle.std.proofs.lemmas.List.{length-map}
 use Rattle.std.proofs.lemmas.List.Elements.{All-head, All-tail}
 use Rattle.std.proofs.lemmas.List.Folds.{flat_map-map}
-use Rattle.std.proofs.lemmas.List.Sorted.{length_permutation, IsPermutation-sym, IsPermutation-trans}
+use Rattle.std.proofs.lemmas.List.Sorted.{length_permutation, IsPermutation-append, IsPermutation-refl, IsPermutation-sym, IsPermutation-trans}
 use Rattle.rel_base.specs.Bags.{SameBag, sorted}
 use Rattle.rel_base.specs.Keys.{File}
 use Rattle.rel_base.specs.Picks.{joined}
@@ -22,7 +22,9 @@ use Rattle.run_laws.proofs.BagLemmas.{together-same}
 use Rattle.engine.specs.Runs.{AreStoredAt, no_store, a_store}
 use Rattle.engine.specs.declared.runs.SpreadStore.{SpreadStore}
 use Rattle.output_texts.specs.OutputText.{output_text, relation_text, store_line}
-use Rattle.output_texts.specs.Stores.{whole_store}
+use Rattle.output_texts.specs.Stores.{all_rows, whole_store}
+use Rattle.output_texts.specs.TrialText.{trial_text}
+use Rattle.output_texts.proofs.TrialLemmas.{trial_text-same}
 
 -- ---- a bag has one text
 
@@ -58,6 +60,24 @@ stores-text n _ _ (a_store stored placed rest others is more) all =
     let behind : output_text (map whole_store rest) ≡ output_text (map unplaced others) =
     stores-text n rest others more (All-tail (λ (p : Key × PlacedRelation). IsPlaced n p.1) placed others all) in
     λ i. first i ++ behind i
+
+-- and they have the rows of what is placed
+stores-rows : (n : ℕ) (stored : List SpreadStore) (placed : List (Key × PlacedRelation)) → AreStoredAt stored placed
+    → All (λ (p : Key × PlacedRelation). IsPlaced n p.1) placed
+    → SameBag (all_rows (map whole_store stored)) (all_rows (map unplaced placed))
+stores-rows n _ _ no_store all = IsPermutation-refl []
+stores-rows n _ _ (a_store stored placed rest others is more) all =
+    let here : IsPlaced n placed.1 = All-head (λ (p : Key × PlacedRelation). IsPlaced n p.1) placed others all in
+    let same : SameBag placed.1.relation.rows (joined stored.parts) =
+    IsPermutation-trans _ _ _ here.all_rows (together-same placed.1.parts stored.parts is.parts) in
+    IsPermutation-append _ _ _ _ (IsPermutation-sym _ _ same)
+    (stores-rows n rest others more (All-tail (λ (p : Key × PlacedRelation). IsPlaced n p.1) placed others all))
+
+-- and so its text as a trial
+pub stores-trial : (n size : ℕ) (stored : List SpreadStore) (placed : List (Key × PlacedRelation)) → AreStoredAt stored placed
+    → All (λ (p : Key × PlacedRelation). IsPlaced n p.1) placed
+    → trial_text size (all_rows (map whole_store stored)) ≡ trial_text size (all_rows (map unplaced placed))
+stores-trial n size stored placed are all = trial_text-same size _ _ (stores-rows n stored placed are all)
 
 -- ---- what was written of a store
 

@@ -135,14 +135,19 @@ collected-more stores i store h is all rows both so_far collected put =
 
 -- ---- the numbers of a trial
 
+-- a bag has one text as a trial
+pub trial_text-same : (size : ℕ) (rows others : Rows) → SameBag rows others → trial_text size rows ≡ trial_text size others
+trial_text-same size rows others same =
+    let long : length rows ≡ length others = sym (length_permutation rows others same) in
+    let unlike : length (distinct rows) ≡ length (distinct others) =
+    sym (length_permutation (distinct rows) (distinct others) (distinct-same rows others same)) in
+    λ i. size_line size ++ rows_line (long i) ++ distinct_line (unlike i)
+
 pub counts-same : (size : ℕ) (before longer : List ℕ) (rows others : Rows) (count different : ℕ) → SameBag rows others
     → count ≡ length others → different ≡ length (distinct others)
     → longer ≡ before ++ size_line size ++ rows_line count ++ distinct_line different → longer ≡ before ++ trial_text size rows
 counts-same size before longer rows others count different same counted apart is =
-    let many : count ≡ length rows = counted ∙ length_permutation rows others same in
-    let unlike : different ≡ length (distinct rows) =
-    apart ∙ length_permutation (distinct rows) (distinct others) (distinct-same rows others same) in
-    is ∙ append_assoc (before ++ size_line size) (rows_line count) (distinct_line different)
-    ∙ append_assoc before (size_line size) (rows_line count ++ distinct_line different)
-    ∙ ap (λ (text : List ℕ). before ++ text) (sym (append_assoc (size_line size) (rows_line count) (distinct_line different)))
-    ∙ (λ i. before ++ (size_line size ++ rows_line (many i) ++ distinct_line (unlike i)))
+    is ∙ (λ i. before ++ size_line size ++ rows_line (counted i) ++ distinct_line (apart i))
+    ∙ ap (λ (text : List ℕ). text ++ distinct_line (length (distinct others))) (append_assoc before (size_line size) (rows_line (length others)))
+    ∙ append_assoc before (size_line size ++ rows_line (length others)) (distinct_line (length (distinct others)))
+    ∙ ap (λ (text : List ℕ). before ++ text) (sym (trial_text-same size rows others same))
