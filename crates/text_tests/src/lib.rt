@@ -9,6 +9,8 @@
 #[cfg(test)]
 mod collecting;
 #[cfg(test)]
+mod pieces;
+#[cfg(test)]
 mod printing;
 #[cfg(test)]
 mod stages;

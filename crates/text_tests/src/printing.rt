@@ -15,7 +15,7 @@ fn two_places(alloc: Global) -> Result<ItemPlaces, Memory> {
 }
 
 /// A statement, a variable with a share, and a shuffle by cells.
-fn three_notes(alloc: Global) -> Result<PlanNotes, Memory> {
+pub(crate) fn three_notes(alloc: Global) -> Result<PlanNotes, Memory> {
     let places = two_places(alloc)?;
     let mut notes = PlanNotes::new(alloc);
     notes.push(PlanNote::Statement {
@@ -38,7 +38,7 @@ fn three_notes(alloc: Global) -> Result<PlanNotes, Memory> {
 }
 
 /// Two numbers of rows.
-fn two_counts(alloc: Global, first: u64, second: u64) -> Result<Counts, Memory> {
+pub(crate) fn two_counts(alloc: Global, first: u64, second: u64) -> Result<Counts, Memory> {
     let mut counts = Counts::new(alloc);
     counts.push(first)?;
     counts.push(second)?;

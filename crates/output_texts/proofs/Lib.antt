@@ -1,0 +1,5 @@
+pub mod PieceLemmas
+pub mod StoreLemmas
+mod TrialLemmas
+mod LawLemmas
+mod WorkedRows
