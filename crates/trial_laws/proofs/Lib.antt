@@ -1,0 +1,3 @@
+-- Proofs of the laws: the tokens of the script, then its statements.
+mod TokenLemmas
+mod StatementLemmas
