@@ -48,7 +48,7 @@ where
     );
     // Bytes may have been kept back until now, so `Done` is true only once they are handed on.
     if out.finish().is_err() && matches!(&outcome, Outcome::Done { receipts: _ }) {
-        let _ = tell(&mut err, words.as_slice(), &Outcome::WriteFault);
+        let _ = tell(&mut err, "", &Outcome::WriteFault);
         return Ok(Outcome::WriteFault.status());
     }
     Ok(outcome.status())

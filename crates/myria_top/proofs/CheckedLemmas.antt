@@ -1,97 +1,153 @@
--- What a checked script comes to over its files, and what a run at workers shows of it.
-use Rattle.std.proofs.Common.{◌≡◌, ◌≤◌, ℕ, List, map, Option, Some, None, Ok, Err, Result, refl, sym, ◌∙◌, ap, subst, arith}
-use Rattle.std.specs.Prelude.{IsTrue}
+-- What a checked script comes to over its files, at workers and without them.
+use Rattle.std.proofs.Common.{◌≡◌, ◌≤◌, ℕ, false, true, List, map, Option, Some, None, Ok, Err, Result, refl, sym, ◌∙◌, ap, subst}
+use Rattle.std.specs.Prelude.{All, IsTrue}
 use Rattle.std.specs.List.{flat_map}
 use Rattle.std.specs.Option.{option_map_or}
 use Rattle.rel_base.specs.Keys.{File}
 use Rattle.rel_base.specs.declared.faults.RunFault.{RunFault}
 use Rattle.rel_base.specs.declared.faults.RunFault.TheVariants as fault
-use Rattle.myrial_ast.specs.CandidateFaults.{Uncounted}
+use Rattle.myrial_ast.specs.CandidateFaults.{PrefixRule, Uncounted}
 use Rattle.myrial_ast.specs.Trees.{StatementTree}
+use Rattle.myrial_meaning.specs.Evaluating.{IsFault}
+use Rattle.myrial_meaning.specs.Faults.{run_fault}
+use Rattle.myrial_meaning.specs.Meaning.{stored_relations}
+use Rattle.myrial_meaning.specs.SortedFiles.{sorted_file}
 use Rattle.algebra.specs.Conditions.{is_of}
 use Rattle.algebra.specs.Meanings.{checked_fault, stored_by}
 use Rattle.algebra.specs.Rewriting.{AreTyped}
 use Rattle.algebra.specs.Trees.{CheckedTree}
-use Rattle.algebra.specs.declared.settings.Settings.{Settings}
-use Rattle.algebra.specs.declared.settings.ShuffleKind.{ShuffleKind}
 use Rattle.myrial_types.specs.Checking.{checked_of}
 use Rattle.myrial_types.specs.Fetching.{have_forms}
 use Rattle.myrial_types.specs.Laws.{StepsHaveTheFault, StepsMeanTheScript}
+use Rattle.placement.specs.Exchanges.{traffic_of}
 use Rattle.placement.specs.Layouts.{placed_stores}
-use Rattle.placement.specs.Plans.{usual_placing}
+use Rattle.placement.specs.Plans.{plan_of, usual_placing}
 use Rattle.placement.proofs.ScriptLemmas.{parts_hold_the_rows}
 use Rattle.placement.proofs.StoredLemmas.{placed_are_stored}
 use Rattle.placement.proofs.UsualLemmas.{usual_is_placing}
+use Rattle.plan_printer.specs.TrafficTexts.{IsWhole}
 use Rattle.engine.specs.Runs.{IsRan, IsRunFault, fault_of, prefixes_of}
 use Rattle.engine.specs.declared.runs.Ran.{Ran}
+use Rattle.output_texts.specs.Laws.{SortedLinesAreTheText}
+use Rattle.output_texts.specs.OutputText.{output_text, relation_lines}
+use Rattle.output_texts.specs.Stores.{whole_store}
+use Rattle.output_texts.proofs.StoreLemmas.{unplaced}
+use Rattle.command_words.specs.declared.requests.Mode.{Mode}
+use Rattle.command_words.specs.declared.requests.Mode.TheVariants as mode
+use Rattle.command_words.specs.declared.requests.Request.{Request}
 use Rattle.myria_top.specs.declared.outcomes.Outcome.{Outcome}
-use Rattle.myria_top.specs.declared.outcomes.Outcome.TheVariants as outcome
-use Rattle.myria_top.specs.Moves.{AreUsual}
-use Rattle.myria_top.specs.OutputText.{output_text}
+use Rattle.myria_top.specs.Printed.{printed_text, text_in, text_of_mode}
 use Rattle.myria_top.specs.Reading.{AgreesRefused}
+use Rattle.myria_top.specs.Requests.{is_check, prefixes_in}
 use Rattle.myria_top.specs.Runs.{run_answer, typed_verdict}
-use Rattle.myria_top.specs.Verdicts.{Verdict, refused, passes, and_then, IfTold}
-use Rattle.myria_top.specs.inner.Working.{checked_verdict}
-use Rattle.myria_top.proofs.StoreLemmas.{stores-text, text_of_store}
+use Rattle.myria_top.specs.Verdicts.{Verdict, refused, passes, IfTold}
+use Rattle.myria_top.specs.inner.Working.{checked_verdict, evaluated_verdict}
+use Rattle.myria_top.proofs.PrintedLemmas.{text-placed}
+use Rattle.myria_top.proofs.RequestLemmas.{prefixes-at-workers}
+use Rattle.myria_top.proofs.TrafficLemmas.{traffic-whole}
 use Rattle.myria_top.proofs.VerdictLemmas.{meets_step}
 
-module _ (files : List File) (c : CheckedTree) where
-  abbrev verdict : Option RunFault → Verdict (List File)
-  verdict found = option_map_or (λ fault. refused (run_answer fault)) found (passes (stored_by files c))
+-- ---- a fault, or else a text
 
-  abbrev printed : Verdict (List File) → Verdict (List ℕ)
-  printed s = and_then s (λ stored. passes (output_text stored))
+module _ (text : List ℕ) where
+  abbrev verdict : Option RunFault → Verdict (List ℕ)
+  verdict found = option_map_or (λ why. refused (run_answer why)) found (passes text)
 
+  pub no_fault : (own : Option RunFault) (other : List ℕ) → own ≡ None → other ≡ text → IfTold (verdict own) (λ v. v ≡ passes other)
+  no_fault own other none same =
+      let step : verdict own ≡ passes other = ap verdict none ∙ ap passes (sym same) in
+      subst (λ (v : Verdict (List ℕ)). IfTold v (λ t. t ≡ passes other)) (sym step) refl
+
+  refused_at : (own : Option RunFault) (why : RunFault) → own ≡ Some why → IfTold (verdict own) (λ v. v ≡ refused (run_answer why))
+  refused_at own why found = subst (λ (o : Option RunFault). IfTold (verdict o) (λ v. v ≡ refused (run_answer why))) (sym found) refl
+
+  refuses : (own : Option RunFault) (why : RunFault) → IsRunFault own why → AgreesRefused (verdict own) (run_answer why)
+  refuses own (fault.TooManyRows number) h = meets_step _ _ (refused_at own (fault.TooManyRows number) h)
+  refuses own (fault.Overflow number) h = meets_step _ _ (refused_at own (fault.Overflow number) h)
+  refuses own (fault.AggregateOverflow number) h = meets_step _ _ (refused_at own (fault.AggregateOverflow number) h)
+  refuses own fault.Memory h = tt
+
+  -- the answer to a fault of the run
+  pub fault_refuses : (own : Option RunFault) (why : RunFault) (answer : Outcome) → answer ≡ run_answer why → IsRunFault own why
+      → AgreesRefused (verdict own) answer
+  fault_refuses own why answer is h = subst (AgreesRefused (verdict own)) (sym is) (refuses own why h)
+
+-- ---- a run at workers
+
+module _ (r : Request) (files : List File) (c : CheckedTree) (workers : is_check r.mode ≡ false) where
   abbrev own_fault : Option RunFault
-  own_fault = checked_fault (λ number. Uncounted) files c
+  own_fault = checked_fault (λ number. prefixes_in r.mode r.settings.shuffle) files c
 
-  -- ---- a run at workers
+  fault-same : fault_of r.settings files c ≡ own_fault
+  fault-same = ap (λ (rule : PrefixRule). checked_fault (λ number. rule) files c) (sym (prefixes-at-workers r.mode r.settings.shuffle workers))
 
-  module _ (s : Settings) (usual : AreUsual s) where
-    fault-usual : fault_of s files c ≡ own_fault
-    fault-usual = ap (λ (kind : ShuffleKind). checked_fault (λ number. prefixes_of kind) files c) usual.shuffle
+  -- a run that ends well prints this text
+  pub ran-prints : (ran : Ran) (text : List ℕ) → IsTrue (is_of files c) → AreTyped files → IsRan r.settings files c ran
+      → text ≡ text_in r (map whole_store ran.stored) ran.plan ran.traffic
+      → IfTold (checked_verdict r files c) (λ v. v ≡ passes text)
+  ran-prints ran text of typed h is =
+      let s = r.settings in
+      let p = usual_placing s in
+      let placed = parts_hold_the_rows p files c (usual_is_placing s s.workers_in_range.0) of typed in
+      let own : text_in r (map whole_store ran.stored) ran.plan ran.traffic
+      ≡ text_in r (map unplaced (placed_stores p files c)) ran.plan ran.traffic =
+      text-placed r s.workers ran.stored (placed_stores p files c) ran.plan ran.traffic h.stored placed in
+      let notes : text_in r (map unplaced (placed_stores p files c)) ran.plan ran.traffic ≡ printed_text r (stored_by files c) files c =
+      λ i. text_in r (placed_are_stored p files c i) (h.plan i) (h.traffic i) in
+      no_fault (printed_text r (stored_by files c) files c) own_fault text (sym fault-same ∙ h.sound) (is ∙ own ∙ notes)
 
-    -- what is stored at the workers is the text of what the script stores
-    ran-text : (ran : Ran) → IsTrue (is_of files c) → AreTyped files → IsRan s files c ran
-        → flat_map text_of_store ran.stored ≡ output_text (stored_by files c)
-    ran-text ran of typed h =
-        let four = usual.workers in
-        let some : 1 ≤ s.workers = omega arith in
-        let placed = parts_hold_the_rows (usual_placing s) files c (usual_is_placing s some) of typed in
-        stores-text s.workers ran.stored (placed_stores (usual_placing s) files c) h.stored placed
-        ∙ ap output_text (placed_are_stored (usual_placing s) files c)
+  -- and a fault of the run is the script's
+  pub ran-refuses : (why : RunFault) (answer : Outcome) → answer ≡ run_answer why → IsRunFault (fault_of r.settings files c) why
+      → AgreesRefused (checked_verdict r files c) answer
+  ran-refuses why answer is h =
+      fault_refuses (printed_text r (stored_by files c) files c) own_fault why answer is
+      (subst (λ (o : Option RunFault). IsRunFault o why) fault-same h)
 
-    -- a run that ends well prints this text
-    pub ran-prints : (ran : Ran) (text : List ℕ) → IsTrue (is_of files c) → AreTyped files → IsRan s files c ran
-        → text ≡ flat_map text_of_store ran.stored → IfTold (printed (checked_verdict files c)) (λ v. v ≡ passes text)
-    ran-prints ran text of typed h is =
-        let all : text ≡ output_text (stored_by files c) = is ∙ ran-text ran of typed h in
-        let sound : own_fault ≡ None = sym fault-usual ∙ h.sound in
-        let step : printed (checked_verdict files c) ≡ passes text =
-        ap (λ (o : Option RunFault). printed (verdict o)) sound ∙ ap passes (sym all) in
-        subst (λ (v : Verdict (List ℕ)). IfTold v (λ t. t ≡ passes text)) (sym step) refl
+-- the traffic of a run has both numbers of each worker
+pub ran-whole : (r : Request) (files : List File) (c : CheckedTree) (ran : Ran) → IsTrue (is_of files c) → AreTyped files
+    → IsRan r.settings files c ran → All IsWhole ran.traffic
+ran-whole r files c ran of typed h =
+    subst (All IsWhole) (sym h.traffic)
+    (traffic-whole (usual_placing r.settings) files c (usual_is_placing r.settings r.settings.workers_in_range.0) of typed)
 
-    refused-at : (why : RunFault) → fault_of s files c ≡ Some why
-        → IfTold (printed (checked_verdict files c)) (λ v. v ≡ refused (run_answer why))
-    refused-at why found =
-        subst (λ (o : Option RunFault). IfTold (printed (verdict o)) (λ v. v ≡ refused (run_answer why))) (sym (sym fault-usual ∙ found)) refl
+-- ---- a run without workers
 
-    refuses : (why : RunFault) → IsRunFault (fault_of s files c) why → AgreesRefused (printed (checked_verdict files c)) (run_answer why)
-    refuses (fault.TooManyRows number) h = meets_step _ _ (refused-at (fault.TooManyRows number) h)
-    refuses (fault.Overflow number) h = meets_step _ _ (refused-at (fault.Overflow number) h)
-    refuses (fault.AggregateOverflow number) h = meets_step _ _ (refused-at (fault.AggregateOverflow number) h)
-    refuses fault.Memory h = tt
+module _ (script : List StatementTree) (files : List File) where
+  -- an evaluation that ends well prints this text
+  pub evaluated-prints : (stored : List File) (text : List ℕ) → SortedLinesAreTheText → run_fault Uncounted files script ≡ None
+      → stored ≡ map sorted_file (stored_relations files script) → text ≡ flat_map relation_lines stored
+      → IfTold (evaluated_verdict script files) (λ v. v ≡ passes text)
+  evaluated-prints stored text law sound are is =
+      no_fault (output_text (stored_relations files script)) (run_fault Uncounted files script) text sound
+      (is ∙ ap (flat_map relation_lines) are ∙ law (stored_relations files script))
 
-    -- and a fault of the run is the script's
-    pub run_refuses : (why : RunFault) (answer : Outcome) → answer ≡ run_answer why → IsRunFault (fault_of s files c) why
-        → AgreesRefused (printed (checked_verdict files c)) answer
-    run_refuses why answer is h = subst (AgreesRefused (printed (checked_verdict files c))) (sym is) (refuses why h)
+  run-fault : (own : Option RunFault) (why : RunFault) → IsFault why own → IsRunFault own why
+  run-fault own (fault.TooManyRows number) h = h
+  run-fault own (fault.Overflow number) h = h
+  run-fault own (fault.AggregateOverflow number) h = h
+  run-fault own fault.Memory h = tt
 
-  -- ---- the script that was checked
+  pub evaluated-refuses : (why : RunFault) (answer : Outcome) → answer ≡ run_answer why → IsFault why (run_fault Uncounted files script)
+      → AgreesRefused (evaluated_verdict script files) answer
+  evaluated-refuses why answer is h =
+      fault_refuses (output_text (stored_relations files script)) (run_fault Uncounted files script) why answer is
+      (run-fault (run_fault Uncounted files script) why h)
 
-  -- its steps come to what it comes to
-  pub checked_is_typed : StepsHaveTheFault → StepsMeanTheScript → (script : List StatementTree) → IsTrue (have_forms files script)
-      → checked_of files script ≡ Ok c → checked_verdict files c ≡ typed_verdict script files
-  checked_is_typed faults means script formed is =
-      λ i. option_map_or (λ found. refused (run_answer found)) (faults Uncounted files script c formed is i)
-      (passes (means files script c formed is i))
+  -- in a check the script comes to what its evaluation comes to
+  pub evaluated_is_typed : (r : Request) (c : CheckedTree) → r.mode ≡ mode.Check
+      → evaluated_verdict script files ≡ typed_verdict r script files c
+  evaluated_is_typed r c e =
+      let plan = plan_of (usual_placing r.settings) r.settings.local files c in
+      let traffic = traffic_of (usual_placing r.settings) files c in
+      λ i. option_map_or (λ why. refused (run_answer why)) (run_fault (prefixes_in (sym e i) r.settings.shuffle) files script)
+      (passes (text_of_mode (sym e i) r (stored_relations files script) plan traffic))
+
+-- ---- the script that was checked
+
+-- its steps come to what it comes to
+pub checked_is_typed : (r : Request) (files : List File) (c : CheckedTree) → StepsHaveTheFault → StepsMeanTheScript
+    → (script : List StatementTree) → IsTrue (have_forms files script) → checked_of files script ≡ Ok c
+    → checked_verdict r files c ≡ typed_verdict r script files c
+checked_is_typed r files c faults means script formed is =
+    λ i. option_map_or (λ why. refused (run_answer why)) (faults (prefixes_in r.mode r.settings.shuffle) files script c formed is i)
+    (passes (printed_text r (means files script c formed is i) files c))

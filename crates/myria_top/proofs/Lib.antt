@@ -1,11 +1,14 @@
-mod PieceLemmas
 mod ReadingLemmas
 mod VerdictLemmas
-mod StoreLemmas
+mod RequestLemmas
 mod OneAnswerLemmas
 mod ScriptLemmas
 mod FetchLemmas
+mod TrialLemmas
+mod TrafficLemmas
+mod PrintedLemmas
 mod RunLemmas
 mod CheckedLemmas
 mod MoveLemmas
+mod WordsLemmas
 mod WorkedRows

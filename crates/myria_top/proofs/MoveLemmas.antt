@@ -1,84 +1,67 @@
--- Receipts and taps of a run, by the usual settings and by the words that ask for it.
-use Rattle.std.proofs.Common.{◌≡◌, ℕ, List, map, Some, Ok, Result, sym, ◌∙◌, ap, subst}
+-- Receipts and taps of a run, by the request that asks for it.
+use Rattle.std.proofs.Common.{◌≡◌, ℕ, suc, Bool, true, false, cond, List, [], map, Option, Some, Ok, Result, refl, sym, ◌∙◌, ap, subst, arith}
 use Rattle.std.specs.Prelude.{IfOk, Err}
 use Rattle.std.specs.List.{flat_map}
 use Rattle.rel_base.specs.Keys.{File}
 use Rattle.rel_io.specs.Outside.{Content}
 use Rattle.rel_io.specs.declared.taps.Totals.{Totals}
 use Rattle.exchange_channels.specs.Wirings.{ReceiptState}
-use Rattle.row_exchange.specs.declared.routes.Size.{Size}
 use Rattle.myrial_ast.specs.Trees.{StatementTree}
 use Rattle.myrial_meaning.specs.Fetches.{fetches}
 use Rattle.myrial_meaning.specs.declared.needed_files.Fetch.{Fetch}
 use Rattle.myrial_types.specs.Checking.{checked_of}
 use Rattle.algebra.specs.Trees.{CheckedTree}
-use Rattle.algebra.specs.declared.settings.Settings.{Settings}
-use Rattle.algebra.specs.declared.settings.ShuffleKind.{ShuffleKind}
-use Rattle.placement.specs.Exchanges.{PlacedExchange, exchanges_of}
-use Rattle.placement.specs.Layouts.{Placing}
-use Rattle.placement.specs.Plans.{usual_placing, usual_shuffle}
+use Rattle.placement.specs.Exchanges.{PlacedExchange}
 use Rattle.placed_joins.specs.PlacedJoins.{size_of}
-use Rattle.term_runs.specs.TermRuns.{shown_moves, AreShown, AreMoved}
+use Rattle.term_runs.specs.TermRuns.{shown_moves, AreShown, no_receipt, AreMoved}
+use Rattle.term_runs.proofs.TapLemmas.{added-moved, nothing-added}
 use Rattle.engine.specs.Runs.{run_exchanges}
+use Rattle.trial_gen.specs.Trials.{trial_files}
+use Rattle.trial_gen.specs.TrialScript.{trial_script}
+use Rattle.command_words.specs.declared.requests.Request.{Request}
+use Rattle.command_words.specs.Requests.{Asked}
 use Rattle.myria_top.specs.declared.outcomes.Outcome.{Outcome}
 use Rattle.myria_top.specs.declared.outcomes.Outcome.TheVariants as outcome
-use Rattle.myria_top.specs.Moves.{AreUsual, HasMoved, HasMovedAfter, IsRunOf}
-use Rattle.myria_top.specs.Reading.{Meets, RefusesBy, script_name}
+use Rattle.myria_top.specs.Moves.{HasMoved, HasMovedAfter, IsRunOf, script_run, trial_run, exchanges_asked}
+use Rattle.myria_top.specs.Reading.{Meets, RefusesBy}
+use Rattle.myria_top.specs.Requests.{Asks, is_check, is_trial}
 use Rattle.myria_top.specs.Runs.{files_verdict}
-use Rattle.myria_top.specs.Scripts.{ScriptComesTo}
+use Rattle.myria_top.specs.Scripts.{ScriptComesTo, TextComesTo}
 use Rattle.myria_top.specs.Verdicts.{Verdict, passes, IfTold}
-use Rattle.myria_top.specs.inner.Working.{MovesUsually}
-use Rattle.myria_top.proofs.OneAnswerLemmas.{script_one}
+use Rattle.myria_top.specs.inner.Working.{MovesAs}
+use Rattle.myria_top.proofs.OneAnswerLemmas.{script_one, text_one}
+use Rattle.myria_top.proofs.RequestLemmas.{one-request, trial-or}
 use Rattle.myria_top.proofs.VerdictLemmas.{step_met}
 
--- ---- there is one choice of usual settings
+-- ---- with workers and without
 
-module _ (s t : Settings) (one : AreUsual s) (other : AreUsual t) where
-  workers-same : s.workers ≡ t.workers
-  workers-same = one.workers ∙ sym other.workers
+module _ {T : Type 0} (r : Request) (files : List File) (c : CheckedTree) (totals : T → Totals) (tag : T → ℕ) (before after : List T)
+    (receipts : List ReceiptState) where
+  abbrev MovedBy : List PlacedExchange → Type 0
+  MovedBy exchanges =
+      AreShown (size_of r.settings) (flat_map shown_moves exchanges) receipts × AreMoved totals tag r.settings.workers exchanges before after
 
-  size-same : size_of s ≡ size_of t
-  size-same = λ i. record {
-    workers = workers-same i;
-    capacity = (one.capacity ∙ sym other.capacity) i;
-    batch = (one.batch ∙ sym other.batch) i;
-  }
+  has_moved : MovedBy (exchanges_asked r files c) → HasMoved r files c totals tag before after receipts
+  has_moved h = record { shown = h.0; taps = h.1 }
 
-  placing-same : usual_placing s ≡ usual_placing t
-  placing-same = λ i. record {
-    workers = workers-same i;
-    seed = (one.seed ∙ sym other.seed) i;
-    joined = λ shape given. given;
-    shuffle = λ number. usual_shuffle ((one.shuffle ∙ sym other.shuffle) i) (workers-same i);
-  }
+  pub moved-at-workers : is_check r.mode ≡ false → AreShown (size_of r.settings) (flat_map shown_moves (run_exchanges r.settings files c)) receipts
+      → AreMoved totals tag r.settings.workers (run_exchanges r.settings files c) before after
+      → HasMoved r files c totals tag before after receipts
+  moved-at-workers workers shown taps =
+      has_moved (subst (λ (b : Bool). MovedBy (cond b [] (run_exchanges r.settings files c))) (sym workers) (shown, taps))
 
-  exchanges-same : (files : List File) (c : CheckedTree) → run_exchanges s files c ≡ run_exchanges t files c
-  exchanges-same files c = ap (λ (p : Placing). map (λ (e : ℕ × PlacedExchange). e.1) (exchanges_of p files c)) placing-same
+-- a check moves nothing
+pub nothing-moved : {T : Type 0} (r : Request) (files : List File) (c : CheckedTree) (totals : T → Totals) (tag : T → ℕ) (taps : List T)
+    (receipts : List ReceiptState) → is_check r.mode ≡ true → receipts ≡ [] → HasMoved r files c totals tag taps taps receipts
+nothing-moved r files c totals tag taps receipts check none =
+    let shown : AreShown (size_of r.settings) [] receipts = subst (AreShown (size_of r.settings) []) (sym none) no_receipt in
+    let stays : AreMoved totals tag r.settings.workers [] taps taps =
+    added-moved totals tag r.settings.workers [] taps taps (nothing-added totals tag r.settings.workers taps) in
+    has_moved r files c totals tag taps taps receipts
+    (subst (λ (b : Bool). MovedBy r files c totals tag taps taps receipts (cond b [] (run_exchanges r.settings files c))) (sym check)
+    (shown, stays))
 
-  moved-same : {T : Type 0} (files : List File) (c : CheckedTree) (totals : T → Totals) (tag : T → ℕ) (before after : List T)
-      (receipts : List ReceiptState) → HasMoved s files c totals tag before after receipts
-      → HasMoved t files c totals tag before after receipts
-  moved-same files c totals tag before after receipts h =
-      let same = exchanges-same files c in
-      record {
-        shown =
-            subst (λ (size : Size). AreShown size (flat_map shown_moves (run_exchanges t files c)) receipts) size-same
-            (subst (λ (es : List PlacedExchange). AreShown (size_of s) (flat_map shown_moves es) receipts) same h.shown);
-        taps =
-            subst (λ (n : ℕ). AreMoved totals tag n (run_exchanges t files c) before after) workers-same
-            (subst (λ (es : List PlacedExchange). AreMoved totals tag s.workers es before after) same h.taps);
-      }
-
--- what a run by usual settings moved
-pub moved-usually : {T : Type 0} (s : Settings) → AreUsual s → (files : List File) (c : CheckedTree) (totals : T → Totals)
-    (tag : T → ℕ) (before after : List T) (receipts : List ReceiptState)
-    → AreShown (size_of s) (flat_map shown_moves (run_exchanges s files c)) receipts
-    → AreMoved totals tag s.workers (run_exchanges s files c) before after
-    → MovesUsually files c totals tag before after receipts
-moved-usually s usual files c totals tag before after receipts shown taps = λ t other.
-    moved-same s t usual other files c totals tag before after receipts (record { shown = shown; taps = taps })
-
--- ---- there is one script of the words, and it comes to one list of files and of steps
+-- ---- there is one script that is asked for, and it comes to one list of files and of steps
 
 -- a check comes to one list of steps
 pub checked-one : (files : List File) (script : List StatementTree) (c d : CheckedTree) → checked_of files script ≡ Ok c
@@ -104,28 +87,30 @@ files-one content needed fetched files others same read is =
     (subst (λ (fs : List Fetch). IfTold (files_verdict content fs) (λ s. s ≡ passes files)) same
     (step_met (files_verdict content needed) (passes files) read)) is
 
--- the script that was read is that of the words
-pub script-of-words : (content : List ℕ → Content) (name named : List ℕ) (script trees : List StatementTree)
-    → Some name ≡ Some named → Meets (ScriptComesTo (content name)) (passes script)
-    → ScriptComesTo (content named) (passes trees) → script ≡ trees
-script-of-words content name named script trees names read comes =
-    let same : named ≡ name = cc in
-    met-one read.step script trees read.is
-    (script_one (content name) read.step (passes trees) read.comes
-    (subst (λ (n : List ℕ). ScriptComesTo (content n) (passes trees)) same comes))
+module _ {T : Type 0} (r : Request) (totals : T → Totals) (tag : T → ℕ) (before after : List T) (receipts : List ReceiptState)
+    (content : List ℕ → Content) (script : List StatementTree) where
+  -- what a script that was read moves is what each of its runs moves
+  pub moved-of_script : (same : List ℕ → Content) → is_trial r.mode ≡ false → same ≡ content
+      → Meets (ScriptComesTo (content r.script)) (passes script)
+      → ((files : List File) (c : CheckedTree) → files_verdict same (fetches script) ≡ passes files → checked_of files script ≡ Ok c
+      → HasMoved r files c totals tag before after receipts)
+      → MovesAs r content totals tag before after receipts
+  moved-of_script same other is read moved _ _ (script_run trees files c kind comes told typed) =
+      let one : script ≡ trees =
+      met-one read.step script trees read.is (script_one (content r.script) read.step (passes trees) read.comes comes) in
+      moved files c ((λ i. files_verdict (is i) (fetches (one i))) ∙ told) (ap (checked_of files) one ∙ typed)
+  moved-of_script same other is read moved _ _ (trial_run trees c trial comes typed) = absurd (trial-or r.mode trial other)
 
--- what was moved is what moves in each run that the words and the files ask for
-pub moved-of_words : {T : Type 0} (totals : T → Totals) (tag : T → ℕ) (before after : List T) (receipts : List ReceiptState)
-    (words : List (List ℕ)) (content same : List ℕ → Content) (name : List ℕ) (script : List StatementTree)
-    → script_name words ≡ Some name → same ≡ content → Meets (ScriptComesTo (content name)) (passes script)
-    → ((files : List File) (c : CheckedTree) → files_verdict same (fetches script) ≡ passes files
-    → checked_of files script ≡ Ok c → MovesUsually files c totals tag before after receipts)
-    → (files : List File) (c : CheckedTree) → IsRunOf words content files c → MovesUsually files c totals tag before after receipts
-moved-of_words totals tag before after receipts words content same name script named is read moved files c run =
-    let one : script ≡ run.trees = script-of-words content name run.name script run.trees (sym named ∙ run.named) read run.script in
-    moved files c
-    ((λ i. files_verdict (is i) (fetches (one i))) ∙ run.read)
-    (ap (checked_of files) one ∙ run.typed)
+  -- and so it is with the script of a trial
+  pub moved-of_trial : is_trial r.mode ≡ true → Meets (TextComesTo trial_script) (passes script)
+      → ((c : CheckedTree) → checked_of (trial_files r.size) script ≡ Ok c
+      → HasMoved r (trial_files r.size) c totals tag before after receipts)
+      → MovesAs r content totals tag before after receipts
+  moved-of_trial trial read moved _ _ (script_run trees files c other comes told typed) = absurd (trial-or r.mode trial other)
+  moved-of_trial trial read moved _ _ (trial_run trees c kind comes typed) =
+      let one : script ≡ trees =
+      met-one read.step script trees read.is (text_one trial_script read.step (passes trees) read.comes comes) in
+      moved c (ap (checked_of (trial_files r.size)) one ∙ typed)
 
 -- ---- what holds of a result
 
@@ -133,9 +118,18 @@ pub carried-ok : {X E : Type 0} {P Q : X → Type 0} (r : Result X E) → ((x : 
 carried-ok (Ok x) f h = f x h
 carried-ok (Err why) f h = tt
 
+-- what a request moves is what moves where it is asked for
+pub moved-where-asked : {T : Type 0} (asked : Option Asked) (r : Request) (content : List ℕ → Content) (totals : T → Totals)
+    (tag : T → ℕ) (before after : List T) (receipts : List ReceiptState) → Asks asked r
+    → MovesAs r content totals tag before after receipts
+    → HasMovedAfter asked content totals tag before after (outcome.Done receipts)
+moved-where-asked asked r content totals tag before after receipts asks moved q files c other run =
+    subst (λ (x : Request). IsRunOf x content files c → HasMoved x files c totals tag before after receipts)
+    (one-request asked r q asks other) (moved files c) run
+
 -- a refusal before the output is no `Done`
-pub refused-moved : {X T : Type 0} (Comes : Verdict X → Type 0) (words : List (List ℕ)) (content : List ℕ → Content)
+pub refused-moved : {X T : Type 0} (Comes : Verdict X → Type 0) (asked : Option Asked) (content : List ℕ → Content)
     (totals : T → Totals) (tag : T → ℕ) (before after : List T) (answer : Outcome) → RefusesBy Comes answer
-    → HasMovedAfter words content totals tag before after answer
-refused-moved Comes words content totals tag before after (outcome.Done receipts) h = absurd h
-refused-moved Comes words content totals tag before after answer h = tt
+    → HasMovedAfter asked content totals tag before after answer
+refused-moved Comes asked content totals tag before after (outcome.Done receipts) h = absurd h
+refused-moved Comes asked content totals tag before after answer h = tt

@@ -1,5 +1,5 @@
--- A file of a script comes to one step alone, and so do the words and the files.
-use Rattle.std.proofs.Common.{◌≡◌, ℕ, List, Some, None, Ok, Err, Result, refl, sym, ◌∙◌, ap, subst, arith}
+-- A file of a script comes to one step alone, and so do what is asked for and the files.
+use Rattle.std.proofs.Common.{◌≡◌, ℕ, true, false, List, Option, Ok, Err, Result, refl, sym, ◌∙◌, ap, subst, arith}
 use Rattle.rel_io.specs.Outside.{Content}
 use Rattle.myrial_ast.specs.Trees.{StatementTree}
 use Rattle.myrial_lexer.specs.Tokens.{AreTokensOf, HasFault, line_at}
@@ -11,7 +11,12 @@ use Rattle.myrial_parser.proofs.StatementLemmas.{statement-unique}
 use Rattle.myria_top.specs.declared.outcomes.Outcome.TheVariants as outcome
 use Rattle.myria_top.specs.Scripts.{TextComesTo, not_text, bad_token, bad_piece, a_script, ScriptComesTo, not_told, no_script, too_long, short, fault_answer}
 use Rattle.myria_top.specs.Verdicts.{Verdict, refused, passes, and_then}
-use Rattle.myria_top.specs.Runs.{ComesTo, unnamed, named, printed_verdict}
+use Rattle.trial_gen.specs.TrialScript.{trial_script}
+use Rattle.command_words.specs.declared.requests.Request.{Request}
+use Rattle.command_words.specs.Requests.{Asked}
+use Rattle.myria_top.specs.Requests.{is_trial}
+use Rattle.myria_top.specs.Runs.{ComesTo, unread, of_script, of_trial, printed_verdict, trial_verdict}
+use Rattle.myria_top.proofs.RequestLemmas.{one-request, read-asks, trial-or}
 
 abbrev Statements : Type 0
 Statements = List StatementTree
@@ -41,7 +46,7 @@ tokens_without_fault text tokens line what x y = cut_or_failed (sym x.are ∙ y.
 
 -- ---- texts
 
-text_one : (bytes : List ℕ) (s t : Verdict Statements) → TextComesTo bytes s → TextComesTo bytes t → s ≡ t
+pub text_one : (bytes : List ℕ) (s t : Verdict Statements) → TextComesTo bytes s → TextComesTo bytes t → s ≡ t
 text_one bytes s t (not_text n) (not_text m) = refl
 text_one bytes s t (not_text n) (bad_token line what h) = absurd (n h.is_text)
 text_one bytes s t (not_text n) (bad_piece tokens number fault a f) = absurd (n a.is_text)
@@ -81,13 +86,31 @@ script_one content s t (too_long bytes h) (short bytes' s' g r) = absurd (omega 
 script_one content s t (short bytes s' h r) (too_long bytes' g) = absurd (omega arith)
 script_one content s t (short bytes s' h r) (short bytes' t' g q) = text_one bytes s' t' r q
 
--- the words and the files come to one step
-pub comes_to_one : (words : List (List ℕ)) (content : List ℕ → Content) (s t : Verdict (List ℕ)) → ComesTo words content s → ComesTo words content t → s ≡ t
-comes_to_one words content s t (unnamed e) (unnamed d) = refl
-comes_to_one words content s t (unnamed e) (named name r d h) = let both : None ≡ Some name = sym e ∙ d in cc
-comes_to_one words content s t (named name r e h) (unnamed d) = let both : None ≡ Some name = sym d ∙ e in cc
-comes_to_one words content s t (named name r e h) (named name' r' d g) =
-    let both : Some name ≡ Some name' = sym e ∙ d in
-    let same : name' ≡ name = cc in
-    ap (λ (x : Verdict Statements). and_then x (printed_verdict content))
-    (script_one (content name) r r' h (subst (λ n. ScriptComesTo (content n) r') same g))
+-- a request comes to one step
+script-one-step : (content : List ℕ → Content) (r q : Request) (s t : Verdict Statements) → r ≡ q → ScriptComesTo (content r.script) s
+    → ScriptComesTo (content q.script) t → and_then s (printed_verdict r content) ≡ and_then t (printed_verdict q content)
+script-one-step content r q s t same h g =
+    let both : s ≡ t = script_one (content r.script) s t h (subst (λ (x : Request). ScriptComesTo (content x.script) t) (sym same) g) in
+    λ i. and_then (both i) (printed_verdict (same i) content)
+
+trial-one-step : (r q : Request) (s t : Verdict Statements) → r ≡ q → TextComesTo trial_script s → TextComesTo trial_script t
+    → and_then s (trial_verdict r) ≡ and_then t (trial_verdict q)
+trial-one-step r q s t same h g =
+    let both : s ≡ t = text_one trial_script s t h g in
+    λ i. and_then (both i) (trial_verdict (same i))
+
+-- a request is no trial and another kind of run
+one-kind : (r q : Request) → r ≡ q → is_trial r.mode ≡ true → is_trial q.mode ≡ false → ⊥
+one-kind r q same trial other = trial-or q.mode (sym (ap (λ (x : Request). is_trial x.mode) same) ∙ trial) other
+
+-- what is asked for and the files come to one step
+pub comes_to_one : (asked : Option Asked) (content : List ℕ → Content) (s t : Verdict (List ℕ)) → ComesTo asked content s → ComesTo asked content t → s ≡ t
+comes_to_one asked content s t (unread e) (unread d) = refl
+comes_to_one asked content s t (unread e) (of_script q u d k h) = absurd (read-asks asked q e d)
+comes_to_one asked content s t (unread e) (of_trial q u d k h) = absurd (read-asks asked q e d)
+comes_to_one asked content s t (of_script r v e k h) (unread d) = absurd (read-asks asked r d e)
+comes_to_one asked content s t (of_script r v e k h) (of_script q u d l g) = script-one-step content r q v u (one-request asked r q e d) h g
+comes_to_one asked content s t (of_script r v e k h) (of_trial q u d l g) = absurd (one-kind q r (one-request asked q r d e) l k)
+comes_to_one asked content s t (of_trial r v e k h) (unread d) = absurd (read-asks asked r d e)
+comes_to_one asked content s t (of_trial r v e k h) (of_script q u d l g) = absurd (one-kind r q (one-request asked r q e d) k l)
+comes_to_one asked content s t (of_trial r v e k h) (of_trial q u d l g) = trial-one-step r q v u (one-request asked r q e d) h g

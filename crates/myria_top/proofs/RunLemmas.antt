@@ -1,5 +1,5 @@
--- What a script comes to over its files, and what the words and the files come to.
-use Rattle.std.proofs.Common.{◌≡◌, ℕ, List, map, Option, Some, None, Ok, Err, Result, refl, sym, ◌∙◌, ap, subst, inl, inr, arith}
+-- What a script comes to over its files, and what is asked for and the files come to.
+use Rattle.std.proofs.Common.{◌≡◌, ℕ, true, false, List, map, Option, Some, None, Ok, Err, Result, refl, sym, ◌∙◌, ap, subst, inl, inr, arith}
 use Rattle.std.specs.Prelude.{IfErr}
 use Rattle.rel_base.specs.Keys.{File}
 use Rattle.exchange_channels.specs.Wirings.{ReceiptState}
@@ -15,79 +15,78 @@ use Rattle.myrial_types.specs.declared.faults.TypeFault.{TypeFault}
 use Rattle.myrial_types.specs.declared.faults.TypeFault.TheVariants as refusal
 use Rattle.myrial_types.specs.declared.faults.TypeKind.{TypeKind}
 use Rattle.myrial_types.specs.Checking.{checked_of, IsFault}
+use Rattle.algebra.specs.Trees.{CheckedTree}
 use Rattle.rel_io.specs.Shelves.{CallCounts}
+use Rattle.trial_gen.specs.Trials.{trial_files}
+use Rattle.trial_gen.specs.TrialScript.{trial_script}
+use Rattle.command_words.specs.declared.requests.Request.{Request}
+use Rattle.command_words.specs.Requests.{Asked, asked_of}
 use Rattle.myria_top.specs.declared.outcomes.Outcome.{Outcome}
 use Rattle.myria_top.specs.declared.outcomes.Outcome.TheVariants as outcome
 use Rattle.myria_top.specs.Headline.{Run, Decides, IsInPlace, Explains, IsAskedOf, TellsLine, of_untold, a_relation}
-use Rattle.myria_top.specs.OutputText.{output_text}
-use Rattle.myria_top.specs.Reading.{Agrees, AgreesBy, AgreesRefused, HasCause, Meets, ReadsBy, ReadsStep, RefusesBy, script_name}
+use Rattle.myria_top.specs.Reading.{Agrees, AgreesBy, AgreesRefused, HasCause, Meets, ReadsBy, ReadsStep, RefusesBy}
+use Rattle.myria_top.specs.Requests.{Asks, is_trial, script_asked}
 use Rattle.myria_top.specs.Scripts.{ScriptComesTo, TextComesTo, not_text, bad_token, bad_piece, a_script, not_told, no_script, too_long, short}
 use Rattle.myria_top.specs.Verdicts.{Verdict, untold, refused, passes, and_then, IfTold}
-use Rattle.myria_top.specs.Runs.{ComesTo, named, IsFileOf, files_verdict, printed_verdict, if_typed, run_verdict, typed_verdict, typing_answer}
+use Rattle.myria_top.specs.Runs.{ComesTo, of_script, of_trial, IsFileOf, files_verdict, printed_verdict, run_verdict, trial_verdict, typed_verdict, typing_answer, when_typed}
 use Rattle.myria_top.proofs.OneAnswerLemmas.{comes_to_one}
+use Rattle.myria_top.proofs.RequestLemmas.{script-named}
 use Rattle.myria_top.proofs.VerdictLemmas.{LiesWithin, HasCause-part, met, met_further, goes_second, step_met, meets_step, refused_first, refused_second}
 
 -- ---- the run of a script
 
-module _ (script : List StatementTree) (files : List File) where
-  abbrev printed : Verdict (List File) → Verdict (List ℕ)
-  printed s = and_then s (λ stored. passes (output_text stored))
-
+module _ (r : Request) (script : List StatementTree) (files : List File) where
   -- a script that is typed comes to its run
-  pub typed_runs : {X : Type 0} (checked : X) (typing : Result X TypeFault) → typing ≡ Ok checked → if_typed typing (typed_verdict script files) ≡ typed_verdict script files
-  typed_runs checked typing e = ap (λ t. if_typed t (typed_verdict script files)) e
+  pub typed_runs : (c : CheckedTree) → checked_of files script ≡ Ok c → run_verdict r script files ≡ typed_verdict r script files c
+  typed_runs c e = ap (λ (t : Result CheckedTree TypeFault). when_typed t (typed_verdict r script files)) e
 
   -- and one that isn't to the answer of its fault
-  typing_refuses_at : {X : Type 0} (typing : Result X TypeFault) (number : ℕ) (kind : TypeKind) → typing ≡ Err (refusal.At number kind)
-      → AgreesRefused (printed (if_typed typing (typed_verdict script files))) (outcome.Typing number kind)
+  typing_refuses_at : (typing : Result CheckedTree TypeFault) (number : ℕ) (kind : TypeKind) → typing ≡ Err (refusal.At number kind)
+      → AgreesRefused (when_typed typing (typed_verdict r script files)) (outcome.Typing number kind)
   typing_refuses_at typing number kind e =
       meets_step _ (refused (outcome.Typing number kind))
-      (subst (λ t. IfTold (printed (if_typed t (typed_verdict script files))) (λ s. s ≡ refused (outcome.Typing number kind))) (sym e) refl)
+      (subst (λ t. IfTold (when_typed t (typed_verdict r script files)) (λ s. s ≡ refused (outcome.Typing number kind))) (sym e) refl)
 
   pub typing_refuses : (why : TypeFault) (answer : Outcome) → answer ≡ typing_answer why → IsFault why (checked_of files script)
-      → AgreesRefused (printed (run_verdict script files)) answer
+      → AgreesRefused (run_verdict r script files) answer
   typing_refuses (refusal.At number kind) answer is h =
-      subst (AgreesRefused (printed (run_verdict script files))) (sym is) (typing_refuses_at (checked_of files script) number kind h)
-  typing_refuses refusal.Memory answer is h = subst (AgreesRefused (printed (run_verdict script files))) (sym is) tt
+      subst (AgreesRefused (run_verdict r script files)) (sym is) (typing_refuses_at (checked_of files script) number kind h)
+  typing_refuses refusal.Memory answer is h = subst (AgreesRefused (run_verdict r script files)) (sym is) tt
 
--- ---- the files of a script, and then its run
+-- ---- one step, and then another
 
--- a refusal of the files
-pub files_refuse : (content : List ℕ → Content) (script : List StatementTree) (answer : Outcome) → AgreesRefused (files_verdict content (fetches script)) answer → AgreesRefused (printed_verdict content script) answer
-files_refuse content script answer h =
-    refused_first (and_then (files_verdict content (fetches script)) (run_verdict script)) (λ stored. passes (output_text stored)) answer
-    (refused_first (files_verdict content (fetches script)) (run_verdict script) answer h)
-
--- a step behind two others
-regrouped : {X Y Z : Type 0} (s : Verdict X) (f : X → Verdict Y) (g : Y → Verdict Z) → and_then (and_then s f) g ≡ and_then s (λ x. and_then (f x) g)
-regrouped untold f g = refl
-regrouped (refused answer) f g = refl
-regrouped (passes x) f g = refl
-
--- a refusal of the run over the files that were read
-pub run_refuses : (content : List ℕ → Content) (script : List StatementTree) (files : List File) (answer : Outcome) → IfTold (files_verdict content (fetches script)) (λ s. s ≡ passes files)
-    → AgreesRefused (and_then (run_verdict script files) (λ stored. passes (output_text stored))) answer → AgreesRefused (printed_verdict content script) answer
-run_refuses content script files answer read h =
-    subst (λ s. AgreesRefused s answer) (sym (regrouped (files_verdict content (fetches script)) (run_verdict script) (λ stored. passes (output_text stored))))
-    (refused_second (files_verdict content (fetches script)) (λ fs. and_then (run_verdict script fs) (λ stored. passes (output_text stored))) files answer read h)
-
--- the text of the run over them
-pub run_goes : (content : List ℕ → Content) (script : List StatementTree) (files : List File) (text : List ℕ) → IfTold (files_verdict content (fetches script)) (λ s. s ≡ passes files)
-    → IfTold (and_then (run_verdict script files) (λ stored. passes (output_text stored))) (λ s. s ≡ passes text) → IfTold (printed_verdict content script) (λ s. s ≡ passes text)
-run_goes content script files text read h =
-    subst (λ (s : Verdict (List ℕ)). IfTold s (λ t. t ≡ passes text)) (sym (regrouped (files_verdict content (fetches script)) (run_verdict script) (λ stored. passes (output_text stored))))
-    (goes_second (files_verdict content (fetches script)) (λ fs. and_then (run_verdict script fs) (λ stored. passes (output_text stored))) files text read h)
+-- a step was met, and another agrees with what comes behind it
+pub agrees_behind : {X Y : Type 0} (s : Verdict X) (f : X → Verdict Y) (x : X) (r : Result Y Outcome) → IfTold s (λ t. t ≡ passes x)
+    → Agrees (f x) r → Agrees (and_then s f) r
+agrees_behind s f x (Ok y) read h = meets_step (and_then s f) (passes y) (goes_second s f x y read (step_met (f x) (passes y) h))
+agrees_behind s f x (Err answer) read h = refused_second s f x answer read h
 
 -- what the run comes to over the files that were read
-pub run_agrees : (content : List ℕ → Content) (script : List StatementTree) (needed : List Fetch) (files : List File) (r : Result (List ℕ) Outcome) → needed ≡ fetches script
-    → Meets (λ s. s ≡ files_verdict content needed) (passes files)
-    → Agrees (and_then (run_verdict script files) (λ stored. passes (output_text stored))) r → Agrees (printed_verdict content script) r
-run_agrees content script needed files (Ok text) same read h =
+pub run_agrees : (r : Request) (content : List ℕ → Content) (script : List StatementTree) (needed : List Fetch) (files : List File)
+    (result : Result (List ℕ) Outcome) → needed ≡ fetches script → Meets (λ s. s ≡ files_verdict content needed) (passes files)
+    → Agrees (run_verdict r script files) result → Agrees (printed_verdict r content script) result
+run_agrees r content script needed files result same read h =
     let told = subst (λ fs. IfTold (files_verdict content fs) (λ s. s ≡ passes files)) same (step_met (files_verdict content needed) (passes files) read) in
-    meets_step (printed_verdict content script) (passes text) (run_goes content script files text told (step_met _ (passes text) h))
-run_agrees content script needed files (Err answer) same read h =
-    let told = subst (λ fs. IfTold (files_verdict content fs) (λ s. s ≡ passes files)) same (step_met (files_verdict content needed) (passes files) read) in
-    run_refuses content script files answer told h
+    agrees_behind (files_verdict content (fetches script)) (run_verdict r script) files result told h
+
+-- and where the files refuse
+pub files_refuse : (r : Request) (content : List ℕ → Content) (script : List StatementTree) (needed : List Fetch) (answer : Outcome)
+    → needed ≡ fetches script → AgreesRefused (files_verdict content needed) answer → AgreesRefused (printed_verdict r content script) answer
+files_refuse r content script needed answer same h =
+    refused_first (files_verdict content (fetches script)) (run_verdict r script) answer
+    (subst (λ fs. AgreesRefused (files_verdict content fs) answer) same h)
+
+-- a relation is met by a step that comes to what was met before it
+pub met_behind : {X Y : Type 0} (Comes : Verdict X → Type 0) (Further : Verdict Y → Type 0) (f : X → Verdict Y)
+    → ((s : Verdict X) → Comes s → Further (and_then s f)) → (x : X) (r : Result Y Outcome) → Meets Comes (passes x)
+    → Agrees (f x) r → AgreesBy Further r
+met_behind Comes Further f further x (Ok y) m h = record {
+  step = and_then m.step f;
+  comes = further m.step m.comes;
+  is = goes_second m.step f x y m.is (step_met (f x) (passes y) h);
+}
+met_behind Comes Further f further x (Err answer) m h =
+    met Further (and_then m.step f) answer (further m.step m.comes) (refused_second m.step f x answer m.is h)
 
 -- ---- the script, and then its run
 
@@ -106,53 +105,67 @@ told_file content s (short bytes t h comes) e = absurd (told_text bytes t comes 
 not_told_is : (content : Content) → ScriptComesTo content untold → content ≡ outside.untold
 not_told_is content comes = told_file content untold comes refl
 
-module _ (words : List (List ℕ)) (content : List ℕ → Content) (name : List ℕ) (is_named : script_name words ≡ Some name) where
-  pub script_refuses : (answer : Outcome) → RefusesBy (ScriptComesTo (content name)) answer → RefusesBy (ComesTo words content) answer
-  script_refuses answer h =
-      met_further (ScriptComesTo (content name)) (ComesTo words content) (printed_verdict content) (λ s comes. named name s is_named comes) answer h
+module _ (asked : Option Asked) (content : List ℕ → Content) (r : Request) (asks : Asks asked r) where
+  -- a trial
+  trial-comes : is_trial r.mode ≡ true → (s : Verdict (List StatementTree)) → TextComesTo trial_script s → ComesTo asked content (and_then s (trial_verdict r))
+  trial-comes trial s comes = of_trial r s asks trial comes
 
-  pub printed_refuses : (script : List StatementTree) (answer : Outcome) → Meets (ScriptComesTo (content name)) (passes script) → AgreesRefused (printed_verdict content script) answer → RefusesBy (ComesTo words content) answer
-  printed_refuses script answer m h =
-      met (ComesTo words content) (and_then m.step (printed_verdict content)) answer (named name m.step is_named m.comes)
-      (refused_second m.step (printed_verdict content) script answer m.is h)
+  pub trial_refuses : is_trial r.mode ≡ true → (answer : Outcome) → RefusesBy (TextComesTo trial_script) answer → RefusesBy (ComesTo asked content) answer
+  trial_refuses trial answer h = met_further (TextComesTo trial_script) (ComesTo asked content) (trial_verdict r) (trial-comes trial) answer h
 
-  pub printed_goes : (script : List StatementTree) (text : List ℕ) → Meets (ScriptComesTo (content name)) (passes script) → IfTold (printed_verdict content script) (λ s. s ≡ passes text) → Meets (ComesTo words content) (passes text)
-  printed_goes script text m h = record {
-    step = and_then m.step (printed_verdict content);
-    comes = named name m.step is_named m.comes;
-    is = goes_second m.step (printed_verdict content) script text m.is h;
-  }
+  pub trial_agrees : is_trial r.mode ≡ true → (script : List StatementTree) (result : Result (List ℕ) Outcome)
+      → Meets (TextComesTo trial_script) (passes script) → Agrees (trial_verdict r script) result → AgreesBy (ComesTo asked content) result
+  trial_agrees trial script result m h =
+      met_behind (TextComesTo trial_script) (ComesTo asked content) (trial_verdict r) (trial-comes trial) script result m h
 
-  pub asked : (script : List StatementTree) (file : List ℕ) → Meets (ScriptComesTo (content name)) (passes script) → IsFileOf (fetches script) file → IsAskedOf words content file
-  asked script file m f = told m.step m.comes m.is
-    where
-      told : (s : Verdict (List StatementTree)) → ScriptComesTo (content name) s → IfTold s (λ t. t ≡ passes script) → IsAskedOf words content file
-      told untold comes is = of_untold name file is_named (not_told_is (content name) comes)
-      told (refused answer) comes is = cc
-      told (passes other) comes is =
-          let same : other ≡ script = cc in
-          subst (IsAskedOf words content) (sym f.is_named)
-          (a_relation name script f.fetch is_named (subst (λ t. ScriptComesTo (content name) (passes t)) same comes) f.is_one)
+  -- a script
+  module _ (other : is_trial r.mode ≡ false) where
+    script-comes : (s : Verdict (List StatementTree)) → ScriptComesTo (content r.script) s → ComesTo asked content (and_then s (printed_verdict r content))
+    script-comes s comes = of_script r s asks other comes
 
-  agrees_on : (script : List StatementTree) (r : Result (List ℕ) Outcome) → Meets (ScriptComesTo (content name)) (passes script) → Agrees (printed_verdict content script) r → AgreesBy (ComesTo words content) r
-  agrees_on script (Ok text) m h = printed_goes script text m (step_met (printed_verdict content script) (passes text) h)
-  agrees_on script (Err answer) m h = printed_refuses script answer m h
+    named : script_asked asked ≡ Some r.script
+    named = script-named asked r asks other
 
-  cause_on : (script : List StatementTree) (part run : CallCounts) (r : Result (List ℕ) Outcome) → Meets (ScriptComesTo (content name)) (passes script) → LiesWithin part run
-      → IfErr r (HasCause part (IsFileOf (fetches script))) → IfErr r (HasCause run (IsAskedOf words content))
-  cause_on script part run (Ok text) m within h = tt
-  cause_on script part run (Err answer) m within h = HasCause-part part run _ (IsAskedOf words content) answer within (λ file f. asked script file m f) h
+    pub script_refuses : (answer : Outcome) → RefusesBy (ScriptComesTo (content r.script)) answer → RefusesBy (ComesTo asked content) answer
+    script_refuses answer h =
+        met_further (ScriptComesTo (content r.script)) (ComesTo asked content) (printed_verdict r content) script-comes answer h
 
-  -- the script was read, and then its run was prepared on the same content
-  pub reads_on : (script : List StatementTree) (same : List ℕ → Content) (part run : CallCounts) (r : Result (List ℕ) Outcome) → Meets (ScriptComesTo (content name)) (passes script)
-      → same ≡ content → LiesWithin part run → ReadsStep (printed_verdict same script) part (IsFileOf (fetches script)) r → ReadsBy (ComesTo words content) run (IsAskedOf words content) r
-  reads_on script same part run r m is within h = record {
-    agrees = agrees_on script r m (subst (λ (con : List ℕ → Content). Agrees (printed_verdict con script) r) is h.agrees);
-    cause = cause_on script part run r m within h.cause;
-    kept = record { faults = omega (arith, within.faults_from, within.faults_on, within.faults_to); misses = omega (arith, within.misses_from, within.misses_on, within.misses_to) };
-  }
+    is_asked : (script : List StatementTree) (file : List ℕ) → Meets (ScriptComesTo (content r.script)) (passes script)
+        → IsFileOf (fetches script) file → IsAskedOf asked content file
+    is_asked script file m f = told m.step m.comes m.is
+      where
+        told : (s : Verdict (List StatementTree)) → ScriptComesTo (content r.script) s → IfTold s (λ t. t ≡ passes script) → IsAskedOf asked content file
+        told untold comes is = of_untold r.script file named (not_told_is (content r.script) comes)
+        told (refused answer) comes is = cc
+        told (passes behind) comes is =
+            let same : behind ≡ script = cc in
+            subst (IsAskedOf asked content) (sym f.is_named)
+            (a_relation r.script script f.fetch named (subst (λ t. ScriptComesTo (content r.script) (passes t)) same comes) f.is_one)
 
--- ---- the words and the files decide the answer
+    cause_on : (script : List StatementTree) (part run : CallCounts) (result : Result (List ℕ) Outcome)
+        → Meets (ScriptComesTo (content r.script)) (passes script) → LiesWithin part run
+        → IfErr result (HasCause part (IsFileOf (fetches script))) → IfErr result (HasCause run (IsAskedOf asked content))
+    cause_on script part run (Ok text) m within h = tt
+    cause_on script part run (Err answer) m within h =
+        HasCause-part part run _ (IsAskedOf asked content) answer within (λ file f. is_asked script file m f) h
+
+    -- the script was read, and then its run was prepared on the same content
+    pub reads_on : (script : List StatementTree) (same : List ℕ → Content) (part run : CallCounts) (result : Result (List ℕ) Outcome)
+        → Meets (ScriptComesTo (content r.script)) (passes script) → same ≡ content → LiesWithin part run
+        → ReadsStep (printed_verdict r same script) part (IsFileOf (fetches script)) result
+        → ReadsBy (ComesTo asked content) run (IsAskedOf asked content) result
+    reads_on script same part run result m is within h = record {
+      agrees =
+          met_behind (ScriptComesTo (content r.script)) (ComesTo asked content) (printed_verdict r content) script-comes script result m
+          (subst (λ (con : List ℕ → Content). Agrees (printed_verdict r con script) result) is h.agrees);
+      cause = cause_on script part run result m within h.cause;
+      kept = record {
+        faults = omega (arith, within.faults_from, within.faults_on, within.faults_to);
+        misses = omega (arith, within.misses_from, within.misses_on, within.misses_to);
+      };
+    }
+
+-- ---- what is asked for and the files decide the answer
 
 decides_done : (receipts : List ReceiptState) (P : List ℕ → Type 0) (s : Verdict (List ℕ))
     → IfTold s (λ t. (text : List ℕ) × (t ≡ passes text) × P text) → Decides s (outcome.Done receipts)
@@ -175,11 +188,11 @@ decides_refused answer untold h = tt
 decides_refused answer (refused other) h = let same : answer ≡ other = cc in inl same
 decides_refused answer (passes text) h = cc
 
-module _ (run : Run) (step : Verdict (List ℕ)) (comes : ComesTo run.words run.content step) where
-  same_step : (s : Verdict (List ℕ)) (answer : Outcome) → ComesTo run.words run.content s → Decides s answer → Decides step answer
-  same_step s answer other h = subst (λ t. Decides t answer) (comes_to_one run.words run.content s step other comes) h
+module _ (run : Run) (step : Verdict (List ℕ)) (comes : ComesTo run.asked run.content step) where
+  same_step : (s : Verdict (List ℕ)) (answer : Outcome) → ComesTo run.asked run.content s → Decides s answer → Decides step answer
+  same_step s answer other h = subst (λ t. Decides t answer) (comes_to_one run.asked run.content s step other comes) h
 
-  met_step : (answer : Outcome) → Meets (ComesTo run.words run.content) (refused answer) → Decides step answer
+  met_step : (answer : Outcome) → Meets (ComesTo run.asked run.content) (refused answer) → Decides step answer
   met_step answer m = same_step m.step answer m.comes (decides_refused answer m.step m.is)
 
   decided_from : (answer : Outcome) → Explains run answer → Decides step answer
@@ -189,7 +202,7 @@ module _ (run : Run) (step : Verdict (List ℕ)) (comes : ComesTo run.words run.
   decided_from (outcome.ReadFault name) e = decides_in_place (outcome.ReadFault name) tt step
   decided_from answer e = met_step answer e.agrees
 
-pub decided : (run : Run) (answer : Outcome) → Explains run answer → (step : Verdict (List ℕ)) → ComesTo run.words run.content step → Decides step answer
+pub decided : (run : Run) (answer : Outcome) → Explains run answer → (step : Verdict (List ℕ)) → ComesTo run.asked run.content step → Decides step answer
 decided run answer e step comes = decided_from run step comes answer e
 
 -- ---- the line of the answer

@@ -11,7 +11,7 @@ use Rattle.myria_top.specs.declared.outcomes.Outcome.{Outcome}
 use Rattle.myria_top.specs.declared.outcomes.Outcome.TheVariants as outcome
 use Rattle.myria_top.specs.Reading.{AgreesBy, HasCause, Meets, RefusesBy}
 use Rattle.myria_top.specs.Scripts.{TextComesTo, ScriptComesTo, not_told, no_script, too_long, short, trees_read, IsOfTexts}
-use Rattle.myria_top.specs.declared.run.Unprinted.{Unprinted}
+use Rattle.myria_top.specs.declared.unprinted.Unprinted.{Unprinted}
 use Rattle.myria_top.specs.inner.Working.{text_of}
 use Rattle.myria_top.specs.Verdicts.{Verdict, untold, refused, passes}
 

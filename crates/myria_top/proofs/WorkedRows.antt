@@ -1,5 +1,5 @@
 -- Worked runs, each proved by computing: what scripts come to over their files.
-use Rattle.std.proofs.Common.{◌≡◌, ℕ, inl, inr, cond, List, [], ◌∷◌, Some, None, codes, refl, arith}
+use Rattle.std.proofs.Common.{◌≡◌, ℕ, true, false, inl, inr, cond, List, [], ◌∷◌, ◌++◌, Some, None, codes, refl, arith}
 use Rattle.std.specs.Str.{bytes_eq}
 use Rattle.std.specs.Fmt.{digits}
 use Rattle.relation_csv.specs.declared.faults.RelFault.TheVariants as fault
@@ -9,6 +9,16 @@ use Rattle.rel_base.specs.declared.values.ColType.TheVariants as type
 use Rattle.rel_io.specs.Outside.{Content, Rose, missing, there}
 use Rattle.rel_io.specs.Shelves.{CallCounts}
 use Rattle.rel_io.specs.declared.shelves.ShelfFault.TheVariants as refusal
+use Rattle.algebra.specs.declared.settings.ShuffleKind.{ShuffleKind}
+use Rattle.algebra.specs.declared.settings.ShuffleKind.TheVariants as shuffle
+use Rattle.algebra.specs.declared.settings.JoinKind.TheVariants as join
+use Rattle.clap.proofs.OnLiterals.{clap_on_literals}
+use Rattle.share_chooser.specs.Load as load
+use Rattle.command_words.specs.Commands.{command}
+use Rattle.command_words.specs.Requests.{asked}
+use Rattle.command_words.specs.declared.requests.Mode.{Mode}
+use Rattle.command_words.specs.declared.requests.Mode.TheVariants as mode
+use Rattle.command_words.specs.declared.requests.Request.{Request}
 use Rattle.myrial_ast.specs.Loads.{load_key}
 use Rattle.myrial_types.specs.declared.faults.TypeKind.TheVariants as kind
 use Rattle.myrial_ast.specs.declared.operators.BinOp.TheVariants as op
@@ -22,6 +32,7 @@ use Rattle.myria_top.specs.declared.outcomes.Outcome.TheVariants as outcome
 use Rattle.myria_top.specs.Outcomes.{line_of}
 use Rattle.myria_top.specs.Reading.{HasFetchCause}
 use Rattle.myria_top.specs.Verdicts.{passes, refused}
+use Rattle.myria_top.specs.Requests.{script_asked}
 use Rattle.myria_top.specs.Runs.{printed_verdict}
 
 abbrev adhoc : Name → Key
@@ -31,8 +42,59 @@ adhoc name = record { user = codes "public"; program = codes "adhoc"; name = nam
 abbrev shelf_of : List ℕ → List ℕ → List ℕ → Content
 shelf_of file bytes name = cond (bytes_eq name file) (there bytes) missing
 
-abbrev words : List (List ℕ)
-words = codes "myria" ∷ codes "q" ∷ []
+-- what words ask for that name a script and nothing else
+abbrev usual : Request
+usual = record {
+  mode = mode.Run;
+  settings = record {
+    workers = 4;
+    capacity = 16;
+    batch = 256;
+    seed = 0;
+    shuffle = shuffle.Hc;
+    local = join.Tj;
+    workers_in_range = (omega arith, omega arith);
+    capacity_in_range = (omega arith, omega arith);
+    batch_in_range = (omega arith, omega arith);
+  };
+  plan = false;
+  traffic = false;
+  size = 1000;
+  script = codes "q";
+  size_in_range = (omega arith, omega arith);
+}
+
+abbrev in_mode : Mode → Request
+in_mode m = record usual { mode = m }
+
+-- two workers, by this shuffle, with the plan and the traffic
+abbrev two_workers : ShuffleKind → Request
+two_workers kind = record usual {
+  settings = record usual.settings {
+    workers = 2;
+    shuffle = kind;
+    workers_in_range = (omega arith, omega arith);
+  };
+  plan = true;
+  traffic = true;
+}
+
+-- ---- the script that words ask for
+
+abbrev myria : List (List ℕ) → List (List ℕ)
+myria words = codes "myria" ∷ words
+
+pub asked-script : script_asked (asked (myria (codes "q" ∷ []))) ≡ Some (codes "q")
+unfolding clap_on_literals command
+asked-script = refl
+
+pub asked-trial : script_asked (asked (myria (codes "--mode" ∷ codes "trial" ∷ codes "q" ∷ []))) ≡ None
+unfolding clap_on_literals command
+asked-trial = refl
+
+pub asked-unread : script_asked (asked (myria (codes "--plan" ∷ []))) ≡ None
+unfolding clap_on_literals command
+asked-unread = refl
 
 -- ---- a scan that is stored
 
@@ -41,20 +103,20 @@ abbrev scan_and_store : List StatementTree
 scan_and_store = Assign (codes "A") (Copy (operand.Scan (adhoc (codes "R")))) ∷ Store (codes "A") (adhoc (codes "Out")) ∷ []
 
 -- the rows come out in order, under their line and their header
-pub printed-scan_and_store : printed_verdict (shelf_of (codes "public:adhoc:R.csv") (codes "x:int,y:int\n3,1\n1,2\n2,5\n")) scan_and_store
+pub printed-scan_and_store : printed_verdict usual (shelf_of (codes "public:adhoc:R.csv") (codes "x:int,y:int\n3,1\n1,2\n2,5\n")) scan_and_store
     ≡ passes (codes "-- store public:adhoc:Out 3 rows\nx:int,y:int\n1,2\n2,5\n3,1\n")
 unfolding files_on_literals
 printed-scan_and_store = refl
 
-pub printed-without_a_relation : printed_verdict (shelf_of (codes "public:adhoc:S.csv") []) scan_and_store ≡ refused (outcome.NoRelation (adhoc (codes "R")))
+pub printed-without_a_relation : printed_verdict usual (shelf_of (codes "public:adhoc:S.csv") []) scan_and_store ≡ refused (outcome.NoRelation (adhoc (codes "R")))
 printed-without_a_relation = refl
 
-pub printed-of_a_short_row : printed_verdict (shelf_of (codes "public:adhoc:R.csv") (codes "x:int,y:int\n1,2\n3\n")) scan_and_store ≡ refused (outcome.BadRelation (adhoc (codes "R")) (fault.FieldCount 2))
+pub printed-of_a_short_row : printed_verdict usual (shelf_of (codes "public:adhoc:R.csv") (codes "x:int,y:int\n1,2\n3\n")) scan_and_store ≡ refused (outcome.BadRelation (adhoc (codes "R")) (fault.FieldCount 2))
 unfolding files_on_literals
 printed-of_a_short_row = refl
 
 -- a relation of strings and booleans is stored as it is
-pub printed-strings : printed_verdict (shelf_of (codes "public:adhoc:R.csv") (codes "name,ok:boolean\n\"b,\",TRUE\na,false\n")) scan_and_store
+pub printed-strings : printed_verdict usual (shelf_of (codes "public:adhoc:R.csv") (codes "name,ok:boolean\n\"b,\",TRUE\na,false\n")) scan_and_store
     ≡ passes (codes "-- store public:adhoc:Out 2 rows\nname:string,ok:boolean\na,false\n\"b,\",true\n")
 unfolding files_on_literals
 printed-strings = refl
@@ -77,40 +139,79 @@ join_with name =
 abbrev edges : List ℕ → Content
 edges = shelf_of (codes "public:adhoc:R.csv") (codes "x:int,y:int\n1,2\n2,3\n2,3\n3,1\n")
 
-pub printed-join : printed_verdict edges (join_with (codes "y")) ≡ passes (codes "-- store public:adhoc:Out 5 rows\nx:int,y:int\n1,3\n1,3\n2,1\n2,1\n3,2\n")
+pub printed-join : printed_verdict usual edges (join_with (codes "y")) ≡ passes (codes "-- store public:adhoc:Out 5 rows\nx:int,y:int\n1,3\n1,3\n2,1\n2,1\n3,2\n")
 unfolding files_on_literals
 printed-join = refl
 
 -- a column that isn't in the header of its item, and one of another type
-pub printed-join_of_no_column : printed_verdict edges (join_with (codes "z")) ≡ refused (outcome.Typing 1 kind.UnknownColumn)
+pub printed-join_of_no_column : printed_verdict usual edges (join_with (codes "z")) ≡ refused (outcome.Typing 1 kind.UnknownColumn)
 unfolding files_on_literals
 printed-join_of_no_column = refl
 
-pub printed-join_of_two_types : printed_verdict (shelf_of (codes "public:adhoc:R.csv") (codes "x:int,y\n1,2\n")) (join_with (codes "y"))
+pub printed-join_of_two_types : printed_verdict usual (shelf_of (codes "public:adhoc:R.csv") (codes "x:int,y\n1,2\n")) (join_with (codes "y"))
     ≡ refused (outcome.Typing 1 kind.TypeMismatch)
 unfolding files_on_literals
 printed-join_of_two_types = refl
 
 -- the file is read before a statement is typed
-pub printed-bad_file_of_a_join : printed_verdict (shelf_of (codes "public:adhoc:R.csv") (codes "x:int\n1,2\n")) (join_with (codes "z"))
+pub printed-bad_file_of_a_join : printed_verdict usual (shelf_of (codes "public:adhoc:R.csv") (codes "x:int\n1,2\n")) (join_with (codes "z"))
     ≡ refused (outcome.BadRelation (adhoc (codes "R")) (fault.FieldCount 1))
 unfolding files_on_literals
 printed-bad_file_of_a_join = refl
 
+-- ---- a join in other modes, and its plan and traffic
+
+pub printed-check : printed_verdict (in_mode mode.Check) edges (join_with (codes "y"))
+    ≡ passes (codes "-- store public:adhoc:Out 5 rows\nx:int,y:int\n1,3\n1,3\n2,1\n2,1\n3,2\n")
+unfolding files_on_literals
+printed-check = refl
+
+abbrev keys : List ℕ → Content
+keys = shelf_of (codes "public:adhoc:R.csv") (codes "x:int\n0\n1\n2\n3\n")
+
+-- J = [from scan(R) as a, scan(R) as b where a.x = b.x emit a.x]; store(J, Out);
+abbrev join_of_keys : List StatementTree
+join_of_keys =
+    Assign (codes "J") (From (item (codes "a") ∷ item (codes "b") ∷ []) (Some (Bin op.Eq (column (codes "a") (codes "x")) (column (codes "b") (codes "x"))))
+    (One (column (codes "a") (codes "x")) None ∷ [])) ∷ Store (codes "J") (adhoc (codes "Out")) ∷ []
+
+-- the plan stands behind the relations, and the traffic behind the plan
+pub printed-by_cells : printed_verdict (two_workers shuffle.Hc) keys join_of_keys
+    ≡ passes (codes "-- store public:adhoc:Out 4 rows\nx:int\n0\n1\n2\n3\n"
+    ++ codes "-- plan 1 from rows 4\n-- item 1 rows 4 pushed 0 kept 4\n-- item 2 rows 4 pushed 0 kept 4\n"
+    ++ codes "-- variable 1 1.$0 2.$0 share 2\n-- shuffle hc join tj cells 2 load 8/2\n"
+    ++ codes "-- traffic 1 join hc\n-- worker 0 received 2 listed 1\n-- worker 1 received 6 listed 3\n")
+unfolding files_on_literals digits load.comes_before load.load_of
+printed-by_cells = refl
+
+pub printed-by_keys : printed_verdict (two_workers shuffle.Rs) keys join_of_keys
+    ≡ passes (codes "-- store public:adhoc:Out 4 rows\nx:int\n0\n1\n2\n3\n"
+    ++ codes "-- plan 1 from rows 4\n-- item 1 rows 4 pushed 0 kept 4\n-- item 2 rows 4 pushed 0 kept 4\n"
+    ++ codes "-- variable 1 1.$0 2.$0\n-- shuffle rs join tj\n"
+    ++ codes "-- traffic 1 join rs step 2\n-- worker 0 received 4 listed 2\n-- worker 1 received 4 listed 2\n")
+unfolding files_on_literals digits
+printed-by_keys = refl
+
+-- the plan alone
+pub printed-plan : printed_verdict (in_mode mode.Explain) (shelf_of (codes "public:adhoc:R.csv") (codes "x:int,y:int\n3,1\n1,2\n2,5\n")) scan_and_store
+    ≡ passes (codes "-- plan 1 copy rows 3\n")
+unfolding files_on_literals digits
+printed-plan = refl
+
 -- ---- other statements
 
 -- A = distinct(scan(R)); store(A, Out);
-pub printed-distinct : printed_verdict edges (Assign (codes "A") (Distinct (operand.Scan (adhoc (codes "R")))) ∷ Store (codes "A") (adhoc (codes "Out")) ∷ [])
+pub printed-distinct : printed_verdict usual edges (Assign (codes "A") (Distinct (operand.Scan (adhoc (codes "R")))) ∷ Store (codes "A") (adhoc (codes "Out")) ∷ [])
     ≡ passes (codes "-- store public:adhoc:Out 3 rows\nx:int,y:int\n1,2\n2,3\n3,1\n")
 unfolding files_on_literals
 printed-distinct = refl
 
-pub printed-another_name : printed_verdict edges (Assign (codes "A") (Distinct (operand.Scan (adhoc (codes "R")))) ∷ Store (codes "B") (adhoc (codes "Out")) ∷ [])
+pub printed-another_name : printed_verdict usual edges (Assign (codes "A") (Distinct (operand.Scan (adhoc (codes "R")))) ∷ Store (codes "B") (adhoc (codes "Out")) ∷ [])
     ≡ refused (outcome.Typing 2 kind.UnknownRelation)
 unfolding files_on_literals
 printed-another_name = refl
 
-pub printed-nothing : printed_verdict edges [] ≡ passes []
+pub printed-nothing : printed_verdict usual edges [] ≡ passes []
 printed-nothing = refl
 
 -- ---- loaded files
@@ -122,18 +223,18 @@ load_and_store =
     (record { name = codes "n"; kind = type.Str } ∷ record { name = codes "k"; kind = type.Int } ∷ []) 1)) ∷ Store (codes "P") (adhoc (codes "Out")) ∷ []
 
 -- the file is asked for by its own name, and has no header
-pub printed-load : printed_verdict (shelf_of (codes "p") (codes "made by hand\nbob,4\nann,3\n")) load_and_store
+pub printed-load : printed_verdict usual (shelf_of (codes "p") (codes "made by hand\nbob,4\nann,3\n")) load_and_store
     ≡ passes (codes "-- store public:adhoc:Out 2 rows\nn:string,k:int\nann,3\nbob,4\n")
 unfolding files_on_literals
 printed-load = refl
 
 -- what is passed over isn't counted
-pub printed-load_of_a_bad_int : printed_verdict (shelf_of (codes "p") (codes "made by hand\nann,x\n")) load_and_store
+pub printed-load_of_a_bad_int : printed_verdict usual (shelf_of (codes "p") (codes "made by hand\nann,x\n")) load_and_store
     ≡ refused (outcome.BadRelation (load_key (codes "p")) (fault.BadInt 1 2))
 unfolding files_on_literals
 printed-load_of_a_bad_int = refl
 
-pub printed-load_of_no_file : printed_verdict (shelf_of (codes "public:adhoc:p.csv") []) load_and_store ≡ refused (outcome.NoRelation (load_key (codes "p")))
+pub printed-load_of_no_file : printed_verdict usual (shelf_of (codes "public:adhoc:p.csv") []) load_and_store ≡ refused (outcome.NoRelation (load_key (codes "p")))
 printed-load_of_no_file = refl
 
 -- ---- why a fetch was refused
@@ -164,40 +265,43 @@ cause-no_fault h = by h
 
 -- ---- lines on standard error
 
-pub line-no_script : line_of words outcome.NoScript ≡ codes "myria: no script q\n"
+pub line-usage : line_of [] outcome.Usage ≡ codes "myria: usage: myria [options] SCRIPT\n"
+line-usage = refl
+
+pub line-no_script : line_of (codes "q") outcome.NoScript ≡ codes "myria: no script q\n"
 line-no_script = refl
 
-pub line-no_relation : line_of words (outcome.NoRelation (adhoc (codes "R"))) ≡ codes "myria: no relation public:adhoc:R\n"
+pub line-no_relation : line_of (codes "q") (outcome.NoRelation (adhoc (codes "R"))) ≡ codes "myria: no relation public:adhoc:R\n"
 line-no_relation = refl
 
-pub line-too_long : line_of words (outcome.RelTooLong (adhoc (codes "R"))) ≡ codes "myria: relation public:adhoc:R: too long\n"
+pub line-too_long : line_of (codes "q") (outcome.RelTooLong (adhoc (codes "R"))) ≡ codes "myria: relation public:adhoc:R: too long\n"
 line-too_long = refl
 
-pub line-bad_relation : line_of words (outcome.BadRelation (adhoc (codes "R")) (fault.FieldCount 2))
+pub line-bad_relation : line_of (codes "q") (outcome.BadRelation (adhoc (codes "R")) (fault.FieldCount 2))
     ≡ codes "myria: relation public:adhoc:R: record 2 has a wrong number of fields\n"
 unfolding digits
 line-bad_relation = refl
 
-pub line-lexical : line_of words (outcome.Lex 2 lexical.BadChar) ≡ codes "myria: line 2: unexpected character\n"
+pub line-lexical : line_of (codes "q") (outcome.Lex 2 lexical.BadChar) ≡ codes "myria: line 2: unexpected character\n"
 unfolding digits
 line-lexical = refl
 
-pub line-syntax : line_of words (outcome.Syntax 3) ≡ codes "myria: statement 3: syntax error\n"
+pub line-syntax : line_of (codes "q") (outcome.Syntax 3) ≡ codes "myria: statement 3: syntax error\n"
 unfolding digits
 line-syntax = refl
 
-pub line-too_many : line_of words (outcome.TooMany 1 many.FromItems) ≡ codes "myria: statement 1: too many items\n"
+pub line-too_many : line_of (codes "q") (outcome.TooMany 1 many.FromItems) ≡ codes "myria: statement 1: too many items\n"
 unfolding digits
 line-too_many = refl
 
-pub line-typing : line_of words (outcome.Typing 2 kind.LoadConflict) ≡ codes "myria: statement 2: load conflict\n"
+pub line-typing : line_of (codes "q") (outcome.Typing 2 kind.LoadConflict) ≡ codes "myria: statement 2: load conflict\n"
 unfolding digits
 line-typing = refl
 
 -- a loaded file is told by its name alone
-pub line-no_file : line_of words (outcome.NoRelation (load_key (codes "p.txt"))) ≡ codes "myria: no relation p.txt\n"
+pub line-no_file : line_of (codes "q") (outcome.NoRelation (load_key (codes "p.txt"))) ≡ codes "myria: no relation p.txt\n"
 line-no_file = refl
 
-pub line-bad_load : line_of words (outcome.BadRelation (load_key (codes "p.txt")) (fault.BadInt 1 2)) ≡ codes "myria: relation p.txt: record 1 column 2 is not an int\n"
+pub line-bad_load : line_of (codes "q") (outcome.BadRelation (load_key (codes "p.txt")) (fault.BadInt 1 2)) ≡ codes "myria: relation p.txt: record 1 column 2 is not an int\n"
 unfolding digits
 line-bad_load = refl

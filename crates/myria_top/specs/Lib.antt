@@ -4,7 +4,8 @@ pub mod Outcomes
 pub mod Verdicts
 pub mod Reading
 pub mod Scripts
-pub mod OutputText
+pub mod Requests
+pub mod Printed
 pub mod Runs
 pub mod Headline
 pub mod Moves

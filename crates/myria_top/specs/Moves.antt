@@ -1,10 +1,10 @@
 -- What a run moves from worker to worker.
 --
---   usual settings                   the numbers and choices of a run whose words name none
---   IsRunOf words content files c    the words name a script, and it is typed over these files, to these steps
---   HasMoved ..                      receipts and taps are those of the exchanges of the run
---   HasMovedAfter .. answer          so they are after `Done`
-use Rattle.std.specs.Prelude.{◌≡◌, ℕ, ⊤, List, Some, Ok}
+--   IsRunOf r content files c     a run of the request is that of these checked steps over these files
+--   exchanges_asked r files c     the exchanges of such a run
+--   HasMoved r files c ..         receipts and taps are those of these exchanges
+--   HasMovedAfter .. answer       so they are after `Done`
+use Rattle.std.specs.Prelude.{◌≡◌, ℕ, true, false, ⊤, List, [], Option, Ok, if◌then◌else◌}
 use Rattle.std.specs.List.{flat_map}
 use Rattle.rel_base.specs.Keys.{File}
 use Rattle.rel_io.specs.Outside.{Content}
@@ -13,48 +13,46 @@ use Rattle.exchange_channels.specs.Wirings.{ReceiptState}
 use Rattle.myrial_ast.specs.Trees.{StatementTree}
 use Rattle.myrial_meaning.specs.Fetches.{fetches}
 use Rattle.myrial_types.specs.Checking.{checked_of}
-use Rattle.algebra.specs.declared.settings.Settings.{Settings}
-use Rattle.algebra.specs.declared.settings.ShuffleKind.TheVariants as shuffle_kind
-use Rattle.algebra.specs.declared.settings.JoinKind.TheVariants as join_kind
 use Rattle.algebra.specs.Trees.{CheckedTree}
+use Rattle.placement.specs.Exchanges.{PlacedExchange}
 use Rattle.placed_joins.specs.PlacedJoins.{size_of}
 use Rattle.term_runs.specs.TermRuns.{shown_moves, AreShown, AreMoved}
 use Rattle.engine.specs.Runs.{run_exchanges}
+use Rattle.trial_gen.specs.Trials.{trial_files}
+use Rattle.trial_gen.specs.TrialScript.{trial_script}
+use Rattle.command_words.specs.declared.requests.Request.{Request}
+use Rattle.command_words.specs.Requests.{Asked}
 use Rattle.myria_top.specs.declared.outcomes.Outcome.{Outcome}
 use Rattle.myria_top.specs.declared.outcomes.Outcome.TheVariants as outcome
-use Rattle.myria_top.specs.Reading.{script_name}
+use Rattle.myria_top.specs.Requests.{Asks, is_check, is_trial}
 use Rattle.myria_top.specs.Runs.{files_verdict}
-use Rattle.myria_top.specs.Scripts.{ScriptComesTo}
+use Rattle.myria_top.specs.Scripts.{ScriptComesTo, TextComesTo}
 use Rattle.myria_top.specs.Verdicts.{passes}
 
--- 4 workers, 16 messages that may wait, 256 rows a batch, seed 0, joins by cells and by sorted arrays
-pub record AreUsual (s : Settings) : Type 0 where
-  pub workers : s.workers ≡ 4
-  pub capacity : s.capacity ≡ 16
-  pub batch : s.batch ≡ 256
-  pub seed : s.seed ≡ 0
-  pub shuffle : s.shuffle ≡ shuffle_kind.Hc
-  pub local : s.local ≡ join_kind.Tj
+-- what is run: the script that is asked for, over the files that it needs, typed to these steps; or a trial's script over the
+-- relations of the trial
+pub data IsRunOf (r : Request) (content : List ℕ → Content) : List File → CheckedTree → Type 0 where
+  script_run : (trees : List StatementTree) (files : List File) (c : CheckedTree) → is_trial r.mode ≡ false
+      → ScriptComesTo (content r.script) (passes trees) → files_verdict content (fetches trees) ≡ passes files
+      → checked_of files trees ≡ Ok c → IsRunOf r content files c
+  trial_run : (trees : List StatementTree) (c : CheckedTree) → is_trial r.mode ≡ true
+      → TextComesTo trial_script (passes trees) → checked_of (trial_files r.size) trees ≡ Ok c
+      → IsRunOf r content (trial_files r.size) c
 
--- the words name a script that the shelf tells, and it is typed over the files that it needs, to these steps
-pub record IsRunOf (words : List (List ℕ)) (content : List ℕ → Content) (files : List File) (c : CheckedTree) : Type 0 where
-  pub name : List ℕ
-  pub named : script_name words ≡ Some name
-  pub trees : List StatementTree
-  pub script : ScriptComesTo (content name) (passes trees)
-  pub read : files_verdict content (fetches trees) ≡ passes files
-  pub typed : checked_of files trees ≡ Ok c
+-- its exchanges by the settings of the request; without workers there is none
+abbrev pub exchanges_asked : Request → List File → CheckedTree → List PlacedExchange
+exchanges_asked r files c = if is_check r.mode then [] else run_exchanges r.settings files c
 
--- the receipts show the exchanges of the run, and the taps, two for each worker and others behind them, rose by them
-pub record HasMoved {T : Type 0} (s : Settings) (files : List File) (c : CheckedTree) (totals : T → Totals) (tag : T → ℕ)
+-- the receipts show these exchanges, and the taps, two for each worker and others behind them, rose by them
+pub record HasMoved {T : Type 0} (r : Request) (files : List File) (c : CheckedTree) (totals : T → Totals) (tag : T → ℕ)
     (before after : List T) (receipts : List ReceiptState) : Type 0 where
-  pub shown : AreShown (size_of s) (flat_map shown_moves (run_exchanges s files c)) receipts
-  pub taps : AreMoved totals tag s.workers (run_exchanges s files c) before after
+  pub shown : AreShown (size_of r.settings) (flat_map shown_moves (exchanges_asked r files c)) receipts
+  pub taps : AreMoved totals tag r.settings.workers (exchanges_asked r files c) before after
 
--- after `Done`, receipts and taps are those of the run that the words and the files ask for, by the usual settings
-abbrev pub HasMovedAfter : {T : Type 0} → List (List ℕ) → (List ℕ → Content) → (T → Totals) → (T → ℕ) → List T → List T
+-- after `Done`, receipts and taps are those of the run that the words and the files ask for
+abbrev pub HasMovedAfter : {T : Type 0} → Option Asked → (List ℕ → Content) → (T → Totals) → (T → ℕ) → List T → List T
     → Outcome → Type 0
-HasMovedAfter words content totals tag before after (outcome.Done receipts) =
-    (s : Settings) (files : List File) (c : CheckedTree) → AreUsual s → IsRunOf words content files c
-    → HasMoved s files c totals tag before after receipts
-HasMovedAfter words content totals tag before after answer = ⊤
+HasMovedAfter asked content totals tag before after (outcome.Done receipts) =
+    (r : Request) (files : List File) (c : CheckedTree) → Asks asked r → IsRunOf r content files c
+    → HasMoved r files c totals tag before after receipts
+HasMovedAfter asked content totals tag before after answer = ⊤

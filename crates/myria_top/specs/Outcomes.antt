@@ -1,8 +1,8 @@
 -- The answers of a run, as the program's user sees them.
 --
 --   status_of a        the exit status
---   line_of words a    the line on standard error; none after `Done`
-use Rattle.std.specs.Prelude.{ℕ, List, [], ◌∷◌, ◌++◌, codes}
+--   line_of name a     the line on standard error, by the name that the words gave; none after `Done`
+use Rattle.std.specs.Prelude.{ℕ, List, [], ◌++◌, codes}
 use Rattle.std.specs.Borrow.{Bor}
 use Rattle.std.specs.Fmt.{decimal}
 use Rattle.rel_base.specs.declared.names.Key.{Key}
@@ -19,6 +19,7 @@ use Rattle.myria_top.specs.declared.outcomes.Outcome.TheVariants as outcome
 -- the exit status of an answer
 abbrev pub status_of : Outcome → ℕ
 status_of (outcome.Done receipts) = 0
+status_of outcome.Usage = 1
 status_of outcome.NoScript = 2
 status_of outcome.ScriptTooLong = 2
 status_of outcome.ScriptNotText = 2
@@ -35,12 +36,6 @@ status_of (outcome.AggregateOverflow statement) = 10
 status_of (outcome.ReadFault name) = 11
 status_of outcome.WriteFault = 12
 status_of outcome.Memory = 13
-status_of outcome.NotBuilt = 14
-
--- the word that names the script, as it was given
-abbrev pub given_name : List (List ℕ) → List ℕ
-given_name (program ∷ name ∷ others) = name
-given_name _ = []
 
 -- what breaks the token rules, in words
 abbrev pub lexical_words : LexWhat → List ℕ
@@ -89,27 +84,27 @@ abbrev pub relation_line : Key → List ℕ → List ℕ
 relation_line key words = line_with (of_relation key words)
 
 -- what the answer says, in words
-abbrev pub message_of : List (List ℕ) → Outcome → List ℕ
-message_of words (outcome.Done receipts) = []
-message_of words outcome.NoScript = codes "no script " ++ given_name words
-message_of words outcome.ScriptTooLong = codes "script too long"
-message_of words outcome.ScriptNotText = codes "script is not UTF-8"
-message_of words (outcome.Lex line what) = on_line line (lexical_words what)
-message_of words (outcome.Syntax statement) = of_statement statement (codes "syntax error")
-message_of words (outcome.TooMany statement what) = of_statement statement (codes "too many " ++ many_words what)
-message_of words (outcome.Typing statement kind) = of_statement statement (kind_text kind)
-message_of words (outcome.NoRelation key) = codes "no relation " ++ key_words key
-message_of words (outcome.RelTooLong key) = of_relation key (codes "too long")
-message_of words (outcome.BadRelation key fault) = of_relation key (fault_text fault)
-message_of words (outcome.TooManyRows statement) = of_statement statement (codes "too many rows")
-message_of words (outcome.Overflow statement) = of_statement statement (codes "overflow")
-message_of words (outcome.AggregateOverflow statement) = of_statement statement (codes "aggregate overflow")
-message_of words (outcome.ReadFault name) = codes "cannot read " ++ name
-message_of words outcome.WriteFault = codes "cannot write"
-message_of words outcome.Memory = codes "out of memory"
-message_of words outcome.NotBuilt = codes "not built"
+abbrev pub message_of : List ℕ → Outcome → List ℕ
+message_of name (outcome.Done receipts) = []
+message_of name outcome.Usage = codes "usage: myria [options] SCRIPT"
+message_of name outcome.NoScript = codes "no script " ++ name
+message_of name outcome.ScriptTooLong = codes "script too long"
+message_of name outcome.ScriptNotText = codes "script is not UTF-8"
+message_of name (outcome.Lex line what) = on_line line (lexical_words what)
+message_of name (outcome.Syntax statement) = of_statement statement (codes "syntax error")
+message_of name (outcome.TooMany statement what) = of_statement statement (codes "too many " ++ many_words what)
+message_of name (outcome.Typing statement kind) = of_statement statement (kind_text kind)
+message_of name (outcome.NoRelation key) = codes "no relation " ++ key_words key
+message_of name (outcome.RelTooLong key) = of_relation key (codes "too long")
+message_of name (outcome.BadRelation key fault) = of_relation key (fault_text fault)
+message_of name (outcome.TooManyRows statement) = of_statement statement (codes "too many rows")
+message_of name (outcome.Overflow statement) = of_statement statement (codes "overflow")
+message_of name (outcome.AggregateOverflow statement) = of_statement statement (codes "aggregate overflow")
+message_of given (outcome.ReadFault name) = codes "cannot read " ++ name
+message_of name outcome.WriteFault = codes "cannot write"
+message_of name outcome.Memory = codes "out of memory"
 
 -- the line on standard error
-abbrev pub line_of : List (List ℕ) → Outcome → List ℕ
-line_of words (outcome.Done receipts) = []
-line_of words answer = line_with (message_of words answer)
+abbrev pub line_of : List ℕ → Outcome → List ℕ
+line_of name (outcome.Done receipts) = []
+line_of name answer = line_with (message_of name answer)

@@ -1,13 +1,11 @@
--- What is read: the words and files, each of which may refuse.
+-- What is read of files, each of which may refuse.
 --
---   script_name words               the name of the script
---   file_verdict ..                    what a file comes to
+--   file_verdict ..                 what a file comes to
 --   Agrees step result              a call came to what the step comes to
 --   ReadsStep step names ..         a call on the shelf came to the step, and each refusal has its cause
 --   Meets Comes step                the files come to this step, by a relation
 --   ReadsBy Comes names ..          a call on the shelf came to what the files come to, and each refusal has its cause
-use Rattle.std.specs.Prelude.{◌≡◌, ℕ, List, [], ◌∷◌, length, nat_lt, if◌then◌else◌, Option, Some, None, Result, Ok, Err, IfErr, ⊤, codes, nat_eq}
-use Rattle.std.specs.List.{starts_with}
+use Rattle.std.specs.Prelude.{◌≡◌, ℕ, List, length, nat_lt, if◌then◌else◌, Result, Ok, Err, IfErr, ⊤}
 use Rattle.rel_io.specs.Outside.{Content, MayBeMissing, Rose}
 use Rattle.rel_io.specs.Shelves.{CallCounts, HaveNotFallen}
 use Rattle.rel_io.specs.Outside as outside
@@ -17,11 +15,6 @@ use Rattle.myria_top.specs.FileNames.{file_name_of}
 use Rattle.myria_top.specs.declared.outcomes.Outcome.{Outcome}
 use Rattle.myria_top.specs.declared.outcomes.Outcome.TheVariants as outcome
 use Rattle.myria_top.specs.Verdicts.{Verdict, untold, refused, passes, IfTold}
-
--- the word that names the script: the words are two, and the second is no option
-abbrev pub script_name : List (List ℕ) → Option (List ℕ)
-script_name (program ∷ name ∷ []) = if starts_with nat_eq name (codes "-") then None else Some name
-script_name _ = None
 
 -- what a file comes to: refused where it is missing, and where it has more than `most` bytes, and else read
 abbrev pub file_verdict : {X : Type 0} → ℕ → Outcome → Outcome → (List ℕ → Verdict X) → Content → Verdict X

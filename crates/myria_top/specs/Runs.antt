@@ -1,12 +1,12 @@
--- What a run comes to, by its words and the files that the shelf tells.
+-- What a run comes to, by what its words ask for and the files that the shelf tells.
 --
 --   relation_verdict fetch content     what the file of a relation comes to: the relation
 --   files_verdict content fetches      what these files come to, one after another
 --   IsFetchedBy fetches file           a file has the key of one of these fetches, the columns of its form, and typed rows
---   run_verdict script files           what the script comes to over its files: the stored relations
---   printed_verdict content script     what it comes to: the text that is printed
---   ComesTo words content step         what the words and the files come to
-use Rattle.std.specs.Prelude.{◌≡◌, ℕ, List, [], ◌∷◌, ◌++◌, fold, All, Contains, IsTrue, Option, Some, None, Result, Ok, Err}
+--   run_verdict r script files         what the script comes to over its files: the text that is printed
+--   printed_verdict r content script   what it comes to over the files that are told
+--   ComesTo asked content step         what the words and the files come to
+use Rattle.std.specs.Prelude.{◌≡◌, ℕ, true, false, List, [], ◌∷◌, ◌++◌, fold, All, Contains, IsTrue, Option, Some, None, Result, Ok, Err}
 use Rattle.std.specs.Option.{option_map_or}
 use Rattle.rel_base.specs.Keys.{File}
 use Rattle.rel_base.specs.Limits.{most_relation_bytes}
@@ -19,7 +19,6 @@ use Rattle.rel_io.specs.Outside.{Content}
 use Rattle.relation_csv.specs.Files.{relation_of_bytes, relation_with}
 use Rattle.myrial_ast.specs.declared.relations.LoadForm.{LoadForm}
 use Rattle.myrial_ast.specs.Trees.{StatementTree}
-use Rattle.myrial_ast.specs.CandidateFaults.{Uncounted}
 use Rattle.myrial_meaning.specs.declared.needed_files.Fetch.{Fetch}
 use Rattle.myrial_meaning.specs.Faults.{run_fault}
 use Rattle.myrial_meaning.specs.Meaning.{stored_relations}
@@ -28,12 +27,20 @@ use Rattle.myrial_types.specs.declared.faults.TypeFault.{TypeFault}
 use Rattle.myrial_types.specs.declared.faults.TypeFault.TheVariants as typing
 use Rattle.myrial_types.specs.Checking.{checked_of}
 use Rattle.myrial_types.specs.Fetching.{has_form}
+use Rattle.algebra.specs.Trees.{CheckedTree}
+use Rattle.trial_gen.specs.Trials.{trial_files}
+use Rattle.trial_gen.specs.TrialScript.{trial_script}
+use Rattle.command_words.specs.declared.requests.Request.{Request}
+use Rattle.command_words.specs.declared.requests.WordsFault.{WordsFault}
+use Rattle.command_words.specs.declared.requests.WordsFault.TheVariants as words
+use Rattle.command_words.specs.Requests.{Asked}
 use Rattle.myria_top.specs.FileNames.{file_name_of}
 use Rattle.myria_top.specs.declared.outcomes.Outcome.{Outcome}
 use Rattle.myria_top.specs.declared.outcomes.Outcome.TheVariants as outcome
-use Rattle.myria_top.specs.OutputText.{output_text}
-use Rattle.myria_top.specs.Reading.{file_verdict, script_name}
-use Rattle.myria_top.specs.Scripts.{ScriptComesTo}
+use Rattle.myria_top.specs.Printed.{printed_text}
+use Rattle.myria_top.specs.Reading.{file_verdict}
+use Rattle.myria_top.specs.Requests.{Asks, is_trial, prefixes_in}
+use Rattle.myria_top.specs.Scripts.{ScriptComesTo, TextComesTo}
 use Rattle.myria_top.specs.Verdicts.{Verdict, refused, passes, and_then}
 
 -- what the bytes of a file hold: a loaded file is read by its form, and any other by its header
@@ -91,27 +98,38 @@ run_answer (fault.Overflow statement) = outcome.Overflow statement
 run_answer (fault.AggregateOverflow statement) = outcome.AggregateOverflow statement
 run_answer fault.Memory = outcome.Memory
 
--- a fault of typing, or else a verdict
-abbrev pub if_typed : {X Y : Type 0} → Result X TypeFault → Verdict Y → Verdict Y
-if_typed (Ok checked) then_verdict = then_verdict
-if_typed (Err why) then_verdict = refused (typing_answer why)
+-- the answer to a fault of the words
+abbrev pub words_answer : WordsFault → Outcome
+words_answer words.Usage = outcome.Usage
+words_answer words.Memory = outcome.Memory
 
--- what a typed script comes to over its files: what it stores, or the fault of its run
-abbrev pub typed_verdict : List StatementTree → List File → Verdict (List File)
-typed_verdict script files =
-    option_map_or (λ found. refused (run_answer found)) (run_fault Uncounted files script) (passes (stored_relations files script))
+-- a fault of typing, or else a verdict on the steps
+abbrev pub when_typed : {X Y : Type 0} → Result X TypeFault → (X → Verdict Y) → Verdict Y
+when_typed (Ok checked) further = further checked
+when_typed (Err why) further = refused (typing_answer why)
 
--- what the script comes to over its files: each statement is typed, and then its run
-abbrev pub run_verdict : List StatementTree → List File → Verdict (List File)
-run_verdict script files = if_typed (checked_of files script) (typed_verdict script files)
+-- what a typed script comes to over its files: the fault of its run, or the text that is printed
+abbrev pub typed_verdict : Request → List StatementTree → List File → CheckedTree → Verdict (List ℕ)
+typed_verdict r script files c =
+    option_map_or (λ found. refused (run_answer found)) (run_fault (prefixes_in r.mode r.settings.shuffle) files script)
+    (passes (printed_text r (stored_relations files script) files c))
 
--- what the script comes to: the text that is printed
-abbrev pub printed_verdict : (List ℕ → Content) → List StatementTree → Verdict (List ℕ)
-printed_verdict content script =
-    and_then (and_then (files_verdict content (fetches script)) (run_verdict script)) (λ stored. passes (output_text stored))
+-- what a script comes to over its files: each statement is typed, and then its run
+abbrev pub run_verdict : Request → List StatementTree → List File → Verdict (List ℕ)
+run_verdict r script files = when_typed (checked_of files script) (typed_verdict r script files)
+
+-- what a script comes to: its files, one after another, and then its run over them
+abbrev pub printed_verdict : Request → (List ℕ → Content) → List StatementTree → Verdict (List ℕ)
+printed_verdict r content script = and_then (files_verdict content (fetches script)) (run_verdict r script)
+
+-- what a trial's script comes to over the relations of a trial of this size
+abbrev pub trial_verdict : Request → List StatementTree → Verdict (List ℕ)
+trial_verdict r script = run_verdict r script (trial_files r.size)
 
 -- what the words and the files come to: the text that is printed, or an answer that refuses
-pub data ComesTo (words : List (List ℕ)) (content : List ℕ → Content) : Verdict (List ℕ) → Type 0 where
-  unnamed : script_name words ≡ None → ComesTo words content (refused outcome.NotBuilt)
-  named : (name : List ℕ) (s : Verdict (List StatementTree)) → script_name words ≡ Some name → ScriptComesTo (content name) s
-      → ComesTo words content (and_then s (printed_verdict content))
+pub data ComesTo (asked : Option Asked) (content : List ℕ → Content) : Verdict (List ℕ) → Type 0 where
+  unread : asked ≡ None → ComesTo asked content (refused outcome.Usage)
+  of_script : (r : Request) (s : Verdict (List StatementTree)) → Asks asked r → is_trial r.mode ≡ false
+      → ScriptComesTo (content r.script) s → ComesTo asked content (and_then s (printed_verdict r content))
+  of_trial : (r : Request) (s : Verdict (List StatementTree)) → Asks asked r → is_trial r.mode ≡ true
+      → TextComesTo trial_script s → ComesTo asked content (and_then s (trial_verdict r))

@@ -52,5 +52,5 @@ IsOfTexts (outcome.NoRelation key) = ⊥
 IsOfTexts (outcome.RelTooLong key) = ⊥
 IsOfTexts (outcome.BadRelation key fault) = ⊥
 IsOfTexts (outcome.ReadFault name) = ⊥
-IsOfTexts outcome.NotBuilt = ⊥
+IsOfTexts outcome.Usage = ⊥
 IsOfTexts _ = ⊤

@@ -1,3 +1,2 @@
--- Words of private functions, lowest first.
-pub mod Stores
+-- Words of private functions.
 pub mod Working

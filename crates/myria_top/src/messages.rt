@@ -13,20 +13,21 @@ use itoa::Buffer;
 use myrial_lexer::LexWhat;
 use myrial_parser::What;
 use myrial_types::TypeKind;
-use rel_base::{Key, Text};
+use rel_base::Key;
 use rel_io::{Sink, SinkFault, offer};
 use relation_csv::RelFault;
 
 /// Writes the line of an answer, and nothing after `Done`. Takes no memory of the program's own.
 ///
-/// A fault of the sink stops the line.
-pub fn tell<E: Sink>(err: &mut E, words: &[Text], answer: &Outcome) -> Result<(), SinkFault>
+/// The name is that of the script as the words give it. A fault of the sink stops the line.
+pub fn tell<E: Sink>(err: &mut E, name: &str, answer: &Outcome) -> Result<(), SinkFault>
     ensures { Offers (written_of E.Sink err.old err.new)
-        (outcomes.line_of words.now answer.now) result }
+        (outcomes.line_of name.now answer.now) result }
 {
     match answer {
         Outcome::Done { receipts: _ } => Ok(()),
-        Outcome::NoScript => offer_all(err, &["myria: no script ", given_name(words), "\n"]),
+        Outcome::Usage => offer_all(err, &["myria: usage: myria [options] SCRIPT\n"]),
+        Outcome::NoScript => offer_all(err, &["myria: no script ", name, "\n"]),
         Outcome::ScriptTooLong => offer_all(err, &["myria: script too long\n"]),
         Outcome::ScriptNotText => offer_all(err, &["myria: script is not UTF-8\n"]),
         Outcome::Lex { line, what } => tell_line(err, *line, lexical_words(*what)),
@@ -50,7 +51,6 @@ pub fn tell<E: Sink>(err: &mut E, words: &[Text], answer: &Outcome) -> Result<()
         }
         Outcome::WriteFault => offer_all(err, &["myria: cannot write\n"]),
         Outcome::Memory => offer_all(err, &["myria: out of memory\n"]),
-        Outcome::NotBuilt => offer_all(err, &["myria: not built\n"]),
     }
 }
 
@@ -218,16 +218,6 @@ fn kind_words(kind: TypeKind) -> &'static str
         TypeKind::Misplaced => "misplaced aggregate",
         TypeKind::Limit => "limit",
         TypeKind::LoadConflict => "load conflict",
-    }
-}
-
-/// The word that names the script, as it was given.
-fn given_name(words: &[Text]) -> &str
-    ensures { result.now ≡ outcomes.given_name words.now }
-{
-    match words {
-        [_, name, ..] => name.as_str(),
-        _ => "",
     }
 }
 

@@ -2,6 +2,7 @@
 ghost use Rattle.std.specs.Prelude.{◌≡◌};
 ghost use Rattle.myria_top.specs.Outcomes.{status_of};
 
+use command_words::WordsFault;
 use exchange_channels::Receipts;
 use myrial_lexer::LexWhat;
 use myrial_parser::What;
@@ -12,11 +13,13 @@ use relation_csv::RelFault;
 /// How a run ended.
 #[derive(Drop)]
 pub enum Outcome {
-    /// Everything that the script stores is printed.
+    /// The text of the mode is printed.
     Done {
         /// What was sent in the exchanges of the run.
         receipts: Receipts,
     },
+    /// The words are none that the program takes.
+    Usage,
     /// There is no such script.
     NoScript,
     /// The script is longer than the most bytes of a script.
@@ -90,8 +93,6 @@ pub enum Outcome {
     WriteFault,
     /// Memory was refused.
     Memory,
-    /// The words ask for what is not built yet.
-    NotBuilt,
 }
 
 impl Outcome {
@@ -101,6 +102,7 @@ impl Outcome {
     {
         match self {
             Outcome::Done { receipts: _ } => 0,
+            Outcome::Usage => 1,
             Outcome::NoScript => 2,
             Outcome::ScriptTooLong => 2,
             Outcome::ScriptNotText => 2,
@@ -123,7 +125,6 @@ impl Outcome {
             Outcome::ReadFault { name: _ } => 11,
             Outcome::WriteFault => 12,
             Outcome::Memory => 13,
-            Outcome::NotBuilt => 14,
         }
     }
 }
@@ -136,6 +137,20 @@ impl From<Memory> for Outcome {
 
     fn from(_refused: Memory) -> Outcome {
         Outcome::Memory
+    }
+}
+
+impl From<WordsFault> for Outcome {
+    ghost use Rattle.std.specs.Prelude.{◌≡◌};
+    ghost use Rattle.myria_top.specs.Runs.{words_answer};
+
+    ghost from_gives = { λ fault answer. answer ≡ words_answer fault };
+
+    fn from(fault: WordsFault) -> Outcome {
+        match fault {
+            WordsFault::Usage => Outcome::Usage,
+            WordsFault::Memory => Outcome::Memory,
+        }
     }
 }
 

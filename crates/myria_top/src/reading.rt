@@ -1,6 +1,6 @@
-//! Reads the words, the script and the relations that it needs.
+//! Reads the script and the relations that it needs.
 ghost use Rattle.std.specs.Prelude.{◌≡◌, ◌≢◌, ◌≤◌, ◌<◌, ◌^◌, ◌-◌, ◌++◌, ◌∷◌, [], ◌⊎◌};
-ghost use Rattle.std.specs.Prelude.{false, length, All, AllPairs, Err, IfOk, IfErr, IsTrue, OnOk, option_map};
+ghost use Rattle.std.specs.Prelude.{false, length, All, AllPairs, Err, IfOk, IfErr, IsTrue, OnOk};
 ghost use Rattle.rel_base.specs.Keys.{holds_key, same_key};
 ghost use Rattle.rel_base.specs.Relations.{HasTypes};
 ghost use Rattle.myria_top.specs.Scripts.{ScriptComesTo, TextComesTo, trees_read, IsOfTexts};
@@ -26,22 +26,12 @@ use rel_io::{Shelf, ShelfFault};
 use relation_csv::{RelFault, read_relation, read_with};
 use std::alloc::Global;
 
-/// The word that names the script: the words are two, and the second is no option.
-pub fn script_name(words: &[Text]) -> Option<&Text>
-    ensures { option_map (λ name. name.now) result ≡ spec.script_name words.now }
-{
-    match words {
-        [_, name] if !name.as_str().as_bytes().starts_with(b"-") => Some(name),
-        _ => None,
-    }
-}
-
 /// The script of this name.
 pub fn read_script<F: Shelf>(alloc: Global, shelf: &mut F, name: &Text) -> Result<Script, Outcome>
     ensures read { spec.ReadsBy (ScriptComesTo (F.content shelf.old name.now))
         (counts_of F.Shelf shelf.old shelf.new)
         (λ asked. asked ≡ name.now) (trees_read result) }
-    ensures part { result ≢ Err Outcome.NotBuilt }
+    ensures part { result ≢ Err Outcome.Usage }
     ensures content { F.content shelf.new ≡ F.content shelf.old }
 {
     let most = MOST_SCRIPT_BYTES as u64 + 1;
@@ -58,7 +48,7 @@ pub fn read_script<F: Shelf>(alloc: Global, shelf: &mut F, name: &Text) -> Resul
 }
 
 /// The script of a text that is short enough.
-fn script_of_text(alloc: Global, bytes: &[u8]) -> Result<Script, Outcome>
+pub fn script_of_text(alloc: Global, bytes: &[u8]) -> Result<Script, Outcome>
     requires { length bytes.now ≤ 65536 }
     ensures agrees { spec.AgreesBy (TextComesTo bytes.now) (trees_read result) }
     ensures kind { IfErr result IsOfTexts }
@@ -88,7 +78,7 @@ pub fn read_files<F: Shelf>(
         (counts_of F.Shelf shelf.old shelf.new)
         (IsFileOf fetches.now) result }
     ensures formed { IfOk result (All (IsFetchedBy fetches.now)) }
-    ensures part { result ≢ Err Outcome.NotBuilt }
+    ensures part { result ≢ Err Outcome.Usage }
     ensures content { F.content shelf.new ≡ F.content shelf.old }
 {
     let mut files = Files::new(alloc);
@@ -126,7 +116,7 @@ pub fn read_fetched<F: Shelf>(
         (λ asked. asked ≡ file_name_of fetch.now.key) result }
     ensures formed { IfOk result (λ relation. IsTrue (has_form fetch.now.form relation)) }
     ensures typed { IfOk result (λ relation. All (HasTypes relation.schema) relation.rows) }
-    ensures part { result ≢ Err Outcome.NotBuilt }
+    ensures part { result ≢ Err Outcome.Usage }
     ensures content { F.content shelf.new ≡ F.content shelf.old }
 {
     let key = &fetch.key;

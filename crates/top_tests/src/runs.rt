@@ -208,6 +208,80 @@ const PRINTING: [Case<'static>; 4] = [
     ),
 ];
 
+const KEYS: File<'static> = ("public:adhoc:R.csv", "x:int\n0\n1\n2\n3\n");
+
+const JOIN_OF_KEYS: File<'static> = (
+    "q",
+    "J = [from scan(R) as a, scan(R) as b where a.x = b.x emit a.x]; store(J, Out);",
+);
+
+const ASKED: [Case<'static>; 5] = [
+    (
+        "two workers, the plan and then the traffic",
+        &["myria", "--traffic", "--plan", "--workers", "2", "q"],
+        JOIN_OF_KEYS,
+        KEYS,
+        (0, 0, 0),
+        (
+            0,
+            "-- store public:adhoc:Out 4 rows\nx:int\n0\n1\n2\n3\n\
+             -- plan 1 from rows 4\n-- item 1 rows 4 pushed 0 kept 4\n-- item 2 rows 4 pushed 0 kept 4\n\
+             -- variable 1 1.$0 2.$0 share 2\n-- shuffle hc join tj cells 2 load 8/2\n\
+             -- traffic 1 join hc\n-- worker 0 received 2 listed 1\n-- worker 1 received 6 listed 3\n",
+            "",
+        ),
+    ),
+    (
+        "two items at a time, joined by hashes",
+        &[
+            "myria",
+            "--shuffle",
+            "rs",
+            "--join=hj",
+            "--workers=2",
+            "--traffic",
+            "q",
+        ],
+        JOIN_OF_KEYS,
+        KEYS,
+        (0, 0, 0),
+        (
+            0,
+            "-- store public:adhoc:Out 4 rows\nx:int\n0\n1\n2\n3\n\
+             -- traffic 1 join rs step 2\n-- worker 0 received 4 listed 2\n-- worker 1 received 4 listed 2\n",
+            "",
+        ),
+    ),
+    (
+        "a check, which prints no plan",
+        &["myria", "--mode", "check", "--plan", "--traffic", "q"],
+        SCRIPT,
+        RELATION,
+        (0, 0, 0),
+        (
+            0,
+            "-- store public:adhoc:Out 3 rows\nx:int,y:int\n1,2\n2,5\n3,1\n",
+            "",
+        ),
+    ),
+    (
+        "the plan alone",
+        &["myria", "--mode", "explain", "q"],
+        SCRIPT,
+        RELATION,
+        (0, 0, 0),
+        (0, "-- plan 1 copy rows 3\n", ""),
+    ),
+    (
+        "a trial, where the first fetch would fail",
+        &["myria", "--mode", "trial", "--size", "7", "t"],
+        SCRIPT,
+        RELATION,
+        (1, 0, 0),
+        (0, "-- trial size 7\n-- rows 343\n-- distinct 1\n", ""),
+    ),
+];
+
 const REFUSED: [Case<'static>; 9] = [
     (
         "no script",
@@ -270,26 +344,34 @@ const REFUSED: [Case<'static>; 9] = [
         (12, "", "myria: cannot write\n"),
     ),
     (
-        "no word for the script",
+        "no word for the script, where the first fetch would fail",
         &["myria"],
         SCRIPT,
         RELATION,
-        (0, 0, 0),
-        (14, "", "myria: not built\n"),
+        (1, 0, 0),
+        (1, "", "myria: usage: myria [options] SCRIPT\n"),
     ),
     (
-        "an option",
-        &["myria", "-q"],
+        "too many workers for a check",
+        &["myria", "--mode", "check", "--workers", "65", "q"],
         SCRIPT,
         RELATION,
         (0, 0, 0),
-        (14, "", "myria: not built\n"),
+        (1, "", "myria: usage: myria [options] SCRIPT\n"),
     ),
 ];
 
 #[test]
 fn a_run_prints_what_the_script_stores(rt: HostRuntime) -> Result<(), Memory> {
     for case in PRINTING {
+        compare_run(&rt, rt.alloc(), case)?;
+    }
+    Ok(())
+}
+
+#[test]
+fn a_run_does_what_its_words_ask_for(rt: HostRuntime) -> Result<(), Memory> {
+    for case in ASKED {
         compare_run(&rt, rt.alloc(), case)?;
     }
     Ok(())

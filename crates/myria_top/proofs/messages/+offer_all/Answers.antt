@@ -1,4 +1,4 @@
-use Rattle.myria_top.proofs.PieceLemmas.{flat_map-first, offers_further}
+use Rattle.output_texts.proofs.PieceLemmas.{flat_map-first, offers_further}
 use Rattle.myria_top.proofs.messages.+offer_all.Goals as goal
 
 pub returns-in_ok-offer-in-len1-up : goal.returns-in_ok-offer-in-len1-up

@@ -1,7 +1,7 @@
 use Rattle.std.proofs.Common.{◌≡◌, ◌∙◌, ap, List, ℕ, append_assoc}
 use Rattle.std.specs.Prelude.{◌++◌, codes}
 use Rattle.myria_top.specs.Outcomes.{line_with}
-use Rattle.myria_top.proofs.PieceLemmas.{offers_line}
+use Rattle.output_texts.proofs.PieceLemmas.{offers_line}
 use Rattle.myria_top.proofs.messages.tell_missing.Goals as goal
 
 -- the pieces of the line, one after another

@@ -2,18 +2,19 @@ use Rattle.std.proofs.Common.{◌≡◌, ℕ, List, Ok, false, sym, subst}
 use Rattle.std.specs.Prelude.{All, AllPairs}
 use Rattle.rel_base.specs.Keys.{File, same_key}
 use Rattle.myrial_ast.specs.Trees.{trees_of}
-use Rattle.myrial_meaning.specs.Fetches.{fetches}
-use Rattle.rel_io.specs.Shelves.{CallCounts, counts_of}
-use Rattle.myria_top.specs.Runs.{IsFetchedBy, IsFileOf}
-use Rattle.myria_top.proofs.RunLemmas.{run_agrees}
-use Rattle.myrial_types.specs.Checking.{checked_of}
-use Rattle.myria_top.specs.Scripts.{IsOfTexts}
-use Rattle.myria_top.specs.inner.Working.{MovesUsually, text_of}
-use Rattle.myria_top.proofs.MoveLemmas.{carried-ok, files-one}
-use Rattle.myria_top.proofs.ScriptLemmas.{run_cause, text_kind}
 use Rattle.myrial_meaning.specs.declared.needed_files.Fetch.{Fetch}
+use Rattle.myrial_meaning.specs.Fetches.{fetches}
+use Rattle.myrial_types.specs.Checking.{checked_of}
+use Rattle.rel_io.specs.Shelves.{CallCounts, counts_of}
+use Rattle.myria_top.specs.Moves.{HasMoved}
+use Rattle.myria_top.specs.Runs.{IsFetchedBy, IsFileOf}
+use Rattle.myria_top.specs.Scripts.{IsOfTexts}
+use Rattle.myria_top.specs.inner.Working.{text_of}
 use Rattle.myria_top.proofs.FetchLemmas.{fetches-distinct, forms-fetched, types-fetched}
-use Rattle.myria_top.proofs.run.prepared_script.Goals as goal
+use Rattle.myria_top.proofs.MoveLemmas.{carried-ok, files-one}
+use Rattle.myria_top.proofs.RunLemmas.{run_agrees}
+use Rattle.myria_top.proofs.ScriptLemmas.{run_cause, text_kind}
+use Rattle.myria_top.proofs.preparing.prepared_files.Goals as goal
 
 pub read_files-requires : goal.read_files-requires
 read_files-requires g c =
@@ -33,8 +34,8 @@ returns-clause-read g c =
     let counts : CallCounts = counts_of g.F.Shelf c.args.shelf.now c.read_files.new.shelf in
     record {
       agrees =
-          run_agrees (g.F.Shelf.content c.args.shelf.now) (trees_of c.args.script.now) c.in-Ok.needed c.in-Ok-read_files.files (text_of c.text_of_run.result) c.in-Ok.ensures
-          read.agrees c.text_of_run.ensures.agrees;
+          run_agrees c.args.request.now (g.F.Shelf.content c.args.shelf.now) (trees_of c.args.script.now) c.in-Ok.needed c.in-Ok-read_files.files
+          (text_of c.text_of_run.result) c.in-Ok.ensures read.agrees c.text_of_run.ensures.agrees;
       cause =
           run_cause {X = List ℕ} counts (IsFileOf (fetches (trees_of c.args.script.now))) (text_of c.text_of_run.result)
           (text_kind IsOfTexts c.text_of_run.result c.text_of_run.ensures.kind);
@@ -48,6 +49,6 @@ returns-clause-moved g c =
     carried-ok c.text_of_run.result
     (λ made moved others d is typed.
     subst (λ (fs : List File). checked_of fs trees ≡ Ok d
-    → MovesUsually fs d g.T.Tap.totals g.T.Tap.tag c.args.taps.now.items c.text_of_run.new.taps.items made.receipts)
+    → HasMoved c.args.request.now fs d g.T.Tap.totals g.T.Tap.tag c.args.taps.now.items c.text_of_run.new.taps.items made.receipts)
     (files-one content c.in-Ok.needed (fetches trees) c.in-Ok-read_files.files others c.in-Ok.ensures c.in-Ok-read_files.ensures.read.agrees is)
     (moved d) typed) c.text_of_run.ensures.moved

@@ -1,0 +1,103 @@
+-- What the answer to words that are read, and to words that aren't, says of a run.
+use Rattle.std.proofs.Common.{◌≡◌, ◌≢◌, ◌⊎◌, inl, inr, ◌∙◌, ap, sym, refl, subst, ℕ, Bool, true, false, List, [], Option, Some, None}
+use Rattle.exchange_channels.specs.Wirings.{ReceiptState}
+use Rattle.rel_io.specs.Outside.{Content}
+use Rattle.rel_io.specs.Sinks.{TookNothing, Written}
+use Rattle.rel_io.specs.declared.taps.Totals.{Totals}
+use Rattle.command_words.specs.declared.requests.Request.{Request}
+use Rattle.command_words.specs.declared.requests.WordsFault.{WordsFault}
+use Rattle.command_words.specs.declared.requests.WordsFault.TheVariants as words
+use Rattle.command_words.specs.Requests.{Asked, asked_of}
+use Rattle.myria_top.specs.declared.outcomes.Outcome.{Outcome}
+use Rattle.myria_top.specs.declared.outcomes.Outcome.TheVariants as outcome
+use Rattle.myria_top.specs.Headline.{Explains, Headline, Run, TellsLine}
+use Rattle.myria_top.specs.Moves.{HasMovedAfter}
+use Rattle.myria_top.specs.Outcomes.{line_of}
+use Rattle.myria_top.specs.Requests.{Asks, is_trial, name_given, script_asked}
+use Rattle.myria_top.specs.Runs.{unread, words_answer}
+use Rattle.myria_top.specs.Verdicts.{refused}
+use Rattle.myria_top.proofs.RequestLemmas.{read-asks, script-named}
+use Rattle.myria_top.proofs.RunLemmas.{decided}
+
+-- ---- words that aren't read
+
+unread-explains : (run : Run) (fault : WordsFault) → (fault ≡ words.Usage → run.asked ≡ None) → TookNothing run.out
+    → Explains run (words_answer fault)
+unread-explains run words.Usage none silent = record {
+  agrees = record { step = refused outcome.Usage; comes = unread (none refl); is = refl };
+  cause = tt;
+  silent = silent;
+}
+unread-explains run words.Memory none silent = inl silent
+
+unread-usage : (run : Run) (fault : WordsFault) → (fault ≡ words.Usage → run.asked ≡ None)
+    → words_answer fault ≡ outcome.Usage → run.asked ≡ None
+unread-usage run words.Usage none is = none refl
+unread-usage run words.Memory none is = cc
+
+unread-answer : (fault : WordsFault) → (words_answer fault ≡ outcome.Usage) ⊎ (words_answer fault ≡ outcome.Memory)
+unread-answer words.Usage = inl refl
+unread-answer words.Memory = inr refl
+
+-- their line doesn't tell the name
+unnamed-line : (fault : WordsFault) (name other : List ℕ) → line_of name (words_answer fault) ≡ line_of other (words_answer fault)
+unnamed-line words.Usage name other = refl
+unnamed-line words.Memory name other = refl
+
+unread-at : (run : Run) (err : Written) (fault : WordsFault) → (fault ≡ words.Usage → run.asked ≡ None) → TookNothing run.out
+    → TellsLine err (line_of [] (words_answer fault)) → Headline run err (words_answer fault)
+unread-at run err fault none silent told =
+    let explained = unread-explains run fault none silent in
+    record {
+      explained = explained;
+      words_exactly = (unread-usage run fault none, λ e. unread-answer fault);
+      decided = decided run (words_answer fault) explained;
+      told = subst (TellsLine err) (unnamed-line fault [] (name_given run.asked)) told;
+    }
+
+pub headline-unread : (run : Run) (err : Written) (fault : WordsFault) (answer : Outcome) → answer ≡ words_answer fault
+    → (fault ≡ words.Usage → run.asked ≡ None) → TookNothing run.out → TellsLine err (line_of [] answer) → Headline run err answer
+headline-unread run err fault answer is none silent told =
+    subst (Headline run err) (sym is) (unread-at run err fault none silent (subst (λ (a : Outcome). TellsLine err (line_of [] a)) is told))
+
+-- and nothing is done
+module _ {T : Type 0} (asked : Option Asked) (content : List ℕ → Content) (totals : T → Totals) (tag : T → ℕ) (before after : List T) where
+  unread-moves : (fault : WordsFault) → HasMovedAfter asked content totals tag before after (words_answer fault)
+  unread-moves words.Usage = tt
+  unread-moves words.Memory = tt
+
+  pub moved-unread : (fault : WordsFault) (answer : Outcome) → answer ≡ words_answer fault
+      → HasMovedAfter asked content totals tag before after answer
+  moved-unread fault answer is = subst (HasMovedAfter asked content totals tag before after) (sym is) (unread-moves fault)
+
+-- ---- words that are read
+
+pub headline-read : (run : Run) (err : Written) (r : Request) (answer : Outcome) → Asks run.asked r
+    → Explains (record run { asked = Some (asked_of r) }) answer → answer ≢ outcome.Usage
+    → TellsLine err (line_of r.script answer) → Headline run err answer
+headline-read run err r answer asks explained no_usage told =
+    let own : Explains run answer = subst (λ (a : Option Asked). Explains (record run { asked = a }) answer) (sym asks) explained in
+    record {
+      explained = own;
+      words_exactly = (λ usage. absurd (no_usage usage), λ none. absurd (read-asks run.asked r none asks));
+      decided = decided run answer own;
+      told = subst (λ (a : Option Asked). TellsLine err (line_of (name_given a) answer)) (sym asks) told;
+    }
+
+pub moved-read : {T : Type 0} (asked : Option Asked) (r : Request) (content : List ℕ → Content) (totals : T → Totals) (tag : T → ℕ)
+    (before after : List T) (answer : Outcome) → Asks asked r
+    → HasMovedAfter (Some (asked_of r)) content totals tag before after answer
+    → HasMovedAfter asked content totals tag before after answer
+moved-read asked r content totals tag before after answer asks moved =
+    subst (λ (a : Option Asked). HasMovedAfter a content totals tag before after answer) (sym asks) moved
+
+-- no script is asked for, so it is a trial
+pub trial-unnamed : (asked : Option Asked) (r : Request) → Asks asked r → script_asked asked ≡ None → is_trial r.mode ≡ true
+trial-unnamed asked r asks none = by (is_trial r.mode) refl
+  where
+    none-some : {X : Type 0} {x : X} → ◌≡◌ {A = Option X} None (Some x) → ⊥
+    none-some e = cc
+
+    by : (b : Bool) → is_trial r.mode ≡ b → is_trial r.mode ≡ true
+    by true e = e
+    by false e = absurd (none-some (sym none ∙ script-named asked r asks e))

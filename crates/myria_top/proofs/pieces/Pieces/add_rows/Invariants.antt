@@ -1,9 +1,0 @@
--- the text so far has the rows so far
-use Rattle.std.proofs.Common.{◌≡◌, ◌++◌, take}
-use Rattle.std.specs.List.{flat_map}
-use Rattle.relation_csv.specs.RecordTexts.{row_record}
-use Rattle.myria_top.proofs.pieces.Pieces.add_rows.Given as goal
-
-abbrev pub invariant-loop-row : goal.invariant-loop-row
-invariant-loop-row l =
-    l.self-inside.text.items ≡ l.fn.self ++ flat_map (λ row. row_record row.now) (take l.row-index l.rows)

@@ -1,0 +1,144 @@
+//! A request as the text that its run prints.
+ghost use Rattle.std.specs.Prelude.{◌≡◌, ◌≢◌, ℕ, List, Some, Ok, Err, false, IfOk, IfErr, IsTrue, vec_len};
+ghost use Rattle.rel_base.specs.Keys.{File};
+ghost use Rattle.rel_base.specs.Limits.{taps as tap_count};
+ghost use Rattle.rel_io.specs.Outside.{Content};
+ghost use Rattle.rel_io.specs.Shelves.{counts_of};
+ghost use Rattle.myrial_ast.specs.Trees.{trees_of};
+ghost use Rattle.myrial_meaning.specs.Fetches.{fetches};
+ghost use Rattle.myrial_types.specs.Checking.{checked_of};
+ghost use Rattle.algebra.specs.Trees.{CheckedTree};
+ghost use Rattle.term_runs.specs.TermRuns.{AreFair};
+ghost use Rattle.command_words.specs.Requests.{asked_of};
+ghost use Rattle.myria_top.specs.Headline.{IsAskedOf};
+ghost use Rattle.myria_top.specs.Moves.{HasMoved};
+ghost use Rattle.myria_top.specs.Reading as read;
+ghost use Rattle.myria_top.specs.Requests.{is_trial};
+ghost use Rattle.myria_top.specs.Runs.{ComesTo, IsFileOf, files_verdict, printed_verdict};
+ghost use Rattle.myria_top.specs.Scripts.{IsOfTexts};
+ghost use Rattle.myria_top.specs.Verdicts.{passes};
+ghost use Rattle.myria_top.specs.inner.Working.{text_of, MovesAs};
+
+use crate::Outcome;
+use crate::reading::{read_files, read_script, script_of_text};
+use crate::unprinted::{Unprinted, text_of_run};
+use command_words::{Mode, Request};
+use myrial_ast::Script;
+use myrial_types::fetches;
+use rel_io::{Shelf, Tap};
+use std::alloc::Global;
+use std::sync::Wait;
+use std::thread::Threads;
+use trial_gen::{TRIAL_SCRIPT, trial_files, trial_is_as_defined};
+
+/// What a request comes to, with nothing printed yet.
+pub fn prepared<R: Threads + Wait + Sync, F: Shelf, T: Tap + Send>(
+    rt: &R,
+    alloc: Global,
+    request: &Request,
+    shelf: &mut F,
+    taps: &mut Vec<T>,
+) -> Result<Unprinted, Outcome>
+    requires { vec_len taps.old ≡ tap_count }
+    ensures read { read.ReadsBy (ComesTo (Some (asked_of request.now)) (F.content shelf.old))
+        (counts_of F.Shelf shelf.old shelf.new)
+        (IsAskedOf (Some (asked_of request.now)) (F.content shelf.old)) (text_of result) }
+    ensures part { result ≢ Err Outcome.Usage }
+    ensures trial { IsTrue (is_trial request.now.mode) → shelf.new ≡ shelf.old }
+    ensures fair { AreFair T.totals T.tag taps.old.items taps.new.items }
+    ensures moved { IfOk result (λ made. MovesAs request.now (F.content shelf.old)
+        T.totals T.tag taps.old.items taps.new.items made.receipts) }
+{
+    match request.mode {
+        Mode::Trial => prepared_trial(rt, alloc, request, taps),
+        Mode::Run | Mode::Check | Mode::Explain => {
+            prepared_script(rt, alloc, request, shelf, taps)
+        }
+    }
+}
+
+/// What a trial comes to. It reads no file.
+fn prepared_trial<R: Threads + Wait + Sync, T: Tap + Send>(
+    rt: &R,
+    alloc: Global,
+    request: &Request,
+    taps: &mut Vec<T>,
+) -> Result<Unprinted, Outcome>
+    requires trial { IsTrue (is_trial request.now.mode) }
+    requires taps { vec_len taps.old ≡ tap_count }
+    ensures agrees { (content : List ℕ → Content)
+        → read.AgreesBy (ComesTo (Some (asked_of request.now)) content) (text_of result) }
+    ensures kind { IfErr result IsOfTexts }
+    ensures fair { AreFair T.totals T.tag taps.old.items taps.new.items }
+    ensures moved { IfOk result (λ made. (content : List ℕ → Content)
+        → MovesAs request.now content T.totals T.tag taps.old.items taps.new.items made.receipts) }
+{
+    // Law: the script is that of the definitions.
+    trial_is_as_defined();
+    let script = match script_of_text(alloc, TRIAL_SCRIPT.as_bytes()) {
+        Ok(script) => script,
+        Err(refusal) => return Err(refusal),
+    };
+    let files = match trial_files(alloc, request.size) {
+        Ok(files) => files,
+        Err(_) => return Err(Outcome::Memory),
+    };
+    text_of_run(rt, alloc, request, &script, &files, taps)
+}
+
+/// What a request of a script comes to.
+fn prepared_script<R: Threads + Wait + Sync, F: Shelf, T: Tap + Send>(
+    rt: &R,
+    alloc: Global,
+    request: &Request,
+    shelf: &mut F,
+    taps: &mut Vec<T>,
+) -> Result<Unprinted, Outcome>
+    requires script { is_trial request.now.mode ≡ false }
+    requires taps { vec_len taps.old ≡ tap_count }
+    ensures read { read.ReadsBy (ComesTo (Some (asked_of request.now)) (F.content shelf.old))
+        (counts_of F.Shelf shelf.old shelf.new)
+        (IsAskedOf (Some (asked_of request.now)) (F.content shelf.old)) (text_of result) }
+    ensures part { result ≢ Err Outcome.Usage }
+    ensures fair { AreFair T.totals T.tag taps.old.items taps.new.items }
+    ensures moved { IfOk result (λ made. MovesAs request.now (F.content shelf.old)
+        T.totals T.tag taps.old.items taps.new.items made.receipts) }
+{
+    let script = match read_script(alloc, shelf, &request.script) {
+        Ok(script) => script,
+        Err(refusal) => return Err(refusal),
+    };
+    prepared_files(rt, alloc, request, &script, shelf, taps)
+}
+
+/// What a script comes to over the files that it needs.
+fn prepared_files<R: Threads + Wait + Sync, F: Shelf, T: Tap + Send>(
+    rt: &R,
+    alloc: Global,
+    request: &Request,
+    script: &Script,
+    shelf: &mut F,
+    taps: &mut Vec<T>,
+) -> Result<Unprinted, Outcome>
+    requires { vec_len taps.old ≡ tap_count }
+    ensures read { read.ReadsStep
+        (printed_verdict request.now (F.content shelf.old) (trees_of script.now))
+        (counts_of F.Shelf shelf.old shelf.new)
+        (IsFileOf (fetches (trees_of script.now))) (text_of result) }
+    ensures part { result ≢ Err Outcome.Usage }
+    ensures fair { AreFair T.totals T.tag taps.old.items taps.new.items }
+    ensures moved { IfOk result (λ made. (files : List File) (c : CheckedTree)
+        → files_verdict (F.content shelf.old) (fetches (trees_of script.now)) ≡ passes files
+        → checked_of files (trees_of script.now) ≡ Ok c
+        → HasMoved request.now files c T.totals T.tag taps.old.items taps.new.items made.receipts) }
+{
+    let needed = match fetches(alloc, script) {
+        Ok(needed) => needed,
+        Err(_) => return Err(Outcome::Memory),
+    };
+    let files = match read_files(alloc, shelf, &needed) {
+        Ok(files) => files,
+        Err(refusal) => return Err(refusal),
+    };
+    text_of_run(rt, alloc, request, script, &files, taps)
+}
