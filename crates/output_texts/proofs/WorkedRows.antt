@@ -18,8 +18,10 @@ column = record { name = codes "n"; kind = kind.Int }
 
 -- two rows that descend
 abbrev file : File
-file = (record { user = codes "u"; program = codes "p"; name = codes "R" },
-    record { schema = column ∷ []; rows = row 10 ∷ row 9 ∷ [] })
+file = (
+  record { user = codes "u"; program = codes "p"; name = codes "R" },
+  record { schema = column ∷ []; rows = row 10 ∷ row 9 ∷ [] },
+)
 
 -- in ascending order, and as they stand
 in_order : output_text (file ∷ []) ≡ codes "-- store u:p:R 2 rows\nn:int\n9\n10\n"

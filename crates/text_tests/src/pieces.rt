@@ -1,6 +1,5 @@
-//! The texts that a run prints, piece by piece. What the text is, clauses say; where it is cut, the pieces that are seen here.
-ghost use Rattle.std.specs.Prelude.{◌<◌, length};
-
+//! The texts that a run prints, piece by piece. What each text is, clauses say; where it is cut is
+//! seen here.
 use crate::printing::{three_notes, two_counts};
 use algebra::{Exchange, Traffic, TrafficNotes};
 use engine::{SpreadStore, SpreadStores};
