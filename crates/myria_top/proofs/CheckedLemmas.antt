@@ -1,5 +1,5 @@
 -- What a checked script comes to over its files, at workers and without them.
-use Rattle.std.proofs.Common.{◌≡◌, ◌≤◌, ℕ, false, true, List, map, Option, Some, None, Ok, Err, Result, refl, sym, ◌∙◌, ap, subst}
+use Rattle.std.proofs.Common.{◌≡◌, ℕ, false, List, map, Option, Some, None, Ok, refl, sym, ◌∙◌, ap, subst}
 use Rattle.std.specs.Prelude.{All, IsTrue}
 use Rattle.std.specs.List.{flat_map}
 use Rattle.std.specs.Option.{option_map_or}
@@ -26,13 +26,12 @@ use Rattle.placement.proofs.ScriptLemmas.{parts_hold_the_rows}
 use Rattle.placement.proofs.StoredLemmas.{placed_are_stored}
 use Rattle.placement.proofs.UsualLemmas.{usual_is_placing}
 use Rattle.plan_printer.specs.TrafficTexts.{IsWhole}
-use Rattle.engine.specs.Runs.{IsRan, IsRunFault, fault_of, prefixes_of}
+use Rattle.engine.specs.Runs.{IsRan, IsRunFault, fault_of}
 use Rattle.engine.specs.declared.runs.Ran.{Ran}
 use Rattle.output_texts.specs.Laws.{SortedLinesAreTheText}
 use Rattle.output_texts.specs.OutputText.{output_text, relation_lines}
 use Rattle.output_texts.specs.Stores.{whole_store}
 use Rattle.output_texts.proofs.StoreLemmas.{unplaced}
-use Rattle.command_words.specs.declared.requests.Mode.{Mode}
 use Rattle.command_words.specs.declared.requests.Mode.TheVariants as mode
 use Rattle.command_words.specs.declared.requests.Request.{Request}
 use Rattle.myria_top.specs.declared.outcomes.Outcome.{Outcome}

@@ -1,5 +1,5 @@
 -- Receipts and taps of a run, by the request that asks for it.
-use Rattle.std.proofs.Common.{◌≡◌, ℕ, suc, Bool, true, false, cond, List, [], map, Option, Some, Ok, Result, refl, sym, ◌∙◌, ap, subst, arith}
+use Rattle.std.proofs.Common.{◌≡◌, ℕ, Bool, true, false, cond, List, [], Option, Ok, Result, sym, ◌∙◌, ap, subst}
 use Rattle.std.specs.Prelude.{IfOk, Err}
 use Rattle.std.specs.List.{flat_map}
 use Rattle.rel_base.specs.Keys.{File}

@@ -1,5 +1,5 @@
 -- One request is asked for, and what it says of the script.
-use Rattle.std.proofs.Common.{◌≡◌, ◌≤◌, ◌∙◌, ap, sym, refl, ℕ, Bool, true, false, cond, List, Option, Some, None}
+use Rattle.std.proofs.Common.{◌≡◌, ◌≤◌, ◌∙◌, ap, sym, Bool, true, false, cond, Option, Some, None}
 use Rattle.std.specs.Coded.{×_prop, le_prop}
 use mathlib.Core.HLevel.{is_prop→PathP}
 use Rattle.algebra.specs.declared.settings.ShuffleKind.{ShuffleKind}
@@ -7,7 +7,6 @@ use Rattle.myrial_ast.specs.CandidateFaults.{Uncounted}
 use Rattle.engine.specs.Runs.{prefixes_of}
 use Rattle.command_words.specs.Limits.{most_size}
 use Rattle.command_words.specs.declared.requests.Mode.{Mode}
-use Rattle.command_words.specs.declared.requests.Mode.TheVariants as mode
 use Rattle.command_words.specs.declared.requests.Request.{Request}
 use Rattle.command_words.specs.Requests.{Asked, asked_of}
 use Rattle.command_words.proofs.SettingsLemmas.{same-settings}

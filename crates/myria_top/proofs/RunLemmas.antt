@@ -1,5 +1,5 @@
 -- What a script comes to over its files, and what is asked for and the files come to.
-use Rattle.std.proofs.Common.{◌≡◌, ℕ, true, false, List, map, Option, Some, None, Ok, Err, Result, refl, sym, ◌∙◌, ap, subst, inl, inr, arith}
+use Rattle.std.proofs.Common.{◌≡◌, ℕ, true, false, List, Option, Some, Ok, Err, Result, refl, sym, ap, subst, inl, inr, arith}
 use Rattle.std.specs.Prelude.{IfErr}
 use Rattle.rel_base.specs.Keys.{File}
 use Rattle.exchange_channels.specs.Wirings.{ReceiptState}
@@ -17,10 +17,9 @@ use Rattle.myrial_types.specs.declared.faults.TypeKind.{TypeKind}
 use Rattle.myrial_types.specs.Checking.{checked_of, IsFault}
 use Rattle.algebra.specs.Trees.{CheckedTree}
 use Rattle.rel_io.specs.Shelves.{CallCounts}
-use Rattle.trial_gen.specs.Trials.{trial_files}
 use Rattle.trial_gen.specs.TrialScript.{trial_script}
 use Rattle.command_words.specs.declared.requests.Request.{Request}
-use Rattle.command_words.specs.Requests.{Asked, asked_of}
+use Rattle.command_words.specs.Requests.{Asked}
 use Rattle.myria_top.specs.declared.outcomes.Outcome.{Outcome}
 use Rattle.myria_top.specs.declared.outcomes.Outcome.TheVariants as outcome
 use Rattle.myria_top.specs.Headline.{Run, Decides, IsInPlace, Explains, IsAskedOf, TellsLine, of_untold, a_relation}

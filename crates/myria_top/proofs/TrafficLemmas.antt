@@ -8,7 +8,6 @@ use Rattle.std.proofs.lemmas.List.FromFn.{length-map-range_with_len}
 use Rattle.rel_base.specs.Keys.{File}
 use Rattle.myrial_ast.specs.Combinations.{Row, Rows, listed_from}
 use Rattle.algebra.specs.declared.notes.Exchange.TheVariants as exchange
-use Rattle.algebra.specs.declared.notes.Traffic.{Traffic}
 use Rattle.algebra.specs.declared.terms.Source.{Source}
 use Rattle.algebra.specs.Conditions.{is_of}
 use Rattle.algebra.specs.Meanings.{needed_steps}

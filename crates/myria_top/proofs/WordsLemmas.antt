@@ -1,6 +1,5 @@
 -- What the answer to words that are read, and to words that aren't, says of a run.
-use Rattle.std.proofs.Common.{◌≡◌, ◌≢◌, ◌⊎◌, inl, inr, ◌∙◌, ap, sym, refl, subst, ℕ, Bool, true, false, List, [], Option, Some, None}
-use Rattle.exchange_channels.specs.Wirings.{ReceiptState}
+use Rattle.std.proofs.Common.{◌≡◌, ◌≢◌, ◌⊎◌, inl, inr, ◌∙◌, sym, refl, subst, ℕ, Bool, true, false, List, [], Option, Some, None}
 use Rattle.rel_io.specs.Outside.{Content}
 use Rattle.rel_io.specs.Sinks.{TookNothing, Written}
 use Rattle.rel_io.specs.declared.taps.Totals.{Totals}

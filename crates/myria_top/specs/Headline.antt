@@ -22,7 +22,7 @@ use Rattle.myria_top.specs.Scripts.{ScriptComesTo}
 use Rattle.myria_top.specs.Verdicts.{Verdict, untold, refused, passes, IfTold}
 use Rattle.myria_top.specs.Runs.{ComesTo}
 
--- what the words of a run ask for, what it was handed, and what it left in the shelf and in the output
+-- what the words of a run ask for, what it was handed, and what it left in the shelf and the output
 pub record Run : Type 0 where
   pub asked : Option Asked
   pub content : List ℕ → Content
@@ -35,12 +35,14 @@ pub record OfText (run : Run) (P : List ℕ → Type 0) : Type 0 where
   pub comes : ComesTo run.asked run.content step
   pub holds : IfTold step (λ s. (text : List ℕ) × (s ≡ passes text) × P text)
 
--- a file that a run reads: the script that is asked for, or a relation that the script scans or loads
+-- a file that a run reads: the script that is asked for, or one that the script scans or loads
 pub data IsAskedOf (asked : Option Asked) (content : List ℕ → Content) : List ℕ → Type 0 where
   the_script : (name : List ℕ) → script_asked asked ≡ Some name → IsAskedOf asked content name
-  of_untold : (name file : List ℕ) → script_asked asked ≡ Some name → content name ≡ outside.untold → IsAskedOf asked content file
-  a_relation : (name : List ℕ) (trees : List StatementTree) (fetch : Fetch) → script_asked asked ≡ Some name
-      → ScriptComesTo (content name) (passes trees) → Contains (fetches trees) fetch → IsAskedOf asked content (file_name_of fetch.key)
+  of_untold : (name file : List ℕ) → script_asked asked ≡ Some name
+      → content name ≡ outside.untold → IsAskedOf asked content file
+  a_relation : (name : List ℕ) (trees : List StatementTree) (fetch : Fetch)
+      → script_asked asked ≡ Some name → ScriptComesTo (content name) (passes trees)
+      → Contains (fetches trees) fetch → IsAskedOf asked content (file_name_of fetch.key)
 
 -- a refusal before the output: it is what the words and the files come to, a count shows its cause, and nothing is printed
 pub record ExplainsRefusal (run : Run) (answer : Outcome) : Type 0 where
@@ -48,8 +50,8 @@ pub record ExplainsRefusal (run : Run) (answer : Outcome) : Type 0 where
   pub cause : HasCause run.shelf (IsAskedOf run.asked run.content) answer
   pub silent : TookNothing run.out
 
--- Why each answer came, and what the output then holds: after `Done` exactly the text of the mode, which is one of the
--- script's meaning; where writing was refused, a beginning of that text; else nothing.
+-- Why each answer came, and what the output then holds: after `Done` exactly the text of the mode, which
+-- is one of the script's meaning; where writing was refused, a beginning of that text; else nothing.
 abbrev pub Explains : Run → Outcome → Type 0
 Explains run (outcome.Done receipts) = OfText run (TookAll run.out)
 Explains run outcome.WriteFault = FaultsRose run.out × OfText run (TookPart run.out)
@@ -79,16 +81,16 @@ Decides (passes text) answer = IsDone answer ⊎ (answer ≡ outcome.WriteFault)
 
 -- The promises of one run.
 pub record Headline (run : Run) (err : Written) (answer : Outcome) : Type 0 where
-  -- Each answer has its cause. After `Done` the output took exactly the text of the mode: of the script's meaning for
-  -- each store its line, its header, and the rows of the bag in ascending order, and then the plan and the traffic that
-  -- are asked for; or the plan alone; or what a trial counts. After any other answer it took nothing, or, where writing
-  -- itself was refused, a beginning of that text.
+  -- Each answer has its cause. After `Done` the output took exactly the text of the mode: of the script's
+  -- meaning for each store its line, its header, and the rows of the bag in ascending order, and then
+  -- the plan and the traffic that are asked for; or the plan alone; or what a trial counts. After any
+  -- other answer it took nothing, or, where writing itself was refused, a beginning of that text.
   pub explained : Explains run answer
   -- Words that aren't read are refused so, unless there is no memory for them, and no others are.
   pub words_exactly : (answer ≡ outcome.Usage → run.asked ≡ None)
       × (run.asked ≡ None → (answer ≡ outcome.Usage) ⊎ (answer ≡ outcome.Memory))
-  -- The words and the files decide the answer: the one refusal that they come to, or that the text is printed or could
-  -- not be written. Want of memory and a fault of reading may come in its place.
+  -- The words and the files decide the answer: the one refusal that they come to, or that the text is
+  -- printed or could not be written. Want of memory and a fault of reading may come in its place.
   pub decided : (step : Verdict (List ℕ)) → ComesTo run.asked run.content step → Decides step answer
   -- Standard error took the line of the answer.
   pub told : TellsLine err (line_of (name_given run.asked) answer)

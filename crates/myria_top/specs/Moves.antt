@@ -1,6 +1,6 @@
 -- What a run moves from worker to worker.
 --
---   IsRunOf r content files c     a run of the request is that of these checked steps over these files
+--   IsRunOf r content files c     the run of a request is that of these checked steps over these files
 --   exchanges_asked r files c     the exchanges of such a run
 --   HasMoved r files c ..         receipts and taps are those of these exchanges
 --   HasMovedAfter .. answer       so they are after `Done`
@@ -29,11 +29,12 @@ use Rattle.myria_top.specs.Runs.{files_verdict}
 use Rattle.myria_top.specs.Scripts.{ScriptComesTo, TextComesTo}
 use Rattle.myria_top.specs.Verdicts.{passes}
 
--- what is run: the script that is asked for, over the files that it needs, typed to these steps; or a trial's script over the
--- relations of the trial
+-- what is run: the script that is asked for, over the files that it needs, typed to these steps; or
+-- a trial's script over the relations of the trial
 pub data IsRunOf (r : Request) (content : List ℕ → Content) : List File → CheckedTree → Type 0 where
-  script_run : (trees : List StatementTree) (files : List File) (c : CheckedTree) → is_trial r.mode ≡ false
-      → ScriptComesTo (content r.script) (passes trees) → files_verdict content (fetches trees) ≡ passes files
+  script_run : (trees : List StatementTree) (files : List File) (c : CheckedTree)
+      → is_trial r.mode ≡ false → ScriptComesTo (content r.script) (passes trees)
+      → files_verdict content (fetches trees) ≡ passes files
       → checked_of files trees ≡ Ok c → IsRunOf r content files c
   trial_run : (trees : List StatementTree) (c : CheckedTree) → is_trial r.mode ≡ true
       → TextComesTo trial_script (passes trees) → checked_of (trial_files r.size) trees ≡ Ok c
@@ -43,15 +44,18 @@ pub data IsRunOf (r : Request) (content : List ℕ → Content) : List File → 
 abbrev pub exchanges_asked : Request → List File → CheckedTree → List PlacedExchange
 exchanges_asked r files c = if is_check r.mode then [] else run_exchanges r.settings files c
 
--- the receipts show these exchanges, and the taps, two for each worker and others behind them, rose by them
-pub record HasMoved {T : Type 0} (r : Request) (files : List File) (c : CheckedTree) (totals : T → Totals) (tag : T → ℕ)
-    (before after : List T) (receipts : List ReceiptState) : Type 0 where
-  pub shown : AreShown (size_of r.settings) (flat_map shown_moves (exchanges_asked r files c)) receipts
+-- the receipts show these exchanges, and the taps, two for each worker and others behind them, rose
+-- by them
+pub record HasMoved {T : Type 0} (r : Request) (files : List File) (c : CheckedTree)
+    (totals : T → Totals) (tag : T → ℕ) (before after : List T)
+    (receipts : List ReceiptState) : Type 0 where
+  pub shown :
+      AreShown (size_of r.settings) (flat_map shown_moves (exchanges_asked r files c)) receipts
   pub taps : AreMoved totals tag r.settings.workers (exchanges_asked r files c) before after
 
 -- after `Done`, receipts and taps are those of the run that the words and the files ask for
-abbrev pub HasMovedAfter : {T : Type 0} → Option Asked → (List ℕ → Content) → (T → Totals) → (T → ℕ) → List T → List T
-    → Outcome → Type 0
+abbrev pub HasMovedAfter : {T : Type 0} → Option Asked → (List ℕ → Content) → (T → Totals)
+    → (T → ℕ) → List T → List T → Outcome → Type 0
 HasMovedAfter asked content totals tag before after (outcome.Done receipts) =
     (r : Request) (files : List File) (c : CheckedTree) → Asks asked r → IsRunOf r content files c
     → HasMoved r files c totals tag before after receipts

@@ -3,7 +3,8 @@
 --   Asks asked request        this request is what is asked for
 --   is_trial mode             whether a run makes its own relations, and reads no file
 --   is_check mode             whether a run takes no workers
---   script_asked asked        the name of the script that is asked for; none where the words are refused, or ask for a trial
+--   script_asked asked        the name of the script that is asked for; none where the words are
+--                             refused, or ask for a trial
 --   name_given asked          the name as it was given, for the line on standard error
 --   prefixes_in mode shuffle  whether prefixes count as candidates
 use Rattle.std.specs.Prelude.{◌≡◌, ℕ, Bool, true, false, List, [], Option, Some, None, option_and_then, if◌then◌else◌}

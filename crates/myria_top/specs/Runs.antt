@@ -111,7 +111,8 @@ when_typed (Err why) further = refused (typing_answer why)
 -- what a typed script comes to over its files: the fault of its run, or the text that is printed
 abbrev pub typed_verdict : Request → List StatementTree → List File → CheckedTree → Verdict (List ℕ)
 typed_verdict r script files c =
-    option_map_or (λ found. refused (run_answer found)) (run_fault (prefixes_in r.mode r.settings.shuffle) files script)
+    option_map_or (λ found. refused (run_answer found))
+    (run_fault (prefixes_in r.mode r.settings.shuffle) files script)
     (passes (printed_text r (stored_relations files script) files c))
 
 -- what a script comes to over its files: each statement is typed, and then its run
@@ -120,16 +121,20 @@ run_verdict r script files = when_typed (checked_of files script) (typed_verdict
 
 -- what a script comes to: its files, one after another, and then its run over them
 abbrev pub printed_verdict : Request → (List ℕ → Content) → List StatementTree → Verdict (List ℕ)
-printed_verdict r content script = and_then (files_verdict content (fetches script)) (run_verdict r script)
+printed_verdict r content script =
+    and_then (files_verdict content (fetches script)) (run_verdict r script)
 
 -- what a trial's script comes to over the relations of a trial of this size
 abbrev pub trial_verdict : Request → List StatementTree → Verdict (List ℕ)
 trial_verdict r script = run_verdict r script (trial_files r.size)
 
 -- what the words and the files come to: the text that is printed, or an answer that refuses
-pub data ComesTo (asked : Option Asked) (content : List ℕ → Content) : Verdict (List ℕ) → Type 0 where
+pub data ComesTo (asked : Option Asked) (content : List ℕ → Content)
+    : Verdict (List ℕ) → Type 0 where
   unread : asked ≡ None → ComesTo asked content (refused outcome.Usage)
-  of_script : (r : Request) (s : Verdict (List StatementTree)) → Asks asked r → is_trial r.mode ≡ false
-      → ScriptComesTo (content r.script) s → ComesTo asked content (and_then s (printed_verdict r content))
-  of_trial : (r : Request) (s : Verdict (List StatementTree)) → Asks asked r → is_trial r.mode ≡ true
-      → TextComesTo trial_script s → ComesTo asked content (and_then s (trial_verdict r))
+  of_script : (r : Request) (s : Verdict (List StatementTree)) → Asks asked r
+      → is_trial r.mode ≡ false → ScriptComesTo (content r.script) s
+      → ComesTo asked content (and_then s (printed_verdict r content))
+  of_trial : (r : Request) (s : Verdict (List StatementTree)) → Asks asked r
+      → is_trial r.mode ≡ true → TextComesTo trial_script s
+      → ComesTo asked content (and_then s (trial_verdict r))

@@ -225,9 +225,11 @@ const ASKED: [Case<'static>; 5] = [
         (
             0,
             "-- store public:adhoc:Out 4 rows\nx:int\n0\n1\n2\n3\n\
-             -- plan 1 from rows 4\n-- item 1 rows 4 pushed 0 kept 4\n-- item 2 rows 4 pushed 0 kept 4\n\
+             -- plan 1 from rows 4\n-- item 1 rows 4 pushed 0 kept 4\n\
+             -- item 2 rows 4 pushed 0 kept 4\n\
              -- variable 1 1.$0 2.$0 share 2\n-- shuffle hc join tj cells 2 load 8/2\n\
-             -- traffic 1 join hc\n-- worker 0 received 2 listed 1\n-- worker 1 received 6 listed 3\n",
+             -- traffic 1 join hc\n-- worker 0 received 2 listed 1\n\
+             -- worker 1 received 6 listed 3\n",
             "",
         ),
     ),
@@ -248,7 +250,8 @@ const ASKED: [Case<'static>; 5] = [
         (
             0,
             "-- store public:adhoc:Out 4 rows\nx:int\n0\n1\n2\n3\n\
-             -- traffic 1 join rs step 2\n-- worker 0 received 4 listed 2\n-- worker 1 received 4 listed 2\n",
+             -- traffic 1 join rs step 2\n-- worker 0 received 4 listed 2\n\
+             -- worker 1 received 4 listed 2\n",
             "",
         ),
     ),

@@ -34,7 +34,8 @@ text_of (Err answer) = Err answer
 -- what a checked script comes to over its files: the fault of its run, or the text that is printed
 abbrev pub checked_verdict : Request → List File → CheckedTree → Verdict (List ℕ)
 checked_verdict r files c =
-    option_map_or (λ found. refused (run_answer found)) (checked_fault (λ number. prefixes_in r.mode r.settings.shuffle) files c)
+    option_map_or (λ found. refused (run_answer found))
+    (checked_fault (λ number. prefixes_in r.mode r.settings.shuffle) files c)
     (passes (printed_text r (stored_by files c) files c))
 
 -- what a script comes to over its files without workers
@@ -44,6 +45,8 @@ evaluated_verdict script files =
     (passes (output_text (stored_relations files script)))
 
 -- receipts and taps are those of the run of the request
-abbrev pub MovesAs : {T : Type 0} → Request → (List ℕ → Content) → (T → Totals) → (T → ℕ) → List T → List T → List ReceiptState → Type 0
+abbrev pub MovesAs : {T : Type 0} → Request → (List ℕ → Content) → (T → Totals) → (T → ℕ)
+    → List T → List T → List ReceiptState → Type 0
 MovesAs r content totals tag before after receipts =
-    (files : List File) (c : CheckedTree) → IsRunOf r content files c → HasMoved r files c totals tag before after receipts
+    (files : List File) (c : CheckedTree) → IsRunOf r content files c
+    → HasMoved r files c totals tag before after receipts

@@ -1,4 +1,4 @@
-use Rattle.std.proofs.Common.{◌≡◌, arith, ℕ, List, Some}
+use Rattle.std.proofs.Common.{arith, ℕ, List, Some}
 use Rattle.rel_io.specs.Shelves.{CallCounts, counts_of}
 use Rattle.command_words.specs.Requests.{asked_of}
 use Rattle.myria_top.specs.Headline.{IsAskedOf}

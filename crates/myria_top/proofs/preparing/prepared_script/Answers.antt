@@ -1,4 +1,4 @@
-use Rattle.std.proofs.Common.{◌≡◌, refl, sym, subst, arith, Some}
+use Rattle.std.proofs.Common.{refl, sym, subst, arith, Some}
 use Rattle.myrial_ast.specs.Trees.{trees_of}
 use Rattle.term_runs.proofs.TapLemmas.{fair-none}
 use Rattle.command_words.specs.Requests.{asked_of}

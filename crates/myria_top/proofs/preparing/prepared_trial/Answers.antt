@@ -1,17 +1,16 @@
-use Rattle.std.proofs.Common.{◌≡◌, ◌≤◌, ◌∙◌, refl, sym, subst, ap, length, List, ℕ, Some, Ok}
+use Rattle.std.proofs.Common.{◌≤◌, ◌∙◌, refl, sym, subst, ap, length, List, ℕ, Some}
 use Rattle.std.specs.Prelude.{IsTrue}
 use Rattle.rel_base.specs.Keys.{File}
 use Rattle.algebra.specs.Rewriting.{AreTyped}
-use Rattle.algebra.specs.Trees.{CheckedTree}
 use Rattle.myrial_ast.specs.Trees.{trees_of}
 use Rattle.myrial_types.specs.Checking.{checked_of}
 use Rattle.myrial_types.specs.Fetching.{have_forms}
 use Rattle.term_runs.proofs.TapLemmas.{fair-none}
 use Rattle.command_words.specs.Requests.{asked_of}
 use Rattle.myria_top.specs.Moves.{HasMoved}
-use Rattle.myria_top.specs.Reading.{Agrees, AgreesBy, Meets, RefusesBy}
+use Rattle.myria_top.specs.Reading.{Agrees, Meets, RefusesBy}
 use Rattle.myria_top.specs.Runs.{run_verdict}
-use Rattle.myria_top.specs.Scripts.{TextComesTo, trees_read}
+use Rattle.myria_top.specs.Scripts.{TextComesTo}
 use Rattle.myria_top.specs.Verdicts.{passes}
 use Rattle.myria_top.specs.inner.Working.{text_of}
 use Rattle.myria_top.proofs.MoveLemmas.{carried-ok, moved-of_trial}
