@@ -1,3 +1,4 @@
--- Proofs of the laws: the tokens of the script, then its statements.
+-- Proofs of the laws: tokens, statements, steps.
 mod TokenLemmas
 mod StatementLemmas
+mod TypingLemmas

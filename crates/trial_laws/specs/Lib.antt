@@ -1,2 +1,3 @@
 -- The words of this crate.
 pub mod TrialTrees
+pub mod TrialSteps

@@ -7,7 +7,8 @@ use Rattle.myrial_ast.specs.declared.operators.BinOp.TheVariants as op
 use Rattle.myrial_ast.specs.declared.expressions.ColRef.TheVariants as ref
 use Rattle.myrial_ast.specs.declared.relations.FromItem.{FromItem}
 use Rattle.myrial_ast.specs.declared.relations.Operand.TheVariants as operand
-use Rattle.myrial_ast.specs.Trees.{Name, Tree, EmitTree, StatementTree, Assign, Store, Copy, From, One, Bin, Col}
+use Rattle.myrial_ast.specs.Trees.{Name, Tree, EmitTree, StatementTree}
+use Rattle.myrial_ast.specs.Trees.{Assign, Store, Copy, From, One, Bin, Col}
 use Rattle.myrial_lexer.specs.Tokens.{AreTokensOf}
 use Rattle.myrial_lexer.specs.declared.kinds.Token.{Token}
 use Rattle.myrial_parser.specs.Pieces.{IsScript}
@@ -39,16 +40,24 @@ meets left right = Bin op.Eq (column left (codes "b")) (column right (codes "a")
 abbrev pub renamed : Name → Name → EmitTree
 renamed item name = One (column item (codes "a")) (Some name)
 
--- the triangles of three relations: each `b` is the next one's `a`
+-- each `b` is the next one's `a`, around the ring
+abbrev pub in_a_ring : Tree
+in_a_ring =
+    Bin op.And (Bin op.And (meets (codes "R") (codes "S")) (meets (codes "S") (codes "T")))
+    (meets (codes "T") (codes "R"))
+
+-- the triangles of the three relations
 abbrev pub triangles : StatementTree
 triangles =
     Assign (codes "Tri") (From
     (item (codes "R") ∷ item (codes "S") ∷ item (codes "T") ∷ [])
-    (Some (Bin op.And (Bin op.And (meets (codes "R") (codes "S")) (meets (codes "S") (codes "T"))) (meets (codes "T") (codes "R"))))
-    (renamed (codes "R") (codes "x") ∷ renamed (codes "S") (codes "y") ∷ renamed (codes "T") (codes "z") ∷ []))
+    (Some in_a_ring)
+    (renamed (codes "R") (codes "x") ∷ renamed (codes "S") (codes "y")
+    ∷ renamed (codes "T") (codes "z") ∷ []))
 
 -- the three relations are scanned, their triangles listed and stored
 abbrev pub trial_trees : List StatementTree
 trial_trees =
-    scanned (codes "R") (codes "E1") ∷ scanned (codes "S") (codes "E2") ∷ scanned (codes "T") (codes "E3")
-    ∷ triangles ∷ Store (codes "Tri") (trial_key (codes "Tri")) ∷ []
+    scanned (codes "R") (codes "E1") ∷ scanned (codes "S") (codes "E2")
+    ∷ scanned (codes "T") (codes "E3") ∷ triangles
+    ∷ Store (codes "Tri") (trial_key (codes "Tri")) ∷ []
