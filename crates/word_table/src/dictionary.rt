@@ -4,12 +4,13 @@ ghost use Rattle.std.specs.Int.{w64};
 ghost use Rattle.std.specs.Option.{SomeIff};
 ghost use Rattle.rel_base.specs.Relations.{type_of};
 ghost use Rattle.rel_base.specs.declared.values.Value.{Value as Datum};
+ghost use Rattle.rel_base.specs.declared.values.ColType.TheVariants as kind;
 ghost use Rattle.word_table.specs.Words.{IsAscending, IsDictionaryOf, rank, int_word, word_of, HasWord, IsHeld, IsWordOf, WordsKeepOrder};
 
 use crate::entries::{Entry, entries_of};
 use crate::gathering::strings_of_parts;
 use crate::keyed::Keyed;
-use rel_base::{ColType, Memory, Parts, Value};
+use rel_base::{ColType, Duplicate, Memory, Parts, Value};
 use std::alloc::Global;
 use std::marker::Model;
 
@@ -76,12 +77,18 @@ impl Dictionary {
     {
         match kind {
             ColType::Int => Ok(Value::Int(int_of(word))),
-            ColType::Str => {
-                let text = self.entries[word as usize].copy_text(alloc)?;
-                Ok(Value::Str(text))
-            }
+            ColType::Str => self.lend(word).copy(alloc),
             ColType::Bool => Ok(Value::Bool(word == 1)),
         }
+    }
+
+    /// The string with this word as a value, which is not copied.
+    pub fn lend(&self, word: u64) -> &Value
+        requires { (v : Datum) × IsWordOf self.now v kind.Str word }
+        ensures value { IsWordOf self.now result.now kind.Str word }
+        ensures undoes { (v : Datum) → IsWordOf self.now v kind.Str word → result.now ≡ v }
+    {
+        self.entries[word as usize].value()
     }
 
     /// How many strings of the dictionary are below this one, where it is one of them.

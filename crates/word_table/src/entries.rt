@@ -1,30 +1,31 @@
 //! The strings of a dictionary, each beside its keys.
 ghost use Rattle.std.specs.Prelude.{◌≡◌, IfOk};
+ghost use Rattle.rel_base.specs.declared.values.Value.TheVariants as variant;
 ghost use Rattle.word_table.specs.Words.{text_order};
 
 use crate::keyed::Keyed;
 use crate::text_keys::TextKeys;
-use rel_base::{Duplicate, Memory, Text};
+use rel_base::{Memory, Text, Value};
 use std::alloc::Global;
 use std::cmp::Ordering;
 use std::marker::Model;
 
-/// A string that a dictionary owns, beside its keys. Contracts see it as the string's bytes.
+/// A string that a dictionary owns as a value, beside its keys. Contracts see it as the string's bytes.
 #[derive(Drop)]
 pub(crate) struct Entry {
     keys: TextKeys,
-    text: Text,
+    value: Value,
 }
 
 impl Model for Entry {
     ghost use Rattle.std.specs.Prelude.{List, ℕ};
-    ghost use Rattle.word_table.specs.inner.TextKeys.{AreKeysOf};
+    ghost use Rattle.word_table.specs.inner.TextKeys.{text_in, IsEntry};
 
     ghost Value = { List ℕ };
 
-    ghost view = { λ e. e.text };
+    ghost view = { λ e. text_in e.value };
 
-    ghost invariant = { λ e. AreKeysOf e.text e.keys };
+    ghost invariant = { λ e. IsEntry e.value e.keys };
 }
 
 impl Entry {
@@ -35,15 +36,25 @@ impl Entry {
         let text = Text::of(alloc, string.as_str())?;
         Ok(Entry {
             keys: string.keys(),
-            text,
+            value: Value::Str(text),
         })
     }
 
-    /// A copy of the string.
-    pub(crate) fn copy_text(&self, alloc: Global) -> Result<Text, Memory>
-        ensures { IfOk result (λ made. made ≡ self.now) }
+    /// The string as a value.
+    pub(crate) fn value(&self) -> &Value
+        ensures { result.now ≡ variant.Str self.now }
     {
-        self.text.copy(alloc)
+        &self.value
+    }
+
+    /// The string.
+    fn as_str(&self) -> &str
+        ensures { result.now ≡ self.now }
+    {
+        match &self.value {
+            Value::Str(text) => text.as_str(),
+            Value::Int(_) | Value::Bool(_) => unreachable!(),
+        }
     }
 
     /// How this string compares to the other, by bytes.
@@ -52,7 +63,7 @@ impl Entry {
     {
         match self.keys.compare(other.keys()) {
             Some(order) => order,
-            None => self.text.as_str().cmp(other.as_str()),
+            None => self.as_str().cmp(other.as_str()),
         }
     }
 }
