@@ -7,6 +7,7 @@ ghost use Rattle.myrial_ast.specs.Bags.{union_all, distinct, difference};
 ghost use Rattle.aggregate_ops.specs.Columns.{rows_in};
 ghost use Rattle.aggregate_ops.specs.inner.Runs.{IsRun, IsBelow, begins};
 
+use crate::packed_bags::packed_difference;
 use rel_base::{Duplicate, Memory, Row, Rows};
 use std::alloc::Global;
 
@@ -104,6 +105,9 @@ fn without(alloc: Global, rows: &[&Row], others: &[&Row]) -> Result<Rows, Memory
 pub fn difference(alloc: Global, a: &Rows, b: &Rows) -> Result<Rows, Memory>
     ensures { IfOk result (λ made. SameBag (difference a.now b.now) made) }
 {
+    if let Some(made) = packed_difference(alloc, a, b)? {
+        return Ok(made);
+    }
     let rows = in_order(alloc, a)?;
     let others = in_order(alloc, b)?;
     let rows = references(alloc, &rows)?;
@@ -116,10 +120,7 @@ pub fn difference(alloc: Global, a: &Rows, b: &Rows) -> Result<Rows, Memory>
 pub fn distinct(alloc: Global, rows: &Rows) -> Result<Rows, Memory>
     ensures { IfOk result (λ made. SameBag (distinct rows.now) made) }
 {
-    let rows = in_order(alloc, rows)?;
-    let rows = references(alloc, &rows)?;
-    let made = without(alloc, &rows, &[])?;
-    Ok(made)
+    difference(alloc, rows, &Rows::new(alloc))
 }
 
 /// The rows of the first list and then those of the second. None that is shared is copied.

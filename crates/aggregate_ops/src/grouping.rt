@@ -132,7 +132,7 @@ pub fn grouped(alloc: Global, form: Form, rows: &Rows, kinds: &EmitKinds) -> Res
         (results_fit form (map kind_of_emit kinds.now) rows.now)) }
 {
     let places = places_for(alloc, form, kinds)?;
-    let columns = packed_columns(alloc, rows, places.as_slice())?;
+    let columns = packed_columns(alloc, rows, &Rows::new(alloc), places.as_slice())?;
     if let Some(words) = sorted_words(alloc, rows, &columns)? {
         let packed = GroupedRows::packed(&words, &columns);
         if are_in_order(places.as_slice(), packed) {

@@ -42,8 +42,17 @@ fn order_in(row: &GroupedRow<'_>, place: u32, other: &GroupedRow<'_>, other_plac
     ensures { result ≡ value_order (value_at (row_of row.now) place)
         (value_at (row_of other.now) other_place) }
 {
-    let value = row.read(place as usize);
-    order_of(value.value(), other.read(other_place as usize).value())
+    let (place, other_place) = (place as usize, other_place as usize);
+    match (row, other) {
+        (GroupedRow::Packed(word, columns), GroupedRow::Packed(other_word, others))
+            if place < columns.len() && other_place < others.len() => {
+            columns[place].order(*word, others[other_place], *other_word)
+        }
+        _ => {
+            let value = row.read(place);
+            order_of(value.value(), other.read(other_place).value())
+        }
+    }
 }
 
 /// How two values compare. Ints, which most of them are, are compared without a call.

@@ -37,13 +37,15 @@ fn keys_first(alloc: Global, keys: &[u32], width: usize) -> Result<Vec<usize>, M
     Ok(places)
 }
 
-/// The columns of the rows in a word; none where the rows have other values than ints and booleans, or take more bits.
+/// The columns of the rows of both lists in a word; none where the rows have other values than ints and booleans, or take more
+/// bits.
 pub fn packed_columns(
     alloc: Global,
     rows: &Rows,
+    others: &Rows,
     keys: &[u32],
 ) -> Result<Vec<PackedColumn>, Memory> {
-    let scanned = scanned_columns(alloc, rows)?;
+    let scanned = scanned_columns(alloc, rows, others)?;
     let places = keys_first(alloc, keys, scanned.len())?;
     let mut columns = Vec::from_elem(alloc, PackedColumn::none(), scanned.len())?;
     let mut left = 64;

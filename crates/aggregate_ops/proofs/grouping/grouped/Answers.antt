@@ -1,4 +1,4 @@
-use Rattle.std.proofs.Common.{◌≡◌, ◌∙◌, ap, map, length}
+use Rattle.std.proofs.Common.{◌≡◌, ◌∙◌, ap, map}
 use Rattle.rel_base.specs.Bags.{SameBag}
 use Rattle.algebra.specs.Trees.{kind_of_emit}
 use Rattle.aggregate_ops.specs.Columns.{rows_in}
