@@ -9,6 +9,7 @@ ghost use Rattle.aggregate_ops.specs.inner.Runs.{IsRun, IsBelow, begins};
 use crate::forms::put;
 use crate::packed_columns::PackedColumn;
 use crate::packing::{packed_columns, sorted_words};
+use crate::spans::scanned_columns;
 use rel_base::{Memory, Row, Rows};
 use std::alloc::Global;
 use std::cmp::Ordering;
@@ -141,7 +142,8 @@ fn without(
 pub fn packed_difference(alloc: Global, a: &Rows, b: &Rows) -> Result<Option<Rows>, Memory>
     ensures { IfOk result (λ found. IfSome found (λ made. SameBag (difference a.now b.now) made)) }
 {
-    let columns = packed_columns(alloc, a, b, &[])?;
+    let scanned = scanned_columns(alloc, a, b)?;
+    let columns = packed_columns(alloc, &scanned, &[])?;
     let Some(words) = sorted_words(alloc, a, &columns)? else {
         return Ok(None);
     };

@@ -11,8 +11,8 @@ pub without-requires-clause-few : goal.without-requires-clause-few
 without-requires-clause-few c =
     let row = unpacked_row c.in_ok-columns.columns.items in
     let words = c.in-Some.words.items in
-    let same : SameBag c.args.a.now (map row words) = rw (c.in-Some.is, c.deref.ensures.value) at c.in_ok-words.ensures.same in
-    omega (arith, c.in_ok-words.ensures.few, length_permutation c.args.a.now (map row words) same, length-map words row, ap length c.deref-6.ensures.value)
+    let same : SameBag c.args.a.now (map row words) = rw (c.in-Some.is, c.deref-2.ensures.value) at c.in_ok-words.ensures.same in
+    omega (arith, c.in_ok-words.ensures.few, length_permutation c.args.a.now (map row words) same, length-map words row, ap length c.deref-7.ensures.value)
 
 pub returns : goal.returns
 returns c =
@@ -20,8 +20,8 @@ returns c =
     let row = unpacked_row columns in
     let words = c.in-Some.words.items in
     let others = c.in-Some-2.others.items in
-    let one : SameBag c.args.a.now (map row words) = rw (c.in-Some.is, c.deref.ensures.value) at c.in_ok-words.ensures.same in
-    let two : SameBag c.args.b.now (map row others) = rw (c.in-Some-2.is, c.deref-2.ensures.value) at c.in_ok-others.ensures.same in
+    let one : SameBag c.args.a.now (map row words) = rw (c.in-Some.is, c.deref-2.ensures.value) at c.in_ok-words.ensures.same in
+    let two : SameBag c.args.b.now (map row others) = rw (c.in-Some-2.is, c.deref-3.ensures.value) at c.in_ok-others.ensures.same in
     let made : c.in_ok-made.made ≡ difference (map row words) (map row others) =
-    c.in_ok-made.ensures ∙ (λ i. difference (map (unpacked_row (c.deref-5.ensures.value i)) (c.deref-6.ensures.value i)) (map (unpacked_row (c.deref-5.ensures.value i)) (c.deref-7.ensures.value i))) in
+    c.in_ok-made.ensures ∙ (λ i. difference (map (unpacked_row (c.deref-6.ensures.value i)) (c.deref-7.ensures.value i)) (map (unpacked_row (c.deref-6.ensures.value i)) (c.deref-8.ensures.value i))) in
     rw made (difference-same c.args.a.now (map row words) c.args.b.now (map row others) one two)

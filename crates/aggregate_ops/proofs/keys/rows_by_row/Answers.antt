@@ -7,7 +7,7 @@ use Rattle.bag_laws.proofs.ColumnLemmas.{map-through}
 use Rattle.myrial_ast.specs.Combinations.{Rows}
 use Rattle.aggregate_ops.specs.Columns.{rows_in, key_at}
 use Rattle.aggregate_ops.specs.Keyed.{keyed_order}
-use Rattle.aggregate_ops.proofs.keys.rows_by_key.Goals as goal
+use Rattle.aggregate_ops.proofs.keys.rows_by_row.Goals as goal
 
 pub returns-clause-same : goal.returns-clause-same
 returns-clause-same c =
