@@ -1,24 +1,21 @@
 -- Two lists of rows in order, gone through side by side.
-use Rattle.std.proofs.Common.{◌≡◌, ℕ, zero, suc, ◌+◌, ◌<◌, Bool, true, false, not, cond, List, [], ◌∷◌, ◌++◌, length, take, drop, get_or, refl, sym, ◌∙◌, ap, subst, append_assoc, arith}
+use Rattle.std.proofs.Common.{◌≡◌, ℕ, zero, suc, ◌+◌, ◌<◌, Bool, true, false, not, cond, List, [], ◌∷◌, ◌++◌, length, map, take, drop, get_or, refl, sym, ◌∙◌, ap, subst, append_assoc, arith}
 use Rattle.std.specs.Prelude.{All, filter, IsSorted, ◌||◌}
 use Rattle.std.specs.List.{list_any}
 use Rattle.std.specs.declared.cmp.Ordering.{Ordering}
 use Rattle.std.specs.declared.cmp.Ordering.TheVariants.{Less, Equal, Greater}
-use Rattle.std.specs.Ordering.{is_eq, is_lt, is_gt, ordering_reverse}
+use Rattle.std.specs.Ordering.{is_lt, is_gt, ordering_reverse}
 use Rattle.std.proofs.lemmas.List.{take-append-drop, get_or-take, get_or-drop, length-take, length-drop}
-use Rattle.std.proofs.lemmas.List.Elements.{All-nil, All-cons, All-head, All-tail, All-weaker, All-from_get_or}
+use Rattle.std.proofs.lemmas.List.Elements.{All-nil, All-cons, All-tail, All-from_get_or}
 use Rattle.std.proofs.lemmas.List.Folds.{list_any-append, list_any_none}
 use Rattle.rel_base.specs.Values.{row_order}
 use Rattle.rel_base.specs.ValueLaws.{row_order_total, row_order-IsAntisymmetric}
 use Rattle.rel_base.proofs.SortedLemmas.{AtMost, Ascending, Ascending-IsSorted}
 use Rattle.myrial_ast.specs.Combinations.{Row, Rows}
 use Rattle.myrial_ast.specs.Bags.{same_row, has_row, distinct, difference}
-use Rattle.bag_laws.proofs.PartialLemmas.{tied, itself}
-use Rattle.std.specs.Borrow.{Bor}
+use Rattle.bag_laws.proofs.PartialLemmas.{tied}
 use Rattle.std.proofs.lemmas.List.{drop-drop, drop-map, length-map}
-use Rattle.aggregate_ops.specs.Columns.{rows_in}
 use Rattle.aggregate_ops.specs.inner.Runs.{IsRun, IsBelow, begins}
-use Rattle.aggregate_ops.proofs.StepLemmas.{row-item}
 use Rattle.aggregate_ops.proofs.RunLemmas.{apart-behind, distinct-step, sorted-drop, filter-all}
 
 -- a row that comes before one isn't at or behind it
@@ -165,24 +162,23 @@ one-gone rows others made left rest n m s some below r = record {
     turn true = refl
     turn false = refl
 
--- the same, where both stand as references
-pub one-gone-at : (rows others : List (Bor Row)) (made : Rows) (done passed n m : ℕ) (first : Bor Row) (found : Bool)
-    → SideBySide (rows_in rows) (rows_in others) made (rows_in (drop done rows)) (rows_in (drop passed others))
-    → done < length rows → first ≡ get_or (drop done rows) 0 first
-    → IsBelow (rows_in (drop passed others)) first.now m → found ≡ begins (rows_in (drop (passed + m) others)) first.now → IsRun (rows_in (drop done rows)) n
-    → SideBySide (rows_in rows) (rows_in others) (made ++ cond found [] (first.now ∷ [])) (rows_in (drop (done + n) rows)) (rows_in (drop (passed + m) others))
-one-gone-at rows others made done passed n m first found s low is below begin r =
+-- the same, where the rows are those of other items
+pub one-gone-at : {X : Type 0} (row : X → Row) (rows others : List X) (made : Rows) (done passed n m : ℕ) (first : X) (found : Bool)
+    → SideBySide (map row rows) (map row others) made (map row (drop done rows)) (map row (drop passed others))
+    → done < length rows → get_or (map row (drop done rows)) 0 [] ≡ row first
+    → IsBelow (map row (drop passed others)) (row first) m → found ≡ begins (map row (drop (passed + m) others)) (row first) → IsRun (map row (drop done rows)) n
+    → SideBySide (map row rows) (map row others) (made ++ cond found [] (row first ∷ [])) (map row (drop (done + n) rows)) (map row (drop (passed + m) others))
+one-gone-at row rows others made done passed n m first found s low at below begin r =
     let some : 0 < length (drop done rows) = omega (arith, length-drop done rows) in
-    let at : get_or (rows_in (drop done rows)) 0 [] ≡ first.now = row-item (λ (r : Bor Row). r.now) (drop done rows) 0 first some is in
-    let there : 0 < length (rows_in (drop done rows)) = omega (arith, some, length-map (drop done rows) (λ (row : Bor Row). row.now)) in
+    let there : 0 < length (map row (drop done rows)) = omega (arith, some, length-map (drop done rows) row) in
     let gone =
-    one-gone (rows_in rows) (rows_in others) made (rows_in (drop done rows)) (rows_in (drop passed others)) n m s there
-    (subst (λ (row : Row). IsBelow (rows_in (drop passed others)) row m) (sym at) below) r in
-    let left : drop n (rows_in (drop done rows)) ≡ rows_in (drop (done + n) rows) = drop-map (λ (row : Bor Row). row.now) n (drop done rows) ∙ ap rows_in (drop-drop n done rows) in
-    let rest : drop m (rows_in (drop passed others)) ≡ rows_in (drop (passed + m) others) = drop-map (λ (row : Bor Row). row.now) m (drop passed others) ∙ ap rows_in (drop-drop m passed others) in
-    let told : begins (drop m (rows_in (drop passed others))) (get_or (rows_in (drop done rows)) 0 []) ≡ found = (λ i. begins (rest i) (at i)) ∙ sym begin in
-    let added : made ++ cond (begins (drop m (rows_in (drop passed others))) (get_or (rows_in (drop done rows)) 0 [])) [] (get_or (rows_in (drop done rows)) 0 [] ∷ []) ≡ made ++ cond found [] (first.now ∷ []) =
+    one-gone (map row rows) (map row others) made (map row (drop done rows)) (map row (drop passed others)) n m s there
+    (subst (λ (key : Row). IsBelow (map row (drop passed others)) key m) (sym at) below) r in
+    let left : drop n (map row (drop done rows)) ≡ map row (drop (done + n) rows) = drop-map row n (drop done rows) ∙ ap (map row) (drop-drop n done rows) in
+    let rest : drop m (map row (drop passed others)) ≡ map row (drop (passed + m) others) = drop-map row m (drop passed others) ∙ ap (map row) (drop-drop m passed others) in
+    let told : begins (drop m (map row (drop passed others))) (get_or (map row (drop done rows)) 0 []) ≡ found = (λ i. begins (rest i) (at i)) ∙ sym begin in
+    let added : made ++ cond (begins (drop m (map row (drop passed others))) (get_or (map row (drop done rows)) 0 [])) [] (get_or (map row (drop done rows)) 0 [] ∷ []) ≡ made ++ cond found [] (row first ∷ []) =
     (λ i. made ++ cond (told i) [] (at i ∷ [])) in
-    subst (λ (made : Rows). SideBySide (rows_in rows) (rows_in others) made (rows_in (drop (done + n) rows)) (rows_in (drop (passed + m) others))) added
-    (subst (λ (left : Rows). SideBySide (rows_in rows) (rows_in others) (made ++ cond (begins (drop m (rows_in (drop passed others))) (get_or (rows_in (drop done rows)) 0 [])) [] (get_or (rows_in (drop done rows)) 0 [] ∷ [])) left (rows_in (drop (passed + m) others))) left
-    (subst (λ (rest : Rows). SideBySide (rows_in rows) (rows_in others) (made ++ cond (begins (drop m (rows_in (drop passed others))) (get_or (rows_in (drop done rows)) 0 [])) [] (get_or (rows_in (drop done rows)) 0 [] ∷ [])) (drop n (rows_in (drop done rows))) rest) rest gone))
+    subst (λ (made : Rows). SideBySide (map row rows) (map row others) made (map row (drop (done + n) rows)) (map row (drop (passed + m) others))) added
+    (subst (λ (left : Rows). SideBySide (map row rows) (map row others) (made ++ cond (begins (drop m (map row (drop passed others))) (get_or (map row (drop done rows)) 0 [])) [] (get_or (map row (drop done rows)) 0 [] ∷ [])) left (map row (drop (passed + m) others))) left
+    (subst (λ (rest : Rows). SideBySide (map row rows) (map row others) (made ++ cond (begins (drop m (map row (drop passed others))) (get_or (map row (drop done rows)) 0 [])) [] (get_or (map row (drop done rows)) 0 [] ∷ [])) (drop n (map row (drop done rows))) rest) rest gone))

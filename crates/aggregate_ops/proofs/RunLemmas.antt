@@ -1,9 +1,9 @@
 -- Rows in order: the first run, and the rows behind it, none of which is the same.
-use Rattle.std.proofs.Common.{◌≡◌, ℕ, zero, suc, ◌+◌, ◌-◌, ◌<◌, ◌≤◌, Bool, true, false, not, cond, List, [], ◌∷◌, ◌++◌, length, map, take, drop, get_or, refl, sym, ◌∙◌, ap, subst, arith}
-use Rattle.std.specs.Prelude.{All, filter, IsSorted, ◌||◌}
+use Rattle.std.proofs.Common.{◌≡◌, ℕ, zero, suc, ◌+◌, ◌<◌, Bool, true, false, not, cond, List, [], ◌∷◌, ◌++◌, length, map, take, drop, get_or, refl, sym, ◌∙◌, ap, subst, arith}
+use Rattle.std.specs.Prelude.{All, filter, IsSorted}
 use Rattle.std.specs.declared.cmp.Ordering.{Ordering}
 use Rattle.std.specs.declared.cmp.Ordering.TheVariants.{Less, Equal, Greater}
-use Rattle.std.specs.Ordering.{is_eq, is_lt, is_gt, ordering_reverse}
+use Rattle.std.specs.Ordering.{is_eq, is_gt, ordering_reverse}
 use Rattle.std.proofs.lemmas.List.Elements.{All-nil, All-cons, All-head, All-tail, All-weaker, All-from_get_or, All-filter, filter-append}
 use Rattle.std.proofs.lemmas.List.{take-append-drop, take-map, drop-map, get_or-take, get_or-drop, length-take, length-drop}
 use Rattle.bag_laws.specs.PartialLaws.{AreGrouped}
@@ -11,10 +11,10 @@ use Rattle.rel_base.specs.Values.{row_order}
 use Rattle.rel_base.specs.ValueLaws.{row_order_total, row_order-IsAntisymmetric}
 use Rattle.rel_base.proofs.SortedLemmas.{AtMost, Ascending, Ascending-IsSorted, IsSorted-Ascending}
 use Rattle.myrial_ast.specs.Combinations.{Row, Rows}
-use Rattle.myrial_ast.specs.Bags.{same_row, has_row, distinct, difference}
+use Rattle.myrial_ast.specs.Bags.{same_row, distinct}
 use Rattle.myrial_ast.specs.Groups.{Kinds, key_of, keys, members, group_row, groups}
 use Rattle.bag_laws.proofs.RowPermutations.{same_row-sym}
-use Rattle.bag_laws.proofs.PartialLemmas.{tied, itself, other, distinct-filter, map-agree}
+use Rattle.bag_laws.proofs.PartialLemmas.{itself, other, distinct-filter, map-agree}
 use Rattle.aggregate_ops.specs.Columns.{key_at}
 use Rattle.aggregate_ops.specs.inner.Runs.{IsRun}
 

@@ -1,9 +1,12 @@
 -- Counting the rows of a run, one by one.
-use Rattle.std.proofs.Common.{◌≡◌, ℕ, zero, suc, ◌-◌, ◌<◌, Bool, true, false, not, List, [], ◌∷◌, length, map, take, drop, get_or, refl, sym, ◌∙◌, ap, arith}
+use Rattle.std.proofs.Common.{◌≡◌, ℕ, zero, suc, ◌+◌, ◌-◌, ◌<◌, ◌≤◌, ◌⊎◌, inl, inr, is_lt, Bool, true, false, not, List, [], ◌∷◌, length, map, take, drop, get_or, refl, sym, ◌∙◌, ap, arith}
 use Rattle.std.specs.Prelude.{IsPermutation, ◌&&◌, ◌||◌}
 use Rattle.std.specs.List.{list_all, list_any}
 use Rattle.std.proofs.lemmas.List.Sorted.{list_any-IsPermutation}
-use Rattle.std.proofs.lemmas.List.{get_or-map, length-map, length-drop}
+use Rattle.std.proofs.lemmas.List.{get_or-map, length-drop}
+use Rattle.std.proofs.lemmas.Bool.{cases_lt}
+use Rattle.std.specs.List.Sorted.{IsSortedWithin}
+use Rattle.rel_base.specs.Values.{row_order}
 use Rattle.myrial_ast.specs.Combinations.{Row, Rows}
 use Rattle.myrial_ast.specs.Bags.{same_row}
 use Rattle.bag_laws.proofs.PartialLemmas.{tied}
@@ -41,6 +44,18 @@ module _ (places : List ℕ) (rows : Rows) where
       → same_row (key_at places first) (key_at places one) ≡ false
       → same_row (get_or (map (key_at places) rows) 0 []) (get_or (map (key_at places) rows) k []) ≡ false
   key-other k first one low some is at other = (λ i. same_row (key-item 0 first [] some is i) (key-item k one [] low at i)) ∙ other
+
+-- rows in order as far as a place, and there one that isn't less than the one before it
+pub order-more : (rows : Rows) (count : ℕ) → 0 < count → IsSortedWithin (λ r s. is_lt (row_order r s)) rows 0 count
+    → ((d : Row) → is_lt (row_order (get_or rows count d) (get_or rows (count - 1) d)) ≡ false) → IsSortedWithin (λ r s. is_lt (row_order r s)) rows 0 (count + 1)
+order-more rows count some order last k d low high = by (cases_lt (k + 1) count)
+  where
+    by : (k + 1 < count) ⊎ (count ≤ k + 1) → is_lt (row_order (get_or rows (k + 1) d) (get_or rows k d)) ≡ false
+    by (inl h) = order k d low h
+    by (inr h) =
+        let at : count ≡ k + 1 = omega (arith, h, high) in
+        let before : count - 1 ≡ k = omega (arith, h, high) in
+        (λ i. is_lt (row_order (get_or rows (sym at i) d) (get_or rows (sym before i) d))) ∙ last d
 
 -- what a slice from a place on has
 pub behind : {X : Type 0} (k : ℕ) (xs : List X) → take (length xs - k) (drop k xs) ≡ drop k xs

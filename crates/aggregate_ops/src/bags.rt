@@ -1,34 +1,16 @@
 //! The operators on bags: rows in order, each once, and lists put together.
 ghost use Rattle.std.specs.Prelude.{◌≡◌, ◌+◌, ◌-◌, ◌<◌, ◌≤◌, ◌^◌, ◌++◌, ◌∷◌, [], if◌then◌else◌, length, OnOk, IfOk, IsSorted};
-ghost use Rattle.rel_base.specs.Bags.{SameBag, IsSortedPermutation};
+ghost use Rattle.rel_base.specs.Bags.{SameBag};
 ghost use Rattle.rel_base.specs.Limits.{most_rows};
 ghost use Rattle.rel_base.specs.Values.{row_order};
 ghost use Rattle.myrial_ast.specs.Bags.{union_all, distinct, difference};
 ghost use Rattle.aggregate_ops.specs.Columns.{rows_in};
 ghost use Rattle.aggregate_ops.specs.inner.Runs.{IsRun, IsBelow, begins};
 
+use crate::ordering::rows_in_order;
+use crate::packed_bags::packed_difference;
 use rel_base::{Duplicate, Memory, Row, Rows};
 use std::alloc::Global;
-
-/// The rows in ascending order. None that is shared is copied.
-fn in_order(alloc: Global, rows: &Rows) -> Result<Rows, Memory>
-    ensures { IfOk result (λ made. IsSortedPermutation rows.now made) }
-{
-    let mut sorted = rows.copy(alloc)?;
-    sorted.sort(alloc)?;
-    Ok(sorted)
-}
-
-/// The rows, one by one.
-fn references(alloc: Global, rows: &Rows) -> Result<Vec<&Row>, Memory>
-    ensures { IfOk result (λ made. rows_in made.items ≡ rows.now) }
-{
-    let mut made = Vec::with_capacity(alloc, rows.len() as usize)?;
-    for row in rows {
-        made.push(row)?;
-    }
-    Ok(made)
-}
 
 /// How many rows at the front are the first one.
 fn repeats(rows: &[&Row]) -> usize
@@ -104,10 +86,11 @@ fn without(alloc: Global, rows: &[&Row], others: &[&Row]) -> Result<Rows, Memory
 pub fn difference(alloc: Global, a: &Rows, b: &Rows) -> Result<Rows, Memory>
     ensures { IfOk result (λ made. SameBag (difference a.now b.now) made) }
 {
-    let rows = in_order(alloc, a)?;
-    let others = in_order(alloc, b)?;
-    let rows = references(alloc, &rows)?;
-    let others = references(alloc, &others)?;
+    if let Some(made) = packed_difference(alloc, a, b)? {
+        return Ok(made);
+    }
+    let rows = rows_in_order(alloc, a)?;
+    let others = rows_in_order(alloc, b)?;
     let made = without(alloc, &rows, &others)?;
     Ok(made)
 }
@@ -116,10 +99,7 @@ pub fn difference(alloc: Global, a: &Rows, b: &Rows) -> Result<Rows, Memory>
 pub fn distinct(alloc: Global, rows: &Rows) -> Result<Rows, Memory>
     ensures { IfOk result (λ made. SameBag (distinct rows.now) made) }
 {
-    let rows = in_order(alloc, rows)?;
-    let rows = references(alloc, &rows)?;
-    let made = without(alloc, &rows, &[])?;
-    Ok(made)
+    difference(alloc, rows, &Rows::new(alloc))
 }
 
 /// The rows of the first list and then those of the second. None that is shared is copied.

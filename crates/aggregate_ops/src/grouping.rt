@@ -13,9 +13,10 @@ ghost use Rattle.aggregate_ops.specs.Forms.{grouped_kinds, results, results_fit}
 use crate::AggFault;
 use crate::forms::{Form, added};
 use crate::keys::rows_by_key;
-use crate::packing::{packed_columns, sorted_words};
+use crate::packing::{key_columns, packed_columns, sorted_words};
 use crate::reading::GroupedRows;
 use crate::runs::{are_in_order, run_length};
+use crate::spans::scanned_columns;
 use algebra::{EmitKind, EmitKinds};
 use myrial_ast::AggOp;
 use rel_base::{Memory, Places, Rows};
@@ -132,14 +133,16 @@ pub fn grouped(alloc: Global, form: Form, rows: &Rows, kinds: &EmitKinds) -> Res
         (results_fit form (map kind_of_emit kinds.now) rows.now)) }
 {
     let places = places_for(alloc, form, kinds)?;
-    let columns = packed_columns(alloc, rows, places.as_slice())?;
+    let scanned = scanned_columns(alloc, rows, &Rows::new(alloc))?;
+    let columns = packed_columns(alloc, &scanned, places.as_slice())?;
     if let Some(words) = sorted_words(alloc, rows, &columns)? {
         let packed = GroupedRows::packed(&words, &columns);
         if are_in_order(places.as_slice(), packed) {
             return rows_of_runs(alloc, form, kinds, places.as_slice(), packed);
         }
     }
-    let lent = rows_by_key(alloc, rows, places.as_slice())?;
+    let columns = key_columns(alloc, &scanned, places.as_slice())?;
+    let lent = rows_by_key(alloc, rows, places.as_slice(), &columns)?;
     let ordered = GroupedRows::lent(&lent);
     rows_of_runs(alloc, form, kinds, places.as_slice(), ordered)
 }

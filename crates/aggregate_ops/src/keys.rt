@@ -5,7 +5,9 @@ ghost use Rattle.myrial_ast.specs.Scalars.{value_at};
 ghost use Rattle.aggregate_ops.specs.Columns.{rows_in, key_at};
 ghost use Rattle.aggregate_ops.specs.inner.Reading.{row_of};
 
-use crate::reading::GroupedRow;
+use crate::packed_columns::PackedColumn;
+use crate::reading::{GroupedRow, GroupedRows};
+use crate::runs::are_in_order;
 use rel_base::{Memory, Row, Rows, Value};
 use std::alloc::Global;
 use std::cmp::Ordering;
@@ -42,8 +44,21 @@ fn order_in(row: &GroupedRow<'_>, place: u32, other: &GroupedRow<'_>, other_plac
     ensures { result ≡ value_order (value_at (row_of row.now) place)
         (value_at (row_of other.now) other_place) }
 {
-    let value = row.read(place as usize);
-    order_of(value.value(), other.read(other_place as usize).value())
+    let (place, other_place) = (place as usize, other_place as usize);
+    match (row, other) {
+        (GroupedRow::Packed(word, columns), GroupedRow::Packed(other_word, others))
+            if place < columns.len() && other_place < others.len() => {
+            columns[place].order(*word, others[other_place], *other_word)
+        }
+        (GroupedRow::Lent(row), GroupedRow::Lent(other))
+            if place < row.as_slice().len() && other_place < other.as_slice().len() => {
+            order_of(&row.as_slice()[place], &other.as_slice()[other_place])
+        }
+        _ => {
+            let value = row.read(place);
+            order_of(value.value(), other.read(other_place).value())
+        }
+    }
 }
 
 /// How two values compare. Ints, which most of them are, are compared without a call.
@@ -148,12 +163,8 @@ fn bare_rows<'a>(alloc: Global, keyed: &[KeyedRow<'a>]) -> Result<Vec<&'a Row>, 
     Ok(rows)
 }
 
-/// The rows in the order of their values at these places. None is copied.
-pub fn rows_by_key<'a>(
-    alloc: Global,
-    rows: &'a Rows,
-    places: &'a [u32],
-) -> Result<Vec<&'a Row>, Memory>
+/// The rows in the order of their values at these places, by a sort of the rows.
+fn rows_by_row<'a>(alloc: Global, rows: &'a Rows, places: &'a [u32]) -> Result<Vec<&'a Row>, Memory>
     ensures same { IfOk result (λ made. IsPermutation rows.entry.now (rows_in made.items)) }
     ensures ascending { IfOk result (λ made. IsSorted row_order
         (map (key_at places.entry.now) (rows_in made.items))) }
@@ -162,4 +173,80 @@ pub fn rows_by_key<'a>(
     keyed.sort_unstable();
     let made = bare_rows(alloc, &keyed)?;
     Ok(made)
+}
+
+/// The bits of a row's values at these places, each in its column.
+fn word_at(columns: &[PackedColumn], places: &[u32], row: &Row) -> u64 {
+    let values = row.as_slice();
+    let mut word = 0;
+    for (column, place) in columns.iter().zip(places) {
+        if let Some(value) = values.get(*place as usize) {
+            word |= column.bits_of(value);
+        }
+    }
+    word
+}
+
+/// Each row behind the bits of its values at these places.
+fn rows_with_words<'a>(
+    alloc: Global,
+    rows: &'a Rows,
+    places: &[u32],
+    columns: &[PackedColumn],
+) -> Result<Vec<(u64, &'a Row)>, Memory>
+    ensures { IfOk result (λ made. map (λ e. e.1.now) made.items ≡ rows.entry.now) }
+{
+    let mut worded = Vec::with_capacity(alloc, rows.len() as usize)?;
+    for row in rows {
+        worded.push((word_at(columns, places, row), row))?;
+    }
+    Ok(worded)
+}
+
+/// The rows without the words.
+fn without_words<'a>(alloc: Global, worded: &[(u64, &'a Row)]) -> Result<Vec<&'a Row>, Memory>
+    ensures { IfOk result (λ made. rows_in made.items ≡ map (λ e. e.1.now) worded.entry.now) }
+{
+    let mut rows = Vec::with_capacity(alloc, worded.len())?;
+    for (_, row) in worded {
+        rows.push(*row)?;
+    }
+    Ok(rows)
+}
+
+/// The rows in the order of the bits of their values at these places, which mostly is that of the values.
+fn rows_by_word<'a>(
+    alloc: Global,
+    rows: &'a Rows,
+    places: &[u32],
+    columns: &[PackedColumn],
+) -> Result<Vec<&'a Row>, Memory>
+    ensures { IfOk result (λ made. IsPermutation rows.entry.now (rows_in made.items)) }
+{
+    let mut worded = rows_with_words(alloc, rows, places, columns)?;
+    worded.sort_unstable_by_key(|item| item.0);
+    let made = without_words(alloc, &worded)?;
+    Ok(made)
+}
+
+/// The rows in the order of their values at these places. None is copied.
+///
+/// Where the values fit these columns, of which there is one for each place, words are sorted in the place of rows.
+pub fn rows_by_key<'a>(
+    alloc: Global,
+    rows: &'a Rows,
+    places: &'a [u32],
+    columns: &[PackedColumn],
+) -> Result<Vec<&'a Row>, Memory>
+    ensures same { IfOk result (λ made. IsPermutation rows.entry.now (rows_in made.items)) }
+    ensures ascending { IfOk result (λ made. IsSorted row_order
+        (map (key_at places.entry.now) (rows_in made.items))) }
+{
+    if !columns.is_empty() {
+        let made = rows_by_word(alloc, rows, places, columns)?;
+        if are_in_order(places, GroupedRows::lent(&made)) {
+            return Ok(made);
+        }
+    }
+    rows_by_row(alloc, rows, places)
 }

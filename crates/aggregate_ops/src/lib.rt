@@ -20,6 +20,8 @@ mod forms;
 mod grouping;
 mod keys;
 mod laws;
+mod ordering;
+mod packed_bags;
 mod packed_columns;
 mod packing;
 mod partials;

@@ -1,8 +1,11 @@
 //! Columns of rows that are packed in words.
-ghost use Rattle.std.specs.Prelude.{◌≡◌, ◌<◌, ◌^◌};
+ghost use Rattle.std.specs.Prelude.{◌≡◌, ◌<◌, ◌^◌, ◌/◌, pos, bit_and};
+ghost use Rattle.std.specs.Int.{w64, int_wrapping_add};
+ghost use Rattle.rel_base.specs.Values.{value_order};
 ghost use Rattle.aggregate_ops.specs.inner.Words.{unpacked};
 
 use rel_base::Value;
+use std::cmp::Ordering;
 
 /// Which bits of a word tell the value of a column, and what they stand for.
 #[derive(Clone, Copy)]
@@ -64,5 +67,25 @@ impl PackedColumn {
         } else {
             Value::Int(self.least.wrapping_add(bits as i64))
         }
+    }
+
+    /// The number of a word in a column of numbers.
+    fn number(self, word: u64) -> i64
+        ensures { result
+            ≡ int_wrapping_add w64 self.least (pos (bit_and (word / 2 ^ self.shift) self.mask)) }
+    {
+        let bits = (word >> self.shift) & self.mask;
+        self.least.wrapping_add(bits as i64)
+    }
+
+    /// How the values of two words compare, of which each stands in its column.
+    pub fn order(self, word: u64, column: PackedColumn, other: u64) -> Ordering
+        ensures { result ≡ value_order (unpacked self.shift self.mask self.least self.is_truth word)
+            (unpacked column.shift column.mask column.least column.is_truth other) }
+    {
+        if self.is_truth || column.is_truth {
+            return self.value(word).cmp(&column.value(other));
+        }
+        self.number(word).cmp(&column.number(other))
     }
 }

@@ -7,7 +7,7 @@ ghost use Rattle.aggregate_ops.specs.inner.Reading.{unpacked_row};
 
 use crate::keys::order_of;
 use crate::packed_columns::PackedColumn;
-use crate::spans::{ScannedColumn, scanned_columns};
+use crate::spans::ScannedColumn;
 use rel_base::{Memory, Row, Rows, Value};
 use std::alloc::Global;
 
@@ -37,19 +37,19 @@ fn keys_first(alloc: Global, keys: &[u32], width: usize) -> Result<Vec<usize>, M
     Ok(places)
 }
 
-/// The columns of the rows in a word; none where the rows have other values than ints and booleans, or take more bits.
+/// These columns in a word, those of the keys first; none where one has other values than ints and booleans, or they take more
+/// bits.
 pub fn packed_columns(
     alloc: Global,
-    rows: &Rows,
+    scanned: &[ScannedColumn],
     keys: &[u32],
 ) -> Result<Vec<PackedColumn>, Memory> {
-    let scanned = scanned_columns(alloc, rows)?;
     let places = keys_first(alloc, keys, scanned.len())?;
     let mut columns = Vec::from_elem(alloc, PackedColumn::none(), scanned.len())?;
     let mut left = 64;
     for i in 0..places.len() {
         let place = places[i];
-        let column = match twin_of(&scanned, &places[..i], place) {
+        let column = match twin_of(scanned, &places[..i], place) {
             Some(twin) => columns.get(twin).copied(),
             None => scanned
                 .get(place)
@@ -59,6 +59,28 @@ pub fn packed_columns(
             return Ok(Vec::new(alloc));
         };
         *old = column;
+        left = left.min(column.shift);
+    }
+    Ok(columns)
+}
+
+/// The columns of the keys alone in a word, one for each; none where one has other values than ints and booleans, or they take
+/// more bits.
+pub fn key_columns(
+    alloc: Global,
+    scanned: &[ScannedColumn],
+    keys: &[u32],
+) -> Result<Vec<PackedColumn>, Memory> {
+    let mut columns = Vec::with_capacity(alloc, keys.len())?;
+    let mut left = 64;
+    for key in keys {
+        let column = scanned
+            .get(*key as usize)
+            .and_then(|column| column.span.column(left));
+        let Some(column) = column else {
+            return Ok(Vec::new(alloc));
+        };
+        columns.push(column)?;
         left = left.min(column.shift);
     }
     Ok(columns)

@@ -75,12 +75,12 @@ fn columns_of(alloc: Global, first: &[Value]) -> Result<Vec<ScannedColumn>, Memo
     Ok(columns)
 }
 
-/// Scans one row more, and says whether each column may still be packed.
+/// Scans one row more, and says whether a column may still be packed.
 fn scan(columns: &mut [ScannedColumn], values: &[Value]) -> bool {
-    let mut may_pack = true;
+    let mut may_pack = false;
     for (place, (column, value)) in columns.iter_mut().zip(values).enumerate() {
         column.span = column.span.with(value);
-        may_pack &= column.span != Span::Others;
+        may_pack |= column.span != Span::Others;
         match values.get(column.twin) {
             Some(twin) if column.twin == place || order_of(twin, value).is_eq() => {}
             _ => column.twin = place,
@@ -89,16 +89,30 @@ fn scan(columns: &mut [ScannedColumn], values: &[Value]) -> bool {
     may_pack
 }
 
-/// The columns of the rows; none where one has a value that can't be packed.
-pub fn scanned_columns(alloc: Global, rows: &Rows) -> Result<Vec<ScannedColumn>, Memory> {
-    if rows.is_empty() {
+/// The columns of the rows of both lists; none where no column may be packed.
+pub fn scanned_columns(
+    alloc: Global,
+    rows: &Rows,
+    others: &Rows,
+) -> Result<Vec<ScannedColumn>, Memory> {
+    let some = if rows.is_empty() { others } else { rows };
+    if some.is_empty() {
         return Ok(Vec::new(alloc));
     }
-    let mut columns = columns_of(alloc, rows.get(0).as_slice())?;
+    let mut columns = columns_of(alloc, some.get(0).as_slice())?;
+    if scan_all(&mut columns, rows) && scan_all(&mut columns, others) {
+        Ok(columns)
+    } else {
+        Ok(Vec::new(alloc))
+    }
+}
+
+/// Scans more rows, and says whether a column may still be packed.
+fn scan_all(columns: &mut [ScannedColumn], rows: &Rows) -> bool {
     for row in rows {
-        if !scan(&mut columns, row.as_slice()) {
-            return Ok(Vec::new(alloc));
+        if !scan(columns, row.as_slice()) {
+            return false;
         }
     }
-    Ok(columns)
+    true
 }

@@ -1,5 +1,5 @@
 -- Runs of equal rows, and rows that come before a row.
-use Rattle.std.specs.Prelude.{◌≡◌, ℕ, ◌<◌, ◌≤◌, Bool, true, false, List, [], ◌∷◌, length, slice_index_or}
+use Rattle.std.specs.Prelude.{◌≡◌, ℕ, ◌<◌, ◌≤◌, Bool, true, false, [], ◌∷◌, length, slice_index_or}
 use Rattle.std.specs.Ordering.{is_lt}
 use Rattle.rel_base.specs.Values.{row_order}
 use Rattle.myrial_ast.specs.Combinations.{Row, Rows}

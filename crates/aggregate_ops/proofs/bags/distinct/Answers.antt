@@ -1,12 +1,14 @@
-use Rattle.std.proofs.Common.{◌≡◌, ◌∙◌, [], ap}
+use Rattle.std.proofs.Common.{◌≡◌, ◌∙◌, ap, subst}
+use Rattle.std.proofs.lemmas.Result.{IfOk-weaker}
+use Rattle.rel_base.specs.Bags.{SameBag}
+use Rattle.myrial_ast.specs.Combinations.{Rows}
 use Rattle.myrial_ast.specs.Bags.{difference, distinct}
-use Rattle.bag_laws.proofs.RowPermutations.{distinct-same}
-use Rattle.aggregate_ops.specs.Columns.{rows_in}
 use Rattle.aggregate_ops.proofs.BagLemmas.{difference-none}
 use Rattle.aggregate_ops.proofs.bags.distinct.Goals as goal
 
 pub returns : goal.returns
 returns c =
-    let one : rows_in c.deref.result.now ≡ c.in_ok-rows.rows = ap rows_in c.deref.ensures.value ∙ c.in_ok-rows-2.ensures in
-    let made : c.in_ok-made.made ≡ distinct c.in_ok-rows.rows = c.in_ok-made.ensures ∙ ap (λ rows. difference rows []) one ∙ difference-none c.in_ok-rows.rows in
-    rw made (distinct-same c.args.rows.now c.in_ok-rows.rows c.in_ok-rows.ensures.same_rows)
+    let rows = c.args.rows.now in
+    let each : difference rows c.new.result ≡ distinct rows = ap (difference rows) c.new.ensures ∙ difference-none rows in
+    IfOk-weaker c.difference-2.result (λ made. SameBag (difference rows c.new.result) made) (λ made. SameBag (distinct rows) made)
+    (λ made p. subst (λ (bag : Rows). SameBag bag made) each p) c.difference-2.ensures

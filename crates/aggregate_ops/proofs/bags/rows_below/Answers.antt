@@ -1,4 +1,4 @@
-use Rattle.std.proofs.Common.{◌≡◌, List, true, is_lt, arith, below_more, rules, sym, subst}
+use Rattle.std.proofs.Common.{◌≡◌, true, is_lt, arith, below_more, rules, sym, subst}
 use Rattle.rel_base.specs.Values.{row_order}
 use Rattle.myrial_ast.specs.Combinations.{Row}
 use Rattle.std.specs.Borrow.{Bor}

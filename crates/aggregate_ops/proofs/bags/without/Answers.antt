@@ -1,9 +1,9 @@
-use Rattle.std.proofs.Common.{◌≡◌, ◌+◌, ◌-◌, ◌≤◌, ◌<◌, ◌∷◌, [], ◌++◌, Bool, true, false, cond, length, map, take, drop, ap, subst, sym, arith, length-append}
+use Rattle.std.proofs.Common.{◌≡◌, ◌+◌, ◌≤◌, ◌∷◌, [], ◌++◌, Bool, true, false, cond, length, drop, ap, subst, sym, arith, length-append}
 use Rattle.std.proofs.lemmas.List.{length-map, length-drop}
-use Rattle.rel_base.specs.declared.values.Value.{Value}
+use Rattle.std.specs.Borrow.{Bor}
 use Rattle.myrial_ast.specs.Combinations.{Row, Rows}
 use Rattle.aggregate_ops.specs.Columns.{rows_in}
-use Rattle.aggregate_ops.proofs.StepLemmas.{behind}
+use Rattle.aggregate_ops.proofs.StepLemmas.{behind, row-item}
 use Rattle.aggregate_ops.proofs.BagLemmas.{SideBySide, one-gone-at}
 use Rattle.aggregate_ops.proofs.bags.without.Goals as goal
 
@@ -22,7 +22,8 @@ loop-done-preserved c =
     let found = c.begins_with-found.result in
     let made : c.put_unless.new.into ≡ c.loop-done.made ++ cond found [] (first.now ∷ []) = c.in_ok-put_unless.ensures in
     let long : length (cond found [] (first.now ∷ [])) ≤ 1 = one found in
-    let gone = one-gone-at rows others c.loop-done.made done passed count more first found c.loop-done.invariant.3 c.loop-done-test.true (simp behind at c.index-left-0.is) below begin run in (
+    let gone = one-gone-at (λ (r : Bor Row). r.now) rows others c.loop-done.made done passed count more first found c.loop-done.invariant.3 c.loop-done-test.true
+    (row-item (λ (r : Bor Row). r.now) (drop done rows) 0 first (omega (arith, length-drop done rows)) (simp behind at c.index-left-0.is)) below begin run in (
       omega (arith, run.within, length-map (drop done rows) (λ r. r.now), length-drop done rows),
       omega (arith, below.within, length-map (drop passed others) (λ r. r.now), length-drop passed others),
       omega (arith, run.some, ap length made, length-append c.loop-done.made (cond found [] (first.now ∷ [])), long),

@@ -1,7 +1,4 @@
-use Rattle.std.proofs.Common.{◌≡◌, ◌-◌, ◌≤◌, ◌++◌, length, drop}
-use Rattle.std.specs.Prelude.{All, IsSorted}
-use Rattle.rel_base.specs.Values.{row_order}
-use Rattle.myrial_ast.specs.Bags.{has_row, difference}
+use Rattle.std.proofs.Common.{◌-◌, ◌≤◌, length, drop}
 use Rattle.aggregate_ops.specs.Columns.{rows_in}
 use Rattle.aggregate_ops.proofs.BagLemmas.{SideBySide}
 use Rattle.aggregate_ops.proofs.bags.without.Given as goal

@@ -1,11 +1,6 @@
-use Rattle.std.proofs.Common.{◌≡◌, ◌+◌, ◌-◌, ◌≤◌, ◌++◌, length, map, drop}
-use Rattle.std.specs.Prelude.{IsSorted}
-use Rattle.rel_base.specs.Values.{row_order}
-use Rattle.bag_laws.specs.PartialLaws.{AreGrouped}
+use Rattle.std.proofs.Common.{◌-◌, ◌≤◌, length, map, drop}
 use Rattle.algebra.specs.Trees.{kind_of_emit}
-use Rattle.aggregate_ops.specs.Columns.{key_at}
 use Rattle.aggregate_ops.specs.inner.Reading.{rows_of}
-use Rattle.aggregate_ops.specs.Forms.{grouped_kinds, results, results_fit}
 use Rattle.aggregate_ops.proofs.CellLemmas.{LeftOver}
 use Rattle.aggregate_ops.proofs.grouping.rows_of_runs.Given as goal
 

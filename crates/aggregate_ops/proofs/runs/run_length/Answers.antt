@@ -1,4 +1,4 @@
-use Rattle.std.proofs.Common.{arith, below_more, rules, length}
+use Rattle.std.proofs.Common.{arith, below_more, rules}
 use Rattle.std.proofs.lemmas.List.{length-map}
 use Rattle.aggregate_ops.specs.Columns.{key_at}
 use Rattle.aggregate_ops.specs.inner.Reading.{row_of, rows_of}

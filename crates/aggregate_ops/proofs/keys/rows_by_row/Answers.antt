@@ -1,13 +1,13 @@
-use Rattle.std.proofs.Common.{◌≡◌, ℕ, Bool, false, List, map, All, is_lt, sym, ◌∙◌, ap, subst, IsPermutation}
+use Rattle.std.proofs.Common.{◌≡◌, map, is_lt, sym, ◌∙◌, ap, subst}
 use Rattle.std.proofs.lemmas.List.Sorted.{IsPermutation-map, All-permutation}
 use Rattle.std.specs.List.Sorted.{IsSortedBy}
 use Rattle.rel_base.specs.Values.{row_order}
 use Rattle.rel_base.proofs.SortLemmas.{IsSortedBy-part}
 use Rattle.bag_laws.proofs.ColumnLemmas.{map-through}
-use Rattle.myrial_ast.specs.Combinations.{Row, Rows}
+use Rattle.myrial_ast.specs.Combinations.{Rows}
 use Rattle.aggregate_ops.specs.Columns.{rows_in, key_at}
 use Rattle.aggregate_ops.specs.Keyed.{keyed_order}
-use Rattle.aggregate_ops.proofs.keys.rows_by_key.Goals as goal
+use Rattle.aggregate_ops.proofs.keys.rows_by_row.Goals as goal
 
 pub returns-clause-same : goal.returns-clause-same
 returns-clause-same c =
