@@ -1,5 +1,5 @@
 -- What is held is found as long as it is used.
-use Rattle.std.proofs.Common.{◌≡◌, ℕ, ◌==◌, Bool, true, false, cond, not, ◌||◌, IsTrue, List, [], ◌∷◌, ◌++◌, map, length, get_or, refl, sym, ap, subst, ◌∙◌, Option, Some, None, inl, inr}
+use Rattle.std.proofs.Common.{◌≡◌, ℕ, ◌==◌, Bool, true, false, cond, not, IsTrue, List, [], ◌∷◌, ◌++◌, map, length, get_or, refl, sym, ap, subst, ◌∙◌, Option, Some, inl, inr}
 use Rattle.std.specs.Prelude.{All, IsSome, filter, find, option_map, unwrap_or}
 use Rattle.std.specs.List.{list_any}
 use Rattle.std.specs.Option.{option_or}
@@ -19,7 +19,7 @@ use Rattle.algebra.specs.Rewriting.{AreTables}
 use Rattle.algebra.specs.Trees.{TermTree, Same, Empty, UnionAll, Diff, Distinct, Join, Group, StepTree, CheckedTree}
 use Rattle.plan_rewrite.specs.Planned.{is_last_use}
 use Rattle.placement.specs.Laws.{IsPlaced, IsReady, IsSamePlaced, HasReadyItems}
-use Rattle.placement.specs.Layouts.{PlacedRelation, Placing, rows_of, together}
+use Rattle.placement.specs.Layouts.{Placing, rows_of, together}
 use Rattle.placed_joins.specs.PlacedJoins.{placed_rows}
 use Rattle.run_laws.specs.Values.{meant}
 use Rattle.run_laws.specs.Scripts.{HasTypedSources}
