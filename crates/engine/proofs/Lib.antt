@@ -4,4 +4,5 @@ pub mod FaultLemmas
 pub mod JoinLemmas
 pub mod GroupLemmas
 pub mod TermLemmas
+pub mod UsedLemmas
 pub mod RunLemmas

@@ -1,8 +1,8 @@
 -- The steps of a script, one after another.
-use Rattle.std.proofs.Common.{◌≡◌, ℕ, ◌+◌, ◌<◌, ◌≤◌, ◌++◌, ◌==◌, Bool, true, false, cond, IsTrue, List, [], ◌∷◌, map, take, length, get_or, refl, sym, ap, subst, ◌∙◌, Ok, Some, None, Option, inl, inr, arith}
-use Rattle.std.specs.Prelude.{⊤, All, Contains, find, option_map, unwrap_or, IsSome}
+use Rattle.std.proofs.Common.{◌≡◌, ℕ, ◌+◌, ◌<◌, ◌≤◌, ◌++◌, ◌==◌, Bool, true, false, cond, IsTrue, List, [], ◌∷◌, map, take, drop, not, length, get_or, refl, sym, ap, subst, ◌∙◌, Ok, Some, None, Option, inl, inr, arith}
+use Rattle.std.specs.Prelude.{⊤, All, Contains, filter, find, option_map, unwrap_or, IsSome}
 use Rattle.std.specs.List.{flat_map}
-use Rattle.std.proofs.lemmas.List.{append-nil, get_or-map, length-map, map-append, take_all, take_more}
+use Rattle.std.proofs.lemmas.List.{append-nil, get_or-map, length-map, map-append, take_all, take_more, drop_all, drop_more, drop-map}
 use Rattle.std.proofs.lemmas.List.Concat.{flat_map-append}
 use Rattle.std.proofs.lemmas.List.Elements.{All-nil, All-head, All-tail, All-more, All-weaker}
 use Rattle.rel_base.specs.Keys.{File}
@@ -35,7 +35,7 @@ use Rattle.term_runs.proofs.ReceiptLemmas.{joined-runs}
 use Rattle.term_runs.proofs.TapLemmas.{joined-moves}
 use Rattle.run_laws.specs.Values.{IsKnown, meant}
 use Rattle.plan_rewrite.specs.declared.rewriting.Planned.{Planned}
-use Rattle.plan_rewrite.specs.Planned.{planned_tree_of}
+use Rattle.plan_rewrite.specs.Planned.{planned_tree_of, is_last_use}
 use Rattle.run_laws.specs.Rewritten.{needed, numbers_of, IsStepAt}
 use Rattle.run_laws.specs.Scripts.{placed_store, step_exchanges, HasTypedSources, IsSound}
 use Rattle.run_laws.specs.Held.{parts_in, AreHeld, IsHeldStep, IsReadyStep, IsHeldResult, IsHeldStore}
@@ -54,7 +54,8 @@ use Rattle.engine.specs.declared.held.Held.{Held}
 use Rattle.engine.specs.declared.noted.Noted.{Noted}
 use Rattle.engine.specs.declared.runs.Ran.{Ran}
 use Rattle.engine.specs.Runs.{run_exchanges, IsRan, AreStoredAt, no_store, a_store, prefixes_of, fault_of, IsRunFault}
-use Rattle.engine.specs.inner.Held.{IsHeld, parts_held, value_held, IsJoinable, HasJoinable, IsRunnable}
+use Rattle.engine.specs.inner.Held.{IsHeld, parts_held, value_held, UsedAreHeld, IsJoinable, HasJoinable, IsRunnable}
+use Rattle.engine.proofs.UsedLemmas.{ready-among, used-with-one-more, used-without-last, stores-among}
 use Rattle.engine.specs.inner.Steps.{held_exchanges, IsStepDone, numbered_exchanges, bare_exchanges, AreRun, schema_at, held_store}
 
 -- ---- lists
@@ -117,8 +118,10 @@ module _ (own all : Option RunFault) (first : (e : RunFault) → own ≡ Some e 
 -- ---- a step more
 
 module _ {T : Type 0} (s : Settings) (files : List File) (c : CheckedTree) (of_files : IsTrue (is_of files c))
-    (typed : AreTyped files) (totals : T → Totals) (tag : T → ℕ) (i : ℕ) (a : StepTree) (l : i < length (needed c)) (held : Held)
-    (noted : Noted) (before middle : List T) (run : AreRun s files c (take i (needed c)) held noted totals tag before middle) where
+    (typed : AreTyped files) (totals : T → Totals) (tag : T → ℕ) (i : ℕ) (a : StepTree) (l : i < length (needed c))
+    (pushed : StepTree) (later : List StepTree) (alike : sources_of (get_or (needed c) i a).term ≡ sources_of pushed.term)
+    (held : Held) (noted : Noted) (before middle : List T)
+    (run : AreRun s files c (take i (needed c)) (pushed ∷ later) held noted totals tag before middle) where
   abbrev p : Placing
   p = usual_placing s
 
@@ -131,13 +134,18 @@ module _ {T : Type 0} (s : Settings) (files : List File) (c : CheckedTree) (of_f
   good : IsPlacing p
   good = usual_is_placing s s.workers_in_range.0
 
+  there : All (IsHeld held) (sources_of x.term) × IsReadyStep p files c (parts_held held) x
+  there =
+      ready-among p files c held.files run.every held.results.items x pushed later alike run.used
+      (held_are_ready p files c good of_files typed held.files run.every i a l run.made_as_meant)
+
   ready : IsReadyStep p files c (parts_held held) x
-  ready = (held_are_ready p files c good of_files typed held.files held.results i a l run.held_as_meant).1
+  ready = there.1
 
   -- what it asks is there
   pub runnable : IsRunnable s.workers (length x.schema) held x.term
   runnable = record {
-    known = (held_are_ready p files c good of_files typed held.files held.results i a l run.held_as_meant).0;
+    known = there.0;
     at_workers =
         All-weaker (λ o. IsPlaced s.workers (value_held held o)) (λ o. length (parts_held held o) ≡ s.workers)
         (λ o h. h.each_worker) (sources_of x.term) ready.placed;
@@ -197,12 +205,16 @@ module _ {T : Type 0} (s : Settings) (files : List File) (c : CheckedTree) (of_f
         (map-both (λ (e : ℕ × PlacedExchange). e.1) (λ e. (x.statement, e)) exchanges ∙ map-itself exchanges)
 
     -- with it one step more has run
-    pub one-more : AreRun s files c (take (i + 1) (needed c)) after_held after_noted totals tag before after
+    pub one-more : AreRun s files c (take (i + 1) (needed c)) later after_held after_noted totals tag before after
     one-more = record {
-      held_as_meant =
-          subst (λ dealt. AreHeld p files c (take (i + 1) (needed c)) dealt after_held.results) (sym done.files)
-          (subst (AreHeld p files c (take (i + 1) (needed c)) held.files) (sym done.results)
-          (one_more_is_held p files c of_files held.files held.results i a l run.held_as_meant done.made result.rows));
+      every = run.every ++ (x.statement, done.made) ∷ [];
+      made_as_meant =
+          subst (λ dealt. AreHeld p files c (take (i + 1) (needed c)) dealt (run.every ++ (x.statement, done.made) ∷ []))
+          (sym done.files)
+          (one_more_is_held p files c of_files held.files run.every i a l run.made_as_meant done.made result.rows);
+      used =
+          subst (UsedAreHeld c.stores later (run.every ++ (x.statement, done.made) ∷ [])) (sym done.results)
+          (used-with-one-more c.stores run.every held.results.items pushed later ((x.statement, done.made) ∷ []) run.used);
       plan =
           done.plan ∙ (λ k. run.plan k ++ sym (result.lines s.local) k)
           ∙ sym (flat-more (step_notes p s.local value) (needed c) i a l);
@@ -228,6 +240,28 @@ module _ {T : Type 0} (s : Settings) (files : List File) (c : CheckedTree) (of_f
           (as-meant.fault (prefixes_of s.shuffle) ∙ done.sound);
     }
 
+-- ---- letting go
+
+-- a run goes on where results are let go that are used no more
+pub let-go-last : {T : Type 0} (s : Settings) (files : List File) (c : CheckedTree) (steps : List StepTree) (step : StepTree)
+    (later : List StepTree) (held after_held : Held) (noted : Noted) (totals : T → Totals) (tag : T → ℕ) (before after : List T)
+    → AreRun s files c steps later held noted totals tag before after → after_held.files ≡ held.files
+    → after_held.results.items
+    ≡ filter (λ (r : ℕ × List Rows). not (is_last_use r.0 c.stores (step ∷ later))) held.results.items
+    → AreRun s files c steps later after_held noted totals tag before after
+let-go-last s files c steps step later held after_held noted totals tag before after run same_files kept = record {
+  every = run.every;
+  made_as_meant = subst (λ dealt. AreHeld (usual_placing s) files c steps dealt run.every) (sym same_files) run.made_as_meant;
+  used =
+      subst (UsedAreHeld c.stores later run.every) (sym kept)
+      (used-without-last c.stores run.every held.results.items step later run.used);
+  plan = run.plan;
+  traffic = run.traffic;
+  receipts = run.receipts;
+  moved = run.moved;
+  sound = run.sound;
+}
+
 -- ---- the loop over the rewritten steps
 
 module _ (files : List File) (checked : Checked) (of_files : IsTrue (is_of files (checked_tree_of checked)))
@@ -238,6 +272,7 @@ module _ (files : List File) (checked : Checked) (of_files : IsTrue (is_of files
   -- a step of the rewritten script, and that of the script with its number
   pub record IsTurn (i : ℕ) (step pushed : Step) : Type 0 where
     pub low : i < length (needed script)
+    pub alike : sources_of (get_or (needed script) i (step_tree_of step)).term ≡ sources_of (step_tree_of pushed).term
     pub own : get_or (needed script) i (step_tree_of step) ≡ step_tree_of step
     pub term : IsSameTerm (term_tree_of step.term) (term_tree_of pushed.term)
 
@@ -251,11 +286,24 @@ module _ (files : List File) (checked : Checked) (of_files : IsTrue (is_of files
     pub all-taken : (i : ℕ) → length steps ≤ i → take i (needed script) ≡ needed script
     all-taken i past = take_all i (needed script) (omega (arith, past, ap length handed, many))
 
+    pub none-left : (i : ℕ) → length steps ≤ i → drop i (map step_tree_of steps) ≡ []
+    none-left i past = drop_all i (map step_tree_of steps) (omega (arith, past, length-map steps step_tree_of))
+
+    pub same-stores : planned.stores ≡ script.stores
+    same-stores = (rewritten_are_kept files script (planned_tree_of planned) of_files same).stores
+
     module _ (i : ℕ) (pushed : Step) (l : i < length steps) (is : pushed ≡ get_or steps i pushed) where
       here : step_tree_of pushed ≡ get_or (planned_tree_of planned).steps i (step_tree_of pushed)
       here =
           ap step_tree_of (is ∙ ap (λ (xs : List Step). get_or xs i pushed) handed)
           ∙ sym (get_or-map step_tree_of planned.steps i pushed (step_tree_of pushed) (omega (arith, l, ap length handed)))
+
+      -- it is the first of the steps that are left
+      first-left : drop i (map step_tree_of steps) ≡ step_tree_of pushed ∷ drop (i + 1) (map step_tree_of steps)
+      first-left =
+          drop_more (map step_tree_of steps) i (step_tree_of pushed) (omega (arith, l, length-map steps step_tree_of))
+          ∙ ap (λ (s : StepTree). s ∷ drop (i + 1) (map step_tree_of steps))
+          (get_or-map step_tree_of steps i pushed (step_tree_of pushed) l ∙ ap step_tree_of (sym is))
 
       at : (a : StepTree) → IsStepAt files script i (get_or (needed script) i a) (step_tree_of pushed)
       at a =
@@ -283,19 +331,29 @@ module _ (files : List File) (checked : Checked) (of_files : IsTrue (is_of files
           ap (λ (o : Option StepTree). unwrap_or o a) (sym (found-is a) ∙ ap (option_map step_tree_of) (sym found)) in
           record {
             low = omega (arith, l, ap length handed, many);
+            alike = (at a).sources;
             own = own;
             term = subst (λ (t : StepTree). IsSameTerm t.term (term_tree_of pushed.term)) own (at a).same.term;
           }
 
       module _ {T : Type 0} (s : Settings) (typed : AreTyped files) (totals : T → Totals) (tag : T → ℕ) (held : Held)
           (noted : Noted) (before middle : List T)
-          (run : AreRun s files script (take i (needed script)) held noted totals tag before middle)
+          (run : AreRun s files script (take i (needed script)) (drop i (map step_tree_of steps)) held noted totals tag before middle)
           (step : Step) (found : Some step ≡ found_step) where
+        abbrev later : List StepTree
+        later = drop (i + 1) (map step_tree_of steps)
+
+        run-from : AreRun s files script (take i (needed script)) (step_tree_of pushed ∷ later) held noted totals tag before middle
+        run-from =
+            subst (λ left. AreRun s files script (take i (needed script)) left held noted totals tag before middle)
+            first-left run
+
         pub turn-runnable : IsRunnable s.workers (length step.schema) held (term_tree_of step.term)
         turn-runnable =
             let t = turn step found in
             subst (λ (x : StepTree). IsRunnable s.workers (length x.schema) held x.term) t.own
-            (runnable s files script of_files typed totals tag i (step_tree_of step) t.low held noted before middle run)
+            (runnable s files script of_files typed totals tag i (step_tree_of step) t.low (step_tree_of pushed) later t.alike held
+            noted before middle run-from)
 
         pub turn-fault : (e : RunFault)
             → IsRunFault (term_fault (prefixes_of s.shuffle) step.statement (λ o. (value_held held o).relation.rows)
@@ -304,28 +362,42 @@ module _ (files : List File) (checked : Checked) (of_files : IsTrue (is_of files
             let t = turn step found in
             subst (λ (x : StepTree). IsRunFault (term_fault (prefixes_of s.shuffle) x.statement
             (λ o. (value_held held o).relation.rows) x.term) e → IsRunFault (fault_of s files script) e) t.own
-            (first-fault s files script of_files typed totals tag i (step_tree_of step) t.low held noted before middle run e)
+            (first-fault s files script of_files typed totals tag i (step_tree_of step) t.low (step_tree_of pushed) later t.alike
+            held noted before middle run-from e)
 
         pub turn-done : (after_held : Held) (after_noted : Noted) (after : List T) → AreFair totals tag middle after
             → IsStepDone s (step_tree_of step) held after_held noted after_noted totals tag middle after
-            → AreRun s files script (take (i + 1) (needed script)) after_held after_noted totals tag before after
-        turn-done after_held after_noted after fair done =
+            → (kept_held : Held) → kept_held.files ≡ after_held.files → (left : List Step) → left ≡ drop i steps
+            → kept_held.results.items ≡ filter (λ (r : ℕ × List Rows).
+            not (is_last_use r.0 planned.stores (map step_tree_of left))) after_held.results.items
+            → AreRun s files script (take (i + 1) (needed script)) later kept_held after_noted totals tag before after
+        turn-done after_held after_noted after fair done kept_held same_files left same_left kept =
             let t = turn step found in
-            one-more s files script of_files typed totals tag i (step_tree_of step) t.low held noted before middle run
-            after_held after_noted after fair
-            (subst (λ x. IsStepDone s x held after_held noted after_noted totals tag middle after) (sym t.own) done)
+            let of_left : List StoreStep → List StepTree → List (ℕ × List Rows) =
+            λ stores left. filter (λ (r : ℕ × List Rows). not (is_last_use r.0 stores left)) after_held.results.items in
+            let-go-last s files script (take (i + 1) (needed script)) (step_tree_of pushed) later after_held kept_held after_noted totals
+            tag before after
+            (one-more s files script of_files typed totals tag i (step_tree_of step) t.low (step_tree_of pushed) later t.alike held
+            noted before middle run-from after_held after_noted after fair
+            (subst (λ x. IsStepDone s x held after_held noted after_noted totals tag middle after) (sym t.own) done))
+            same_files
+            (kept ∙ ap (λ (stores : List StoreStep). of_left stores (map step_tree_of left)) same-stores
+            ∙ ap (of_left script.stores) (ap (map step_tree_of) same_left ∙ sym (drop-map step_tree_of i steps) ∙ first-left))
 
 -- ---- the first step
 
-pub none-run : {T : Type 0} (s : Settings) (files : List File) (c : CheckedTree) (held : Held) (noted : Noted) (totals : T → Totals)
-    (tag : T → ℕ) (taps : List T) → held.files ≡ map (λ (f : File). (placed_file s.workers f.1).parts) files → held.results ≡ []
-    → noted.plan ≡ [] → noted.traffic ≡ [] → noted.receipts ≡ [] → AreRun s files c [] held noted totals tag taps taps
-none-run s files c held noted totals tag taps dealt results plan traffic receipts = record {
-  held_as_meant = record {
+pub none-run : {T : Type 0} (s : Settings) (files : List File) (c : CheckedTree) (left : List StepTree) (held : Held)
+    (noted : Noted) (totals : T → Totals) (tag : T → ℕ) (taps : List T)
+    → held.files ≡ map (λ (f : File). (placed_file s.workers f.1).parts) files → held.results.items ≡ []
+    → noted.plan ≡ [] → noted.traffic ≡ [] → noted.receipts ≡ [] → AreRun s files c [] left held noted totals tag taps taps
+none-run s files c left held noted totals tag taps dealt results plan traffic receipts = record {
+  every = [];
+  made_as_meant = record {
     files_dealt = dealt;
-    numbers = ap (map (λ (r : ℕ × List Rows). r.0)) results;
-    rows = All-nil (IsHeldStep (usual_placing s) files c (parts_in held.files held.results));
+    numbers = refl;
+    rows = All-nil (IsHeldStep (usual_placing s) files c (parts_in held.files []));
   };
+  used = subst (UsedAreHeld c.stores left []) (sym results) (λ number h. refl);
   plan = plan;
   traffic = traffic;
   receipts = subst (AreShown (size_of s) []) (sym receipts) no_receipt;
@@ -336,7 +408,7 @@ none-run s files c held noted totals tag taps dealt results plan traffic receipt
 -- ---- stores, and the end
 
 module _ (p : Placing) (files : List File) (c : CheckedTree) (held : Held) where
-  each-stored : (ts : List StoreStep) → All (IsHeldStore p files c held.files held.results) ts
+  each-stored : (ts : List StoreStep) → All (IsHeldStore p files c held.files held.results.items) ts
       → AreStoredAt (map (held_store files c held) ts) (map (placed_store p files c) ts)
   each-stored [] h = no_store
   each-stored (t ∷ ts) h =
@@ -345,20 +417,22 @@ module _ (p : Placing) (files : List File) (c : CheckedTree) (held : Held) where
       (record {
         key = refl;
         schema = ap (λ (r : RelationState). r.schema) (sym (meant-related p files c t.source));
-        parts = (All-head (IsHeldStore p files c held.files held.results) t ts h).rows;
+        parts = (All-head (IsHeldStore p files c held.files held.results.items) t ts h).rows;
       })
-      (each-stored ts (All-tail (IsHeldStore p files c held.files held.results) t ts h))
+      (each-stored ts (All-tail (IsHeldStore p files c held.files held.results.items) t ts h))
 
 module _ {T : Type 0} (s : Settings) (files : List File) (c : CheckedTree) (of_files : IsTrue (is_of files c)) (held : Held)
     (noted : Noted) (totals : T → Totals) (tag : T → ℕ) (before after : List T)
-    (run : AreRun s files c (needed c) held noted totals tag before after) where
-  stores-held : All (IsHeldStore (usual_placing s) files c held.files held.results) c.stores
-  stores-held = stores_are_held (usual_placing s) files c of_files held.files held.results run.held_as_meant
+    (run : AreRun s files c (needed c) [] held noted totals tag before after) where
+  stores-held : All (IsHeldStore (usual_placing s) files c held.files held.results.items) c.stores
+  stores-held =
+      stores-among held.files run.every held.results.items (usual_placing s) files c run.used
+      (stores_are_held (usual_placing s) files c of_files held.files run.every run.made_as_meant)
 
   -- what is stored is held
   pub sources-held : All (λ (t : StoreStep). IsHeld held t.source) c.stores
   sources-held =
-      All-weaker (IsHeldStore (usual_placing s) files c held.files held.results) (λ (t : StoreStep). IsHeld held t.source)
+      All-weaker (IsHeldStore (usual_placing s) files c held.files held.results.items) (λ (t : StoreStep). IsHeld held t.source)
       (λ t h. h.there) c.stores stores-held
 
   -- where all steps have run, the script has

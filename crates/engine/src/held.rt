@@ -1,21 +1,24 @@
 //! Rows at workers that are held while a script runs.
-ghost use Rattle.std.specs.Prelude.{◌≡◌, ℕ, ◌==◌, List, map, find, All, IfOk};
+ghost use Rattle.std.specs.Prelude.{◌≡◌, ℕ, ◌==◌, not, ◌++◌, [], ◌∷◌, List, map, filter, find, All, IfOk, OnOk};
 ghost use Rattle.std.specs.Option.{option_copied};
 ghost use Rattle.myrial_ast.specs.Combinations.{Rows};
+ghost use Rattle.algebra.specs.CheckedTrees.{step_tree_of};
+ghost use Rattle.plan_rewrite.specs.Planned.{is_last_use};
 ghost use Rattle.engine.specs.inner.Held.{IsHeld, parts_held};
 
-use algebra::{Source, Sources};
+use algebra::{Source, Sources, Step, Stores};
+use plan_rewrite::is_last_use;
 use rel_base::{Duplicate, Items, Memory, Spread};
 use row_exchange::Spreads;
 use std::alloc::Global;
 
-/// The rows at each worker of files and of the steps that have run.
+/// The rows at each worker of files and of the results that are still used.
 #[derive(Drop)]
 pub(crate) struct Held {
     /// The rows of each file, dealt to the workers.
     pub(crate) files: Items<Spread>,
-    /// The number of each step that has run, with the rows of its result.
-    pub(crate) results: Items<(u32, Spread)>,
+    /// The number of each step whose result is still used, with its rows.
+    pub(crate) results: Vec<(u32, Spread)>,
 }
 
 impl Held {
@@ -35,12 +38,33 @@ impl Held {
         }
     }
 
-    /// The result of the step of this number, where it has run.
+    /// The result of the step of this number, where it is held.
     fn result_of(&self, number: u32) -> Option<&(u32, Spread)>
         ensures { option_copied result
-            ≡ find (λ (r : ℕ × List Rows). r.0 == number) self.now.results }
+            ≡ find (λ (r : ℕ × List Rows). r.0 == number) self.now.results.items }
     {
-        self.results.as_slice().iter().find(|held| held.0 == number)
+        self.results.iter().find(|held| held.0 == number)
+    }
+
+    /// Holds the result of a step.
+    pub(crate) fn hold(&mut self, statement: u32, parts: Spread) -> Result<(), Memory>
+        ensures files { self.new.files ≡ self.old.files }
+        ensures results { OnOk result
+            (self.new.results.items ≡ self.old.results.items ++ (statement, parts) ∷ []) }
+    {
+        self.results.push((statement, parts))?;
+        Ok(())
+    }
+
+    /// Lets the results go that the first of these steps is the last one to use, and no store
+    /// stores. Their rows go with them where nothing else shares them.
+    pub(crate) fn let_go(&mut self, stores: &Stores, steps: &[Step])
+        ensures files { self.new.files ≡ self.old.files }
+        ensures results { self.new.results.items ≡ filter (λ (r : ℕ × List Rows).
+            not (is_last_use r.0 stores.now (map step_tree_of steps.now))) self.old.results.items }
+    {
+        self.results
+            .retain(|held| !is_last_use(held.0, stores, steps));
     }
 
     /// The rows of each of some sources; no shared row is copied.

@@ -3,8 +3,8 @@
 //! Stands on `plan_rewrite` for the steps that a store needs, on `placement` and `run_laws` for
 //! what each of them means at workers, on `join_plans`, `join_runs` and `keyed_terms` for their
 //! plans and terms, and on `bag_runs`, by whose laws rows are held in whatever order they came.
-//! Files are dealt to the workers, each result stays where it was made, and a step runs over what
-//! is held of its sources.
+//! Files are dealt to the workers, each result stays where it was made until its last use, and a
+//! step runs over what is held of its sources.
 //!
 //! Promises: on Ok nothing is wrong with the script, and each store has its key, its columns and at
 //! each worker the bag of rows that is placed there. The plan, the traffic and the receipts are

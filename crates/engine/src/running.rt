@@ -1,5 +1,5 @@
 //! The run of a checked script.
-ghost use Rattle.std.specs.Prelude.{◌≡◌, ◌==◌, All, IsTrue, IfOk, IfErr, map, find, vec_len};
+ghost use Rattle.std.specs.Prelude.{◌≡◌, ◌==◌, [], All, IsTrue, IfOk, IfErr, map, find, vec_len};
 ghost use Rattle.std.specs.Option.{option_copied};
 ghost use Rattle.rel_base.specs.Limits.{taps as tap_count};
 ghost use Rattle.algebra.specs.CheckedTrees.{checked_tree_of};
@@ -22,7 +22,7 @@ use crate::steps::run_step;
 use crate::terms::RunStep;
 use algebra::{Checked, Settings, Source, Step, StoreStep};
 use plan_rewrite::rewrite;
-use rel_base::{Duplicate, Files, Items, Memory, RunFault, Schema};
+use rel_base::{Duplicate, Files, Memory, RunFault, Schema};
 use rel_io::Tap;
 use std::alloc::Global;
 use std::sync::Wait;
@@ -63,7 +63,8 @@ pub fn run_script<R: Threads + Wait + Sync, T: Tap + Send>(
     })
 }
 
-/// Runs the steps that a store needs, one after another.
+/// Runs the steps that a store needs, one after another. A result is let go with its last use, but
+/// for those that are stored.
 fn run_steps<R: Threads + Wait + Sync, T: Tap + Send>(
     rt: &R,
     alloc: Global,
@@ -77,7 +78,7 @@ fn run_steps<R: Threads + Wait + Sync, T: Tap + Send>(
     requires taps { vec_len taps.old ≡ tap_count }
     ensures fair { AreFair T.totals T.tag taps.old.items taps.new.items }
     ensures ok { IfOk result (λ ran. AreRun settings.now files.now (checked_tree_of checked.now)
-        (needed (checked_tree_of checked.now)) ran.0 ran.1 T.totals T.tag
+        (needed (checked_tree_of checked.now)) [] ran.0 ran.1 T.totals T.tag
         taps.old.items taps.new.items) }
     ensures err { IfErr result (IsRunFault (fault_of settings.now files.now
         (checked_tree_of checked.now))) }
@@ -85,15 +86,17 @@ fn run_steps<R: Threads + Wait + Sync, T: Tap + Send>(
     let planned = rewrite(alloc, checked)?;
     let mut held = Held {
         files: dealt_files(alloc, files, settings.workers)?,
-        results: Items::new(alloc),
+        results: Vec::new(alloc),
     };
     let mut noted = Noted::new(alloc);
-    for pushed in planned.steps.as_slice() {
+    let steps = planned.steps.as_slice();
+    for (place, pushed) in steps.iter().enumerate() {
         let Some(step) = step_of(checked, pushed.statement) else {
             unreachable!()
         };
         let run = RunStep { step, pushed };
         run_step(rt, alloc, &run, settings, &mut held, &mut noted, taps)?;
+        held.let_go(&planned.stores, &steps[place..]);
     }
     Ok((held, noted))
 }

@@ -1,5 +1,5 @@
 //! The steps of a script, one after another.
-ghost use Rattle.std.specs.Prelude.{◌≡◌, ◌*◌, ◌≤◌, ◌++◌, [], ◌∷◌, OnOk, length, vec_len};
+ghost use Rattle.std.specs.Prelude.{◌≡◌, ◌*◌, ◌≤◌, length, vec_len};
 ghost use Rattle.algebra.specs.CheckedTrees.{step_tree_of, term_tree_of};
 ghost use Rattle.algebra.specs.Rewriting.{IsSameTerm};
 ghost use Rattle.placement.specs.Plans.{plan_kind};
@@ -12,7 +12,7 @@ use crate::noted::{Noted, append};
 use crate::terms::{RunStep, run_term};
 use algebra::{PlanKind, PlanNote, PlanNotes, Settings, Term};
 use join_plans::add_note;
-use rel_base::{Memory, RunFault, Spread};
+use rel_base::RunFault;
 use rel_io::Tap;
 use std::alloc::Global;
 use std::sync::Wait;
@@ -55,19 +55,8 @@ pub(crate) fn run_step<R: Threads + Wait + Sync, T: Tap + Send>(
     append(alloc, &mut noted.plan, lines)?;
     append(alloc, &mut noted.traffic, traffic)?;
     append(alloc, &mut noted.receipts, receipts)?;
-    hold(held, run.step.statement, parts)?;
+    held.hold(run.step.statement, parts)?;
     Ok(())
-}
-
-/// Holds the result of a step.
-fn hold(held: &mut Held, statement: u32, parts: Spread) -> Result<(), Memory>
-    ensures files { held.new.files ≡ held.old.files }
-    ensures results { OnOk result (held.new.results ≡ held.old.results ++ (statement, parts) ∷ []) }
-{
-    if held.results.len() == u32::MAX {
-        return Err(Memory);
-    }
-    held.results.push((statement, parts))
 }
 
 /// The word of the plan for a term.

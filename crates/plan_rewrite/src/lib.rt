@@ -17,4 +17,4 @@ mod pushing;
 mod rewriting;
 mod spans;
 
-pub use rewriting::{Planned, rewrite};
+pub use rewriting::{Planned, is_last_use, rewrite};

@@ -5,9 +5,9 @@ ghost use Rattle.algebra.specs.CheckedTrees.{checked_tree_of, step_tree_of, term
 ghost use Rattle.rel_base.specs.Keys.{File};
 ghost use Rattle.myrial_ast.specs.CandidateFaults.{PrefixRule};
 ghost use Rattle.algebra.specs.Meanings.{checked_fault, is_result, needed_steps};
-ghost use Rattle.algebra.specs.Meanings.{stored_by, uses};
+ghost use Rattle.algebra.specs.Meanings.{stored_by, uses, is_used};
 ghost use Rattle.algebra.specs.Rewriting.{IsRewritten};
-ghost use Rattle.plan_rewrite.specs.Planned.{planned_tree_of};
+ghost use Rattle.plan_rewrite.specs.Planned.{is_last_use, planned_tree_of};
 ghost use Rattle.plan_rewrite.specs.inner.Steps.{pushed_step, pushed_term};
 
 use crate::pushing::pushed;
@@ -77,6 +77,30 @@ fn is_used(number: u32, stores: &Stores, later: &[&Step]) -> bool
         || list_any (λ s. uses number (step_tree_of s.now)) later.now) }
 {
     is_stored(number, stores.as_slice()) || is_taken(number, later)
+}
+
+/// Whether one of these steps, which stand in a row, has the result of this statement as a source.
+fn is_taken_in(number: u32, steps: &[Step]) -> bool
+    ensures { result ≡ list_any (λ s. uses number (step_tree_of s)) steps.now }
+{
+    steps.iter().any(|step| uses(number, step))
+}
+
+/// Whether one of these stores stores the result of this statement, or one of these steps has it as a source.
+fn is_used_in(number: u32, stores: &Stores, steps: &[Step]) -> bool
+    ensures { result ≡ is_used number stores.now (map step_tree_of steps.now) }
+{
+    is_stored(number, stores.as_slice()) || is_taken_in(number, steps)
+}
+
+/// Whether the first of these steps is the last one that has the result of this statement as a source, and no store stores it.
+pub fn is_last_use(number: u32, stores: &Stores, steps: &[Step]) -> bool
+    ensures { result ≡ is_last_use number stores.now (map step_tree_of steps.now) }
+{
+    match steps {
+        [] => false,
+        [step, later @ ..] => uses(number, step) && !is_used_in(number, stores, later),
+    }
 }
 
 /// The steps that a store needs, the last first.

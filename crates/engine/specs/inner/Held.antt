@@ -1,15 +1,18 @@
 -- Rows at workers that are held while a script runs.
 --
 --   parts_held held source          the rows at each worker that a source stands for
---   IsHeld held source              it is a file, or the result of a step that has run
+--   IsHeld held source              it is a file, or a result that is held
+--   UsedAreHeld stores steps every some
+--                                   what of all results a store or one of these steps uses is still held
 --   value_held held source          what it stands for, where its rows lie
 --   IsJoinable n shape parts        what running a join asks
 --   IsRunnable ..                   what running a term over what is held asks
-use Rattle.std.specs.Prelude.{◌≡◌, ⊤, ℕ, List, map, length, All}
+use Rattle.std.specs.Prelude.{◌≡◌, ⊤, ℕ, ◌==◌, IsTrue, List, map, find, length, All}
 use Rattle.myrial_ast.specs.Combinations.{Rows}
 use Rattle.algebra.specs.declared.terms.Source.{Source}
-use Rattle.algebra.specs.Trees.{Shape, TermTree, Join, Group}
-use Rattle.algebra.specs.Meanings.{sources_of}
+use Rattle.algebra.specs.declared.terms.StoreStep.{StoreStep}
+use Rattle.algebra.specs.Trees.{Shape, TermTree, Join, Group, StepTree}
+use Rattle.algebra.specs.Meanings.{sources_of, is_used}
 use Rattle.algebra.specs.Rewriting.{AreTables}
 use Rattle.placement.specs.Layouts.{PlacedRelation, rows_of}
 use Rattle.placement.specs.Laws.{IsReady}
@@ -19,11 +22,17 @@ use Rattle.engine.specs.declared.held.Held.{Held}
 
 -- the rows at each worker that a source stands for
 abbrev pub parts_held : Held → Source → List Rows
-parts_held held = parts_in held.files held.results
+parts_held held = parts_in held.files held.results.items
 
--- a file, or the result of a step that has run
+-- a file, or a result that is held
 abbrev pub IsHeld : Held → Source → Type 0
-IsHeld held = IsIn held.files held.results
+IsHeld held = IsIn held.files held.results.items
+
+-- each result that a store or one of these steps uses is found among some results as it is among all
+abbrev pub UsedAreHeld : List StoreStep → List StepTree → List (ℕ × List Rows) → List (ℕ × List Rows) → Type 0
+UsedAreHeld stores steps every some =
+    (number : ℕ) → IsTrue (is_used number stores steps)
+    → find (λ (r : ℕ × List Rows). r.0 == number) some ≡ find (λ (r : ℕ × List Rows). r.0 == number) every
 
 -- what a source stands for, where its rows lie
 abbrev pub value_held : Held → Source → PlacedRelation

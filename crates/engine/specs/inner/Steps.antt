@@ -2,7 +2,7 @@
 --
 --   IsStepDone ..              what running a step does on Ok: its result is held, and what it did is noted
 --   IsStep ..                  what it does, whatever it answers
---   AreRun ..                  some steps have run: what is held and noted is what they mean
+--   AreRun ..                  some steps have run and others are left: what is held and noted is what they mean
 --   schema_at files c o        the columns of what a source stands for
 --   held_store files c held t  what a store stores, where its rows are held
 use Rattle.std.specs.Prelude.{◌≡◌, ⊤, ℕ, List, [], ◌∷◌, ◌++◌, map, length, All, None, Result, IfErr, OnOk}
@@ -32,7 +32,7 @@ use Rattle.engine.specs.declared.held.Held.{Held}
 use Rattle.engine.specs.declared.noted.Noted.{Noted}
 use Rattle.engine.specs.declared.runs.SpreadStore.{SpreadStore}
 use Rattle.engine.specs.Runs.{prefixes_of, IsRunFault}
-use Rattle.engine.specs.inner.Held.{parts_held, value_held}
+use Rattle.engine.specs.inner.Held.{parts_held, value_held, UsedAreHeld}
 
 -- ---- one step
 
@@ -47,7 +47,7 @@ pub record IsStepDone {T : Type 0} (s : Settings) (t : StepTree) (held : Held) (
   pub made : List Rows
   pub receipts : List ReceiptState
   pub files : after_held.files ≡ held.files
-  pub results : after_held.results ≡ held.results ++ (t.statement, made) ∷ []
+  pub results : after_held.results.items ≡ held.results.items ++ (t.statement, made) ∷ []
   pub parts : SameTables (term_parts (usual_placing s) t.statement (value_held held) t.term) made
   pub plan : after_noted.plan ≡ noted.plan ++ note.Statement t.statement (plan_kind t.term) (length (together made))
       ∷ term_notes (usual_placing s) s.local t.statement (value_held held) t.term
@@ -77,11 +77,14 @@ numbered_exchanges s files c steps =
 abbrev pub bare_exchanges : Settings → List File → CheckedTree → List StepTree → List PlacedExchange
 bare_exchanges s files c steps = map (λ (e : ℕ × PlacedExchange). e.1) (numbered_exchanges s files c steps)
 
--- some steps have run: the rows of each lie where they are placed, as bags; the plan, the traffic and the receipts are theirs,
--- the taps rose by their exchanges, and nothing is wrong with them
-pub record AreRun {T : Type 0} (s : Settings) (files : List File) (c : CheckedTree) (steps : List StepTree)
+-- some steps have run and others are left: the rows of each result that is still used lie where they are placed, as bags; the
+-- plan, the traffic and the receipts are those of the steps that have run, the taps rose by their exchanges, and nothing is wrong
+-- with them
+pub record AreRun {T : Type 0} (s : Settings) (files : List File) (c : CheckedTree) (steps left : List StepTree)
     (held : Held) (noted : Noted) (totals : T → Totals) (tag : T → ℕ) (before after : List T) : Type 0 where
-  pub held_as_meant : AreHeld (usual_placing s) files c steps held.files held.results
+  pub every : List (ℕ × List Rows)
+  pub made_as_meant : AreHeld (usual_placing s) files c steps held.files every
+  pub used : UsedAreHeld c.stores left every held.results.items
   pub plan : noted.plan ≡ flat_map (step_notes (usual_placing s) s.local (meant (usual_placing s) files c)) steps
   pub traffic : noted.traffic ≡ map (traffic_note s.workers) (numbered_exchanges s files c steps)
   pub receipts : AreShown (size_of s) (flat_map shown_moves (bare_exchanges s files c steps)) noted.receipts

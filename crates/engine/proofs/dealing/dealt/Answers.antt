@@ -1,4 +1,4 @@
-use Rattle.std.proofs.Common.{ℕ, ◌∙◌, ◌+◌, ◌++◌, [], ◌∷◌, arith, ap, sym, length, map}
+use Rattle.std.proofs.Common.{ℕ, ◌∙◌, ◌++◌, [], ◌∷◌, arith, ap, sym, length, map}
 use Rattle.std.specs.List.{range_with_len}
 use Rattle.std.proofs.lemmas.List.FromFn.{length-map-range_with_len, map-range_with_len_more}
 use Rattle.myrial_ast.specs.Combinations.{Rows}
