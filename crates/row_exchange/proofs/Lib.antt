@@ -1,4 +1,5 @@
 -- Laws of what the crate promises.
+pub mod ViewLemmas
 pub mod FillingLemmas
 pub mod ShippingLemmas
 pub mod ReceivingLemmas

@@ -1,9 +1,10 @@
 //! Filling batches: each row's place goes to the batch of each of its cells.
-ghost use Rattle.std.specs.Prelude.{◌≡◌, ◌<◌, [], ◌∷◌, length, map, replicate, All, IfOk, OnOk, slice_set};
+ghost use Rattle.std.specs.Prelude.{◌≡◌, ◌<◌, ◌^◌, [], ◌∷◌, length, map, replicate, All, IfOk, IfSome, OnOk, slice_set};
+ghost use Rattle.rel_base.specs.Picks.{items_at};
 ghost use Rattle.row_exchange.specs.Routes.{times_to, AreRouted, IsRouted};
 ghost use Rattle.row_exchange.specs.Exchanges.{IsSize};
 ghost use Rattle.row_exchange.specs.inner.Shipments.{Gathers, no_more, pending_for, row_at, filling_of, IsFilling, IsShipment};
-ghost use Rattle.row_exchange.specs.inner.Shipments.{Finishes, AddsAtom, IsFilled};
+ghost use Rattle.row_exchange.specs.inner.Shipments.{Finishes, AddsAtom, IsFilled, AreFrom};
 
 use crate::{Cells, Route, Size, Spreads};
 use exchange_channels::Batch;
@@ -63,7 +64,7 @@ impl<'a> Filling<'a> {
         ensures pending { OnOk result (self.new.pending ≡ slice_set self.old.pending cell []) }
     {
         let places = &self.pending[cell as usize];
-        let rows = self.rows.at_places(self.alloc, places.as_slice())?;
+        let rows = rows_at(self.alloc, self.rows, places.as_slice())?;
         let atom = self.atom;
         self.filled.push((cell, Batch { atom, rows }))?;
         self.pending[cell as usize].clear();
@@ -181,6 +182,33 @@ impl<'a> Filling<'a> {
     {
         self.filled
     }
+}
+
+/// The first place, where these stand one behind another.
+fn first_of_run(places: &[u32]) -> Option<u32>
+    ensures { IfSome result (λ from. AreFrom from places.now) }
+{
+    let first = *places.first()?;
+    for (i, place) in places.iter().enumerate() {
+        if u64::from(*place) != u64::from(first) + i as u64 {
+            return None;
+        }
+    }
+    Some(first)
+}
+
+/// The rows at these places: a view, where they stand one behind another.
+fn rows_at(alloc: Global, rows: &Rows, places: &[u32]) -> Result<Rows, Memory>
+    requires within { All (λ place. place < length rows.now) places.now }
+    requires some { 0 < length places.now }
+    requires room { length places.now < 2 ^ 32 }
+    ensures { IfOk result (λ made. made ≡ items_at rows.now places.now) }
+{
+    let Some(from) = first_of_run(places) else {
+        return rows.at_places(alloc, places);
+    };
+    let behind = rows.len() - from - places.len() as u32;
+    rows.slice(alloc, from, rows.len() - behind)
 }
 
 /// So many empty lists.

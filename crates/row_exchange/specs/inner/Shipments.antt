@@ -52,6 +52,10 @@ pub record FillingState : Type 0 where
 abbrev pub pending_for : FillingState → ℕ → List ℕ
 pending_for s w = slice_index_or s.pending w []
 
+-- places one behind another, from this one on
+abbrev pub AreFrom : ℕ → List ℕ → Type 0
+AreFrom from places = (k : ℕ) → k < length places → slice_index_or places k 0 ≡ from + k
+
 -- the rows that wait for w
 abbrev pub waiting : FillingState → ℕ → Rows
 waiting s w = items_at s.rows (pending_for s w)
