@@ -11,4 +11,5 @@ mod RunLemmas
 mod CheckedLemmas
 mod MoveLemmas
 mod WordsLemmas
+mod TrialAnswerLemmas
 mod WorkedRows

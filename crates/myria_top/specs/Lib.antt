@@ -8,5 +8,6 @@ pub mod Requests
 pub mod Printed
 pub mod Runs
 pub mod Headline
+pub mod TrialAnswers
 pub mod Moves
 pub mod inner

@@ -2,8 +2,9 @@
 //!
 //! Stands on `command_words` for the words, on `myrial_lexer` and `myrial_parser` for scripts, on `myrial_types` for their
 //! typing, whose laws tie the steps to what the script means, on `engine` for the run of the steps at workers, on
-//! `myrial_meaning` for what a script means without workers, on `trial_gen` for the relations and the script of a trial, on
-//! `output_texts` for what is printed, on `relation_csv` for the files of relations and on `rel_io` for what is read and written.
+//! `myrial_meaning` for what a script means without workers, on `trial_gen` and `trial_laws` for the relations and the script
+//! of a trial, on `output_texts` for what is printed, on `relation_csv` for the files of relations and on `rel_io` for what is
+//! read and written.
 //!
 //! Promises: `run_words` has the headline as a clause. Each answer has its cause. After `Done` the output took exactly
 //! the text of the mode: what the script stores, which is its meaning, and the plan and the traffic that are asked for; the
@@ -18,6 +19,7 @@
 
 mod counted;
 mod file_names;
+mod laws;
 mod messages;
 mod outcomes;
 mod preparing;
@@ -26,6 +28,7 @@ mod run;
 mod unprinted;
 
 pub use counted::fresh_taps;
+pub use laws::trials_are_of_their_run;
 pub use messages::tell;
 pub use outcomes::Outcome;
 pub use run::run_words;
