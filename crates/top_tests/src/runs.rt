@@ -42,11 +42,6 @@ const JOIN: File<'static> = (
     "J = [from scan(R) as a, scan(R) as b where a.y = b.x emit a.x, b.y]; store(J, Out);",
 );
 
-const LOAD: File<'static> = (
-    "q",
-    "P = load('p.txt', csv(schema(n:string, k:int), skip=1)); store(P, Out);",
-);
-
 const NO_SCRIPT: File<'static> = ("p", "");
 
 const NO_RELATION: File<'static> = ("public:adhoc:S.csv", "");
@@ -154,19 +149,7 @@ fn compare_run<R: Abort + Threads + Wait + Sync>(
     Ok(())
 }
 
-const PRINTING: [Case<'static>; 4] = [
-    (
-        "a scan",
-        NAMED,
-        SCRIPT,
-        RELATION,
-        (0, 0, 0),
-        (
-            0,
-            "-- store public:adhoc:Out 3 rows\nx:int,y:int\n1,2\n2,5\n3,1\n",
-            "",
-        ),
-    ),
+const PRINTING: [Case<'static>; 3] = [
     (
         "doubled rows, signs, carriage returns, and a name that needs quotes",
         NAMED,
@@ -193,87 +176,6 @@ const PRINTING: [Case<'static>; 4] = [
             "-- store public:adhoc:Out 5 rows\nx:int,y:int\n1,3\n1,3\n2,1\n2,1\n3,2\n",
             "",
         ),
-    ),
-    (
-        "a loaded file, which has its own name",
-        NAMED,
-        LOAD,
-        ("p.txt", "made by hand\nann,3\nbob,4\n"),
-        (0, 0, 0),
-        (
-            0,
-            "-- store public:adhoc:Out 2 rows\nn:string,k:int\nann,3\nbob,4\n",
-            "",
-        ),
-    ),
-];
-
-const KEYS: File<'static> = ("public:adhoc:R.csv", "x:int\n0\n1\n2\n3\n");
-
-const JOIN_OF_KEYS: File<'static> = (
-    "q",
-    "J = [from scan(R) as a, scan(R) as b where a.x = b.x emit a.x]; store(J, Out);",
-);
-
-const ASKED: [Case<'static>; 5] = [
-    (
-        "two workers, the plan and then the traffic",
-        &["myria", "--traffic", "--plan", "--workers", "2", "q"],
-        JOIN_OF_KEYS,
-        KEYS,
-        (0, 0, 0),
-        (
-            0,
-            "-- store public:adhoc:Out 4 rows\nx:int\n0\n1\n2\n3\n\
-             -- plan 1 from rows 4\n-- item 1 rows 4 pushed 0 kept 4\n\
-             -- item 2 rows 4 pushed 0 kept 4\n\
-             -- variable 1 1.$0 2.$0 share 2\n-- shuffle hc join tj cells 2 load 8/2\n\
-             -- traffic 1 join hc\n-- worker 0 received 2 listed 1\n\
-             -- worker 1 received 6 listed 3\n",
-            "",
-        ),
-    ),
-    (
-        "two items at a time, joined by hashes",
-        &[
-            "myria",
-            "--shuffle",
-            "rs",
-            "--join=hj",
-            "--workers=2",
-            "--traffic",
-            "q",
-        ],
-        JOIN_OF_KEYS,
-        KEYS,
-        (0, 0, 0),
-        (
-            0,
-            "-- store public:adhoc:Out 4 rows\nx:int\n0\n1\n2\n3\n\
-             -- traffic 1 join rs step 2\n-- worker 0 received 4 listed 2\n\
-             -- worker 1 received 4 listed 2\n",
-            "",
-        ),
-    ),
-    (
-        "a check, which prints no plan",
-        &["myria", "--mode", "check", "--plan", "--traffic", "q"],
-        SCRIPT,
-        RELATION,
-        (0, 0, 0),
-        (
-            0,
-            "-- store public:adhoc:Out 3 rows\nx:int,y:int\n1,2\n2,5\n3,1\n",
-            "",
-        ),
-    ),
-    (
-        "the plan alone",
-        &["myria", "--mode", "explain", "q"],
-        SCRIPT,
-        RELATION,
-        (0, 0, 0),
-        (0, "-- plan 1 copy rows 3\n", ""),
     ),
     (
         "a trial, where the first fetch would fail",
@@ -365,16 +267,8 @@ const REFUSED: [Case<'static>; 9] = [
 ];
 
 #[test]
-fn a_run_prints_what_the_script_stores(rt: HostRuntime) -> Result<(), Memory> {
+fn a_run_prints_what_is_asked_for(rt: HostRuntime) -> Result<(), Memory> {
     for case in PRINTING {
-        compare_run(&rt, rt.alloc(), case)?;
-    }
-    Ok(())
-}
-
-#[test]
-fn a_run_does_what_its_words_ask_for(rt: HostRuntime) -> Result<(), Memory> {
-    for case in ASKED {
         compare_run(&rt, rt.alloc(), case)?;
     }
     Ok(())
