@@ -13,16 +13,16 @@ use std::sync::Wait;
 use std::thread::Threads;
 
 /// A file: its name and its text.
-type File<'a> = (&'a str, &'a str);
+pub(crate) type File<'a> = (&'a str, &'a str);
 
 /// The numbers of the fetch, of the write and of the write to standard error that fail; 0 for none.
-type Failing = (u32, u32, u32);
+pub(crate) type Failing = (u32, u32, u32);
 
 /// The exit status, the output and the line on standard error.
-type Wanted<'a> = (u8, &'a str, &'a str);
+pub(crate) type Wanted<'a> = (u8, &'a str, &'a str);
 
 /// A run: what it shows, its words, its script, its relation, what fails, and what is wanted.
-type Case<'a> = (
+pub(crate) type Case<'a> = (
     &'a str,
     &'a [&'a str],
     File<'a>,
@@ -76,7 +76,7 @@ fn two_files(alloc: Global, first: (&str, &str), second: (&str, &str)) -> Result
     Ok(contents)
 }
 
-fn words_of(alloc: Global, words: &[&str]) -> Result<Vec<Text>, Memory> {
+pub(crate) fn words_of(alloc: Global, words: &[&str]) -> Result<Vec<Text>, Memory> {
     let mut texts = Vec::new(alloc);
     for word in words {
         texts.push(Text::of(alloc, word)?)?;
@@ -86,14 +86,14 @@ fn words_of(alloc: Global, words: &[&str]) -> Result<Vec<Text>, Memory> {
 
 /// What a run reads and writes.
 #[derive(Drop)]
-struct Outside {
-    shelf: MemShelf,
-    out: MemSink,
-    err: MemSink,
+pub(crate) struct Outside {
+    pub(crate) shelf: MemShelf,
+    pub(crate) out: MemSink,
+    pub(crate) err: MemSink,
 }
 
 /// Two files, and sinks that have taken nothing. Standard error takes a byte at once.
-fn outside_of(
+pub(crate) fn outside_of(
     alloc: Global,
     script: File<'_>,
     relation: File<'_>,
@@ -113,7 +113,7 @@ fn outside_of(
 }
 
 /// Compares what a run answered and wrote.
-fn compare_answer(
+pub(crate) fn compare_answer(
     rt: &impl Abort,
     name: &str,
     outcome: &Outcome,
@@ -126,7 +126,7 @@ fn compare_answer(
 }
 
 /// Runs the words over two files, and compares what comes out.
-fn compare_run<R: Abort + Threads + Wait + Sync>(
+pub(crate) fn compare_run<R: Abort + Threads + Wait + Sync>(
     rt: &R,
     alloc: Global,
     case: Case<'_>,
