@@ -4,8 +4,8 @@ ghost use Rattle.algebra.specs.ShapeTrees.{shape_tree_of};
 ghost use Rattle.shuffle_tests.specs.inner.Numbers.{ListsPositive};
 
 use crate::numbers::dealt;
-use algebra::{Atom, Atoms, ColTypes, JoinFault, JoinKind, JoinShape, Variables};
-use join_runs::{keep_rows, list_local};
+use algebra::{Atom, Atoms, ColTypes, JoinFault, JoinShape, Variables};
+use join_runs::{keep_rows, list_alone};
 use myrial_ast::{BinOp, Scalar, Scalars};
 use rel_base::{ColType, Memory, Spread, Value};
 use row_exchange::Spreads;
@@ -39,24 +39,21 @@ fn listed_at_two<R: Threads + Wait + Sync>(
     rt: &R,
     alloc: Global,
     numbers: &[i64],
-    local: JoinKind,
 ) -> Result<Spread, JoinFault> {
     let shape = positive_numbers(alloc)?;
     let mut parts = Spreads::new(alloc);
     parts.push(dealt(alloc, numbers, 2)?)?;
     let kept = keep_rows(alloc, &shape, &parts)?;
-    list_local(rt, alloc, &shape, kept.get(0), local)
+    list_alone(rt, alloc, &shape, kept.get(0))
 }
 
 #[test]
 fn positive_numbers_are_listed_where_they_lie(rt: HostRuntime) -> Result<(), JoinFault> {
-    for local in [JoinKind::Tj, JoinKind::Hj] {
-        let listed = listed_at_two(&rt, rt.alloc(), &[0, 1, 2, 3], local)?;
-        let [first, second] = listed.as_slice() else {
-            return Err(JoinFault::TooManyRows);
-        };
-        assert_eq!(rt; first.len(), 1);
-        assert_eq!(rt; second.len(), 2);
-    }
+    let listed = listed_at_two(&rt, rt.alloc(), &[0, 1, 2, 3])?;
+    let [first, second] = listed.as_slice() else {
+        return Err(JoinFault::TooManyRows);
+    };
+    assert_eq!(rt; first.len(), 1);
+    assert_eq!(rt; second.len(), 2);
     Ok(())
 }
