@@ -15,10 +15,10 @@ use std::alloc::Global;
 use std::str;
 use std::thread::{Threads, map_vec};
 
-/// The least number of bytes of a file that is read by more jobs than one.
-const LEAST_BYTES: usize = 262_144;
+/// The least number of bytes for each job, where there are several.
+const LEAST_BYTES: usize = 131_072;
 
-/// Reads the lines of a plain file side by side, in so many jobs; a short file is read in one.
+/// Reads the lines of a plain file side by side, in so many jobs; a short file in fewer, or in one.
 #[derive(Drop)]
 pub(crate) struct InJobs<'r, R> {
     pub(crate) rt: &'r R,
@@ -35,10 +35,11 @@ impl<R: Threads + Sync> PlainReader for InJobs<'_, R> {
         bytes: &[u8],
         skip: u64,
     ) -> Result<Option<Rows>, Memory> {
-        if self.jobs <= 1 || bytes.len() < LEAST_BYTES {
+        let jobs = (bytes.len() / LEAST_BYTES).min(self.jobs as usize);
+        if jobs <= 1 {
             return plain_rows(alloc, schema, bytes, skip);
         }
-        plain_rows_in_jobs(self.rt, alloc, schema, bytes, skip, self.jobs)
+        plain_rows_in_jobs(self.rt, alloc, schema, bytes, skip, jobs)
     }
 }
 
@@ -49,7 +50,7 @@ fn plain_rows_in_jobs<R: Threads + Sync>(
     schema: &Schema,
     bytes: &[u8],
     skip: u64,
-    jobs: u32,
+    jobs: usize,
 ) -> Result<Option<Rows>, Memory>
     ensures { IfOk result (λ found. IfSome found (λ rows.
         rows_of_records schema.now (drop skip (records_of_bytes bytes.now)) ≡ Ok rows)) }
@@ -66,13 +67,13 @@ fn plain_rows_in_jobs<R: Threads + Sync>(
 }
 
 /// Cuts a text into so many ranges of about equal length, behind line feeds.
-fn ranges_of(alloc: Global, text: &str, count: u32) -> Result<Vec<&str>, Memory>
+fn ranges_of(alloc: Global, text: &str, count: usize) -> Result<Vec<&str>, Memory>
     ensures { IfOk result (λ ranges. AreRanges text.now (map (λ range. range.now) ranges.items)) }
 {
     let mut ranges = Vec::new(alloc);
     let mut left = text;
     'cuts: for made in 1..count {
-        let (range, rest) = split_behind_line(left, left.len() / (count - made + 1) as usize);
+        let (range, rest) = split_behind_line(left, left.len() / (count - made + 1));
         ranges.push(range)?;
         left = rest;
     }
