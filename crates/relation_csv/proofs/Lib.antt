@@ -17,5 +17,8 @@ pub mod DecimalLemmas
 pub mod DigitLemmas
 pub mod MarkLemmas
 pub mod NearLemmas
+pub mod CutLemmas
+pub mod RenumberLemmas
+pub mod RangeLemmas
 pub mod RoundTripLemmas
 pub mod WorkedRows

@@ -7,7 +7,7 @@ use Rattle.csv.specs.Writing.{default_writer, needs_byte}
 use Rattle.memchr.specs.Find.{IsFirstByte, Nowhere, Passes, is_byte2}
 
 -- no byte at the front passes a test that each of them fails
-list_any-none : (test : ℕ → Bool) (xs : List ℕ) (n : ℕ) → n ≤ length xs → ((k : ℕ) → k < n → test (get_or xs k 0) ≡ false)
+pub list_any-none : (test : ℕ → Bool) (xs : List ℕ) (n : ℕ) → n ≤ length xs → ((k : ℕ) → k < n → test (get_or xs k 0) ≡ false)
     → list_any test (take n xs) ≡ false
 list_any-none test xs zero few fails = refl
 list_any-none test [] (suc n) few fails = refl

@@ -1,3 +1,4 @@
 -- Words of private functions.
 pub mod RecordsLeft
 pub mod PlainLines
+pub mod Ranges

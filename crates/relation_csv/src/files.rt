@@ -5,11 +5,13 @@ ghost use Rattle.relation_csv.specs.inner.RecordsLeft.{IsSteady, records_left};
 
 use crate::RelFault;
 use crate::fields::{row_of, schema_of};
-use crate::plain::plain_rows;
+use crate::jobs::InJobs;
+use crate::plain::{InTurn, PlainReader};
 use crate::records::{Next, read_next, reader_of, skip_records};
 use csv::{Reader, StringRecord};
 use rel_base::{Duplicate, MOST_ROWS, Relation, Rows, Schema};
 use std::alloc::Global;
+use std::thread::Threads;
 
 /// Reads the relation of a file.
 ///
@@ -20,6 +22,26 @@ use std::alloc::Global;
 pub fn read_relation(alloc: Global, bytes: &[u8]) -> Result<Relation, RelFault>
     ensures { IsReadAs result (relation_of_bytes bytes.now) }
 {
+    relation_by(alloc, bytes, &InTurn)
+}
+
+/// Reads the relation of a file as `read_relation` does: the lines of a large plain file side by side, in so many jobs.
+pub fn read_relation_in_jobs<R: Threads + Sync>(
+    rt: &R,
+    alloc: Global,
+    bytes: &[u8],
+    jobs: u32,
+) -> Result<Relation, RelFault>
+    ensures { IsReadAs result (relation_of_bytes bytes.now) }
+{
+    relation_by(alloc, bytes, &InJobs { rt, jobs })
+}
+
+/// Reads the relation of a file, its rows by this reader if it can.
+fn relation_by<P: PlainReader>(alloc: Global, bytes: &[u8], plain: &P) -> Result<Relation, RelFault>
+    requires { P.is_ready plain.now }
+    ensures { IsReadAs result (relation_of_bytes bytes.now) }
+{
     let mut reader = reader_of(alloc, bytes);
     let mut fields = StringRecord::new(alloc);
     match read_next(&mut reader, &mut fields)? {
@@ -28,7 +50,7 @@ pub fn read_relation(alloc: Global, bytes: &[u8]) -> Result<Relation, RelFault>
         Next::Record => {}
     }
     let schema = schema_of(alloc, &fields)?;
-    let rows = rows_behind(alloc, &schema, bytes, 1, &mut reader)?;
+    let rows = rows_behind(alloc, &schema, bytes, 1, plain, &mut reader)?;
     Ok(Relation::new(schema, rows))
 }
 
@@ -44,29 +66,60 @@ pub fn read_with(
 ) -> Result<Relation, RelFault>
     ensures { IsReadAs result (relation_with bytes.now schema.now skip) }
 {
+    relation_under(alloc, bytes, schema, skip, &InTurn)
+}
+
+/// Reads the relation of a file without a header as `read_with` does: the lines of a large plain file side by side, in so
+/// many jobs.
+pub fn read_with_in_jobs<R: Threads + Sync>(
+    rt: &R,
+    alloc: Global,
+    bytes: &[u8],
+    schema: &Schema,
+    skip: u64,
+    jobs: u32,
+) -> Result<Relation, RelFault>
+    ensures { IsReadAs result (relation_with bytes.now schema.now skip) }
+{
+    relation_under(alloc, bytes, schema, skip, &InJobs { rt, jobs })
+}
+
+/// Reads the relation of a file without a header, its rows by this reader if it can.
+fn relation_under<P: PlainReader>(
+    alloc: Global,
+    bytes: &[u8],
+    schema: &Schema,
+    skip: u64,
+    plain: &P,
+) -> Result<Relation, RelFault>
+    requires { P.is_ready plain.now }
+    ensures { IsReadAs result (relation_with bytes.now schema.now skip) }
+{
     let schema = schema.copy(alloc)?;
     let mut reader = reader_of(alloc, bytes);
     if !skip_records(alloc, &mut reader, skip)? {
         return Ok(Relation::new(schema, Rows::new(alloc)));
     }
-    let rows = rows_behind(alloc, &schema, bytes, skip, &mut reader)?;
+    let rows = rows_behind(alloc, &schema, bytes, skip, plain, &mut reader)?;
     Ok(Relation::new(schema, rows))
 }
 
 /// Reads the rows of all records that are left, which are those behind the first `skip` of the file: where they stand, or
 /// else record by record.
-fn rows_behind(
+fn rows_behind<P: PlainReader>(
     alloc: Global,
     schema: &Schema,
     bytes: &[u8],
     skip: u64,
+    plain: &P,
     reader: &mut Reader<&[u8]>,
 ) -> Result<Rows, RelFault>
+    requires ready { P.is_ready plain.now }
     requires steady { IsSteady reader.old }
     requires left { records_left reader.old ≡ drop skip (records_of_bytes bytes.now) }
     ensures { IsReadAs result (rows_of_records schema.now (records_left reader.old)) }
 {
-    match plain_rows(alloc, schema, bytes, skip)? {
+    match plain.rows(alloc, schema, bytes, skip)? {
         Some(rows) => Ok(rows),
         None => rows_of(alloc, schema, reader),
     }

@@ -20,7 +20,44 @@ use rel_base::{MOST_ROWS, Memory, Row, Rows, Schema};
 use std::alloc::Global;
 use std::str;
 
-/// The rows behind the first `skip` records of a file, if they can be read where they stand. They are shared from the start.
+/// A way to read plain files.
+pub(crate) trait PlainReader {
+    /// What the reader needs before it reads.
+    ghost is_ready: { Self → Type 0 };
+
+    /// The rows behind the first `skip` records of a file, if they can be read where they stand. They are shared from the
+    /// start.
+    fn rows(
+        &self,
+        alloc: Global,
+        schema: &Schema,
+        bytes: &[u8],
+        skip: u64,
+    ) -> Result<Option<Rows>, Memory>
+        requires { is_ready self.now }
+        ensures { IfOk result (λ found. IfSome found (λ rows.
+            rows_of_records schema.now (drop skip (records_of_bytes bytes.now)) ≡ Ok rows)) };
+}
+
+/// Reads a plain file line by line.
+pub(crate) struct InTurn;
+
+impl PlainReader for InTurn {
+    ghost is_ready = { λ _. Unit {0} };
+
+    fn rows(
+        &self,
+        alloc: Global,
+        schema: &Schema,
+        bytes: &[u8],
+        skip: u64,
+    ) -> Result<Option<Rows>, Memory> {
+        plain_rows(alloc, schema, bytes, skip)
+    }
+}
+
+/// The rows behind the first `skip` records of a file, line by line, if they can be read where they stand. They are shared
+/// from the start.
 pub(crate) fn plain_rows(
     alloc: Global,
     schema: &Schema,
@@ -40,7 +77,7 @@ pub(crate) fn plain_rows(
 }
 
 /// The bytes behind a byte order mark at their start, if there is one.
-fn without_mark(bytes: &[u8]) -> &[u8]
+pub(crate) fn without_mark(bytes: &[u8]) -> &[u8]
     ensures { result.now ≡ strip_bom bytes.now }
 {
     match bytes {
@@ -57,7 +94,7 @@ fn is_mark(a: u8, b: u8, c: u8) -> bool
 }
 
 /// What stands behind so many records; nothing where there are fewer.
-fn behind_records(text: &str, count: u64) -> Option<&str>
+pub(crate) fn behind_records(text: &str, count: u64) -> Option<&str>
     ensures { IfSome result (λ rest. drop count (records_after state.StartRecord text.now)
         ≡ records_after state.StartRecord rest.now) }
 {
@@ -90,7 +127,11 @@ fn behind_record(line: &str) -> Option<&str>
 }
 
 /// The rows of all records of a text.
-fn rows_of_lines(alloc: Global, schema: &Schema, text: &str) -> Result<Option<Rows>, Memory>
+pub(crate) fn rows_of_lines(
+    alloc: Global,
+    schema: &Schema,
+    text: &str,
+) -> Result<Option<Rows>, Memory>
     ensures { IfOk result (λ found. IfSome found (λ rows.
         rows_of_records schema.now (records_after state.StartRecord text.now) ≡ Ok rows)) }
 {
