@@ -136,9 +136,17 @@ fn prepared_files<R: Threads + Wait + Sync, F: Shelf, T: Tap + Send>(
         Ok(needed) => needed,
         Err(_) => return Err(Outcome::Memory),
     };
-    let files = match read_files(alloc, shelf, &needed) {
+    let files = match read_files(rt, alloc, shelf, &needed, reading_jobs(request)) {
         Ok(files) => files,
         Err(refusal) => return Err(refusal),
     };
     text_of_run(rt, alloc, request, script, &files, taps)
+}
+
+/// In how many jobs a long file is read: as many as there are workers, and one in a check, which has none.
+fn reading_jobs(request: &Request) -> u32 {
+    match request.mode {
+        Mode::Check => 1,
+        Mode::Run | Mode::Explain | Mode::Trial => request.settings.workers,
+    }
 }

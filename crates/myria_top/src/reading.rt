@@ -23,8 +23,9 @@ use rel_base::{
     Duplicate, Files, Key, MOST_RELATION_BYTES, MOST_SCRIPT_BYTES, Memory, Relation, Text,
 };
 use rel_io::{Shelf, ShelfFault};
-use relation_csv::{RelFault, read_relation, read_with};
+use relation_csv::{RelFault, read_relation_in_jobs, read_with_in_jobs};
 use std::alloc::Global;
+use std::thread::Threads;
 
 /// The script of this name.
 pub fn read_script<F: Shelf>(alloc: Global, shelf: &mut F, name: &Text) -> Result<Script, Outcome>
@@ -67,11 +68,13 @@ pub fn script_of_text(alloc: Global, bytes: &[u8]) -> Result<Script, Outcome>
     }
 }
 
-/// The relations of these files, each read wholly before the next.
-pub fn read_files<F: Shelf>(
+/// The relations of these files, each read wholly before the next, and a long one in so many jobs.
+pub fn read_files<R: Threads + Sync, F: Shelf>(
+    rt: &R,
     alloc: Global,
     shelf: &mut F,
     fetches: &Fetches,
+    jobs: u32,
 ) -> Result<Files, Outcome>
     requires { AllPairs (λ f g. same_key f.key g.key ≡ false) fetches.now }
     ensures read { spec.ReadsStep (files_verdict (F.content shelf.old) fetches.now)
@@ -83,7 +86,7 @@ pub fn read_files<F: Shelf>(
 {
     let mut files = Files::new(alloc);
     for fetch in fetches.as_slice() {
-        let relation = match read_fetched(alloc, shelf, fetch) {
+        let relation = match read_fetched(rt, alloc, shelf, fetch, jobs) {
             Ok(relation) => relation,
             Err(refusal) => return Err(refusal),
         };
@@ -104,11 +107,13 @@ fn add_file(alloc: Global, files: &mut Files, key: &Key, relation: Relation) -> 
     files.push((key, relation))
 }
 
-/// The relation of this file.
-pub fn read_fetched<F: Shelf>(
+/// The relation of this file, which is read in so many jobs where it is long.
+pub fn read_fetched<R: Threads + Sync, F: Shelf>(
+    rt: &R,
     alloc: Global,
     shelf: &mut F,
     fetch: &Fetch,
+    jobs: u32,
 ) -> Result<Relation, Outcome>
     ensures read { spec.ReadsStep
         (relation_verdict fetch.now (F.content shelf.old (file_name_of fetch.now.key)))
@@ -134,20 +139,26 @@ pub fn read_fetched<F: Shelf>(
     if file.len() > MOST_RELATION_BYTES {
         return Err(too_long(alloc, key));
     }
-    match relation_of(alloc, &file, &fetch.form) {
+    match relation_of(rt, alloc, &file, &fetch.form, jobs) {
         Ok(relation) => Ok(relation),
         Err(fault) => Err(bad_relation(alloc, key, fault)),
     }
 }
 
 /// The relation of the bytes of a file: a loaded file is read by its form, and any other by its header.
-fn relation_of(alloc: Global, bytes: &[u8], form: &Option<LoadForm>) -> Result<Relation, RelFault>
+fn relation_of<R: Threads + Sync>(
+    rt: &R,
+    alloc: Global,
+    bytes: &[u8],
+    form: &Option<LoadForm>,
+    jobs: u32,
+) -> Result<Relation, RelFault>
     ensures read { IsReadAs result (relation_read form.now bytes.now) }
     ensures typed { IfOk result (λ relation. All (HasTypes relation.schema) relation.rows) }
 {
     match form {
-        None => read_relation(alloc, bytes),
-        Some(form) => read_with(alloc, bytes, &form.schema, form.skip),
+        None => read_relation_in_jobs(rt, alloc, bytes, jobs),
+        Some(form) => read_with_in_jobs(rt, alloc, bytes, &form.schema, form.skip, jobs),
     }
 }
 

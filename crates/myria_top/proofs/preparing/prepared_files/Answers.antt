@@ -1,4 +1,4 @@
-use Rattle.std.proofs.Common.{◌≡◌, ℕ, List, Ok, false, sym, subst}
+use Rattle.std.proofs.Common.{◌≡◌, ℕ, List, Ok, false, rules, sym, subst}
 use Rattle.std.specs.Prelude.{All, AllPairs}
 use Rattle.rel_base.specs.Keys.{File, same_key}
 use Rattle.myrial_ast.specs.Trees.{trees_of}
@@ -18,7 +18,7 @@ use Rattle.myria_top.proofs.preparing.prepared_files.Goals as goal
 
 pub read_files-requires : goal.read_files-requires
 read_files-requires g c =
-    subst (AllPairs (λ (f g' : Fetch). same_key f.key g'.key ≡ false)) (sym c.in-Ok.ensures) (fetches-distinct (trees_of c.args.script.now))
+    (search rules, subst (AllPairs (λ (f g' : Fetch). same_key f.key g'.key ≡ false)) (sym c.in-Ok.ensures) (fetches-distinct (trees_of c.args.script.now)))
 
 pub text_of_run-requires-clause-formed : goal.text_of_run-requires-clause-formed
 text_of_run-requires-clause-formed g c κs within =
