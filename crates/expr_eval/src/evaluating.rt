@@ -84,11 +84,18 @@ pub fn holds<R: RowView>(scalar: &Scalar, row: &R) -> Result<bool, Overflow>
 }
 
 /// The value of a scalar on a row. Memory is asked for where it is a string, and nowhere else.
+#[inline]
 pub fn eval<R: RowView>(alloc: Global, scalar: &Scalar, row: &R) -> Result<Value, EvalFault>
     ensures value { IfOk result (λ value. value ≡ exact_value (scalar_tree_of scalar.now) (R.values row.now)) }
     ensures fits { OnOk result (fits (scalar_tree_of scalar.now) (R.values row.now) ≡ true) }
     ensures fault { IfErr result (λ fault. IsFault fault (scalar_tree_of scalar.now) (R.values row.now)) }
 {
+    // Most scalars are a column, and most values a number: these need no evaluation.
+    if let Scalar::At(place) = scalar {
+        if let Some(Value::Int(number)) = row.column(*place) {
+            return Ok(Value::Int(*number));
+        }
+    }
     match lent(scalar, row) {
         Err(Overflow) => Err(EvalFault::Overflow),
         Ok(Lent::Int(number)) => Ok(Value::Int(number)),

@@ -1,6 +1,5 @@
 use Rattle.expr_eval.proofs.PlaceLemmas.{value_at-past}
-use Rattle.myrial_ast.specs.Scalars.{fits}
-use Rattle.std.proofs.Common.{sym, arith}
+use Rattle.std.proofs.Common.{arith}
 use Rattle.expr_eval.proofs.evaluating.+lent.Goals as goal
 
 pub returns-in-None-clause-value : goal.returns-in-None-clause-value
