@@ -5,14 +5,16 @@
 #![tactic(auto)]
 
 #[cfg(test)]
-mod cells;
-#[cfg(test)]
 mod homes;
+#[cfg(test)]
+mod joins;
 #[cfg(test)]
 mod locals;
 #[cfg(test)]
 mod numbers;
 #[cfg(test)]
 mod positives;
+#[cfg(test)]
+mod refusals;
 #[cfg(test)]
 mod runs;

@@ -1,0 +1,2 @@
+-- Laws of what the tests ask.
+pub mod FileLemmas
