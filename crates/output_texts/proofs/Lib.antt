@@ -1,4 +1,5 @@
 pub mod PieceLemmas
+pub mod BlockLemmas
 pub mod StoreLemmas
 mod TrialLemmas
 mod LawLemmas

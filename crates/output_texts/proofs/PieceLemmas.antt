@@ -1,11 +1,12 @@
 -- What a sink has taken of a text, piece after piece.
-use Rattle.std.proofs.Common.{◌≡◌, ℕ, ◌+◌, ◌-◌, ◌<◌, ◌≤◌, List, [], ◌∷◌, ◌++◌, get_or, length, take, drop, Option, Result, Ok, Err, sym, ◌∙◌, ap, subst, arith, add-one, append_assoc}
+use Rattle.std.proofs.Common.{◌≡◌, ℕ, zero, suc, ◌+◌, ◌-◌, ◌<◌, ◌≤◌, List, [], ◌∷◌, ◌++◌, get_or, length, take, drop, Option, Result, Ok, Err, sym, ◌∙◌, ap, subst, arith, add-one, append_assoc}
 use Rattle.std.proofs.Math.Seq.{take-add, take-append-add, take-append-le, take-suc}
 use Rattle.std.specs.List.{flat_map}
 use Rattle.std.proofs.lemmas.List.{length-append, append-nil, take_rest, take_all, take-append-drop}
 use Rattle.std.proofs.lemmas.List.Concat.{flat_map-append}
 use Rattle.std.proofs.KnownBytes.{Appends-nil, Appends-trans}
 use Rattle.std.specs.Io.KnownBytes.{Appends}
+use Rattle.rel_base.specs.Picks.{joined}
 use Rattle.rel_io.specs.Outside.{TakesPart}
 use Rattle.rel_io.specs.Sinks.{Offers, SinkState, Written}
 use Rattle.rel_io.specs.declared.sinks.SinkFault.{SinkFault}
@@ -100,6 +101,23 @@ flat_map-first f [] d first h e = absurd (omega arith)
 flat_map-first f (x ∷ xs) d first h e =
     let others : take (length (x ∷ xs) - 1) (drop 1 (x ∷ xs)) ≡ xs = take_rest (x ∷ xs) 1 in
     λ i. sym e i ++ flat_map f (sym others i)
+
+-- ---- a text in blocks
+
+-- the blocks so far, the next one, and what stands behind it
+pub blocks_at : (blocks : List (List ℕ)) (last block : List ℕ) (i : ℕ) → i < length blocks → block ≡ get_or blocks i block
+    → joined blocks ++ last ≡ joined (take i blocks) ++ (block ++ (joined (drop (suc i) blocks) ++ last))
+blocks_at [] last block i low is = absurd (omega (arith, low))
+blocks_at (first ∷ blocks) last block zero low is =
+    append_assoc first (joined blocks) last ∙ ap (λ (t : List ℕ). t ++ (joined blocks ++ last)) (sym is)
+blocks_at (first ∷ blocks) last block (suc i) low is =
+    append_assoc first (joined blocks) last
+    ∙ ap (λ (t : List ℕ). first ++ t) (blocks_at blocks last block i (omega (arith, low)) is)
+    ∙ sym (append_assoc first (joined (take i blocks)) (block ++ (joined (drop (suc i) blocks) ++ last)))
+
+-- all blocks
+pub blocks_whole : (blocks : List (List ℕ)) (last : List ℕ) (i : ℕ) → length blocks ≤ i → joined blocks ++ last ≡ joined (take i blocks) ++ last
+blocks_whole blocks last i low = ap (λ (bs : List (List ℕ)). joined bs ++ last) (sym (take_all i blocks low))
 
 -- ---- a text that grows item by item
 

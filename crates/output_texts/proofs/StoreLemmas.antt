@@ -81,15 +81,15 @@ stores-trial n size stored placed are all = trial_text-same size _ _ (stores-row
 
 -- ---- what was written of a store
 
-pub store_text : (store : SpreadStore) (rows given : List (Bor (List Value))) (count : ℕ) (start before lined headed text : List ℕ)
-    → map (λ row. row.now) rows ≡ sorted (joined store.parts) → given ≡ rows → count ≡ length rows → start ≡ before
-    → lined ≡ start ++ store_line store.key count
+pub store_text : (store : SpreadStore) (rows given : List (Bor (List Value))) (count : ℕ) (before lined headed text : List ℕ)
+    → map (λ row. row.now) rows ≡ sorted (joined store.parts) → given ≡ rows → count ≡ length rows
+    → lined ≡ before ++ store_line store.key count
     → headed ≡ lined ++ header_record store.schema → text ≡ headed ++ flat_map (λ row. row_record row.now) given
     → text ≡ before ++ relation_text (whole_store store)
-store_text store rows given count start before lined headed text collected whole counted here line_of_count header written_given =
+store_text store rows given count before lined headed text collected whole counted line_of_count header written_given =
     let all = joined store.parts in
     let line : lined ≡ before ++ store_line store.key (length rows) =
-    line_of_count ∙ (λ i. here i ++ store_line store.key (counted i)) in
+    line_of_count ∙ (λ i. before ++ store_line store.key (counted i)) in
     let written : text ≡ headed ++ flat_map (λ row. row_record row.now) rows =
     written_given ∙ ap (λ (rs : List (Bor (List Value))). headed ++ flat_map (λ row. row_record row.now) rs) whole in
     let long : length rows ≡ length all =

@@ -3,3 +3,4 @@ pub mod OutputText
 pub mod TrialText
 pub mod Stores
 pub mod Laws
+pub mod inner

@@ -14,7 +14,9 @@
 //! Read `specs/OutputText.antt`, `specs/Stores.antt` and `specs/TrialText.antt`, then `pieces.rt`.
 #![tactic(auto)]
 
+mod blocks;
 mod counting;
+mod jobs;
 mod laws;
 mod pieces;
 

@@ -1,37 +1,41 @@
 //! A text that grows by what a run prints, and the pieces in which it is offered.
-ghost use Rattle.std.specs.Prelude.{◌≡◌, ◌++◌, ◌≤◌, [], All, OnOk, length, map};
+ghost use Rattle.std.specs.Prelude.{◌≡◌, ◌++◌, [], All, OnOk, map};
 ghost use Rattle.std.specs.List.{flat_map};
+ghost use Rattle.rel_base.specs.Picks.{joined};
 ghost use Rattle.rel_io.specs.Sinks.{Offers, written_of};
 
+use crate::blocks::Block;
 use crate::counting::{number_of_different, rows_of_all};
+use crate::jobs::{blocks_of_rows, jobs_for};
 use algebra::{PlanNotes, TrafficNotes};
 use collector::collect;
 use engine::{SpreadStore, SpreadStores};
-use plan_printer::{print_plan, print_traffic};
 use rel_base::{Key, Memory, Relation, Row, Schema, Stored};
-use rel_io::{Sink, SinkFault, offer};
-use relation_csv::{header_text, row_text};
+use rel_io::{Sink, SinkFault};
 use std::alloc::Global;
 use std::marker::Model;
+use std::mem;
 use std::sync::Wait;
 use std::thread::Threads;
 
 /// A text, and where it is cut into pieces. Contracts see the text.
 ///
-/// After `Memory` a call has left what was there, and a part of what it was to add.
+/// After `Memory` a call has left what was there, and a part of what was to be added.
 #[derive(Drop)]
 pub struct Pieces {
-    text: Vec<u8>,
-    // The length of each piece, from the front on. What is left behind them is a piece too.
-    lengths: Vec<usize>,
+    // The blocks that stand before the last one.
+    front: Vec<Block>,
+    // The block that grows.
+    last: Block,
 }
 
 impl Model for Pieces {
-    ghost use Rattle.std.specs.Prelude.{List, ℕ};
+    ghost use Rattle.std.specs.Prelude.{List, ℕ, ◌++◌};
+    ghost use Rattle.rel_base.specs.Picks.{joined};
 
     ghost Value = { List ℕ };
 
-    ghost view = { λ p. p.text.items };
+    ghost view = { λ p. joined p.front.items ++ p.last };
 }
 
 impl Pieces {
@@ -48,14 +52,15 @@ impl Pieces {
         ensures { result ≡ [] }
     {
         Pieces {
-            text: Vec::new(alloc),
-            lengths: Vec::new(alloc),
+            front: Vec::new(alloc),
+            last: Block::new(alloc),
         }
     }
 
     /// Adds the text of what is stored at workers, one relation after another: of each its line, its
-    /// header, and the rows of all workers in ascending order, each a piece. No row is copied. It may
-    /// wait as long as its threads do.
+    /// header, and the rows of all workers in ascending order, each a piece. No row is copied. The
+    /// text of many rows is made in jobs, at most one for each worker, and is the same for every
+    /// number of them. It may wait as long as its threads do.
     pub fn add_stored<R: Threads + Wait + Sync>(
         &mut self,
         rt: &R,
@@ -85,9 +90,7 @@ impl Pieces {
     pub fn add_plan(&mut self, notes: &PlanNotes) -> Result<(), Memory>
         ensures { OnOk result (self.new ≡ self.old ++ plan_text notes.now) }
     {
-        let start = self.text.len();
-        print_plan(notes, &mut self.text)?;
-        self.cut_lines(start)
+        self.last.add_plan(notes)
     }
 
     /// Adds the text of the traffic, a piece for each line.
@@ -95,9 +98,7 @@ impl Pieces {
         requires { All IsWhole notes.now }
         ensures { OnOk result (self.new ≡ self.old ++ traffic_text notes.now) }
     {
-        let start = self.text.len();
-        print_traffic(notes, &mut self.text)?;
-        self.cut_lines(start)
+        self.last.add_traffic(notes)
     }
 
     /// Adds the text of a trial of this size: the numbers of rows and of different rows among all
@@ -129,12 +130,7 @@ impl Pieces {
         ensures { OnOk result
             (self.new ≡ self.old ++ size_line size ++ rows_line rows ++ distinct_line different) }
     {
-        let line = format!(in alloc; "-- trial size {size}\n")?;
-        self.add_line(line.as_str())?;
-        let line = format!(in alloc; "-- rows {rows}\n")?;
-        self.add_line(line.as_str())?;
-        let line = format!(in alloc; "-- distinct {different}\n")?;
-        self.add_line(line.as_str())
+        self.last.add_counts(alloc, size, rows, different)
     }
 
     /// Adds the text of what is stored under a key, at workers.
@@ -147,87 +143,60 @@ impl Pieces {
         ensures { OnOk result (self.new ≡ self.old ++ relation_text (whole_store store.now)) }
     {
         let rows = collect(rt, alloc, &store.parts)?;
-        self.lengths.reserve(rows.len().saturating_add(2))?;
         self.add_store_line(alloc, &store.key, rows.len())?;
         self.add_header(&store.schema)?;
-        self.add_rows(&rows)
+        let jobs = jobs_for(rows.len(), store.parts.as_slice().len());
+        self.add_rows(rt, alloc, &rows, jobs)
     }
 
     /// Adds the text of a relation under a key, its rows as they stand.
     fn add_relation(&mut self, alloc: Global, key: &Key, relation: &Relation) -> Result<(), Memory>
         ensures { OnOk result (self.new ≡ self.old ++ relation_lines (key.now, relation.now)) }
     {
-        let rows = relation.rows();
-        self.add_store_line(alloc, key, rows.len() as usize)?;
-        self.add_header(relation.schema())?;
-        for row in rows {
-            self.add_row(row)?;
-        }
-        Ok(())
+        self.last.add_relation(alloc, key, relation)
     }
 
     /// Adds the line over a stored relation of so many rows.
     fn add_store_line(&mut self, alloc: Global, key: &Key, rows: usize) -> Result<(), Memory>
         ensures { OnOk result (self.new ≡ self.old ++ store_line key.now rows) }
     {
-        let line = format!(in alloc; "-- store {key} {rows} rows\n")?;
-        self.add_line(line.as_str())
-    }
-
-    /// Adds a line, as a piece.
-    fn add_line(&mut self, line: &str) -> Result<(), Memory>
-        ensures { OnOk result (self.new ≡ self.old ++ line.now) }
-    {
-        self.text.extend_from_slice(line.as_bytes())?;
-        self.lengths.push(line.len())?;
-        Ok(())
+        self.last.add_store_line(alloc, key, rows)
     }
 
     /// Adds the header of a relation, as a piece.
     fn add_header(&mut self, schema: &Schema) -> Result<(), Memory>
         ensures { OnOk result (self.new ≡ self.old ++ header_record schema.now) }
     {
-        let start = self.text.len();
-        header_text(schema, &mut self.text)?;
-        self.cut(start)
+        self.last.add_header(schema)
     }
 
-    /// Adds rows as they stand, each a piece.
-    fn add_rows(&mut self, rows: &[&Row]) -> Result<(), Memory>
+    /// Adds rows as they stand, each a piece. So many jobs make their text.
+    fn add_rows<R: Threads + Sync>(
+        &mut self,
+        rt: &R,
+        alloc: Global,
+        rows: &[&Row],
+        jobs: usize,
+    ) -> Result<(), Memory>
         ensures { OnOk result
             (self.new ≡ self.old ++ flat_map (λ row. row_record row.now) rows.now) }
     {
-        for row in rows {
-            self.add_row(row)?;
+        if jobs <= 1 {
+            return self.last.add_rows(rows);
         }
-        Ok(())
+        let blocks = blocks_of_rows(rt, alloc, rows, jobs)?;
+        self.add_blocks(alloc, blocks)
     }
 
-    /// Adds a row, as a piece.
-    fn add_row(&mut self, row: &Row) -> Result<(), Memory>
-        ensures { OnOk result (self.new ≡ self.old ++ row_record row.now) }
+    /// Adds blocks, as they are. What is added from then on begins a new one.
+    fn add_blocks(&mut self, alloc: Global, blocks: Vec<Block>) -> Result<(), Memory>
+        ensures { OnOk result (self.new ≡ self.old ++ joined blocks.items) }
     {
-        let start = self.text.len();
-        row_text(row, &mut self.text)?;
-        self.cut(start)
-    }
-
-    /// Makes a piece of the text from a place on.
-    fn cut(&mut self, start: usize) -> Result<(), Memory>
-        ensures { self.new ≡ self.old }
-    {
-        self.lengths.push(self.text.len().saturating_sub(start))?;
-        Ok(())
-    }
-
-    /// Makes a piece of each line of the text from a place on.
-    fn cut_lines(&mut self, start: usize) -> Result<(), Memory>
-        requires { start ≤ length self.old }
-        ensures { self.new ≡ self.old }
-    {
-        for line in self.text[start..].split_inclusive(|byte| *byte == b'\n') {
-            self.lengths.push(line.len())?;
-        }
+        let mut blocks = blocks;
+        self.front.reserve(blocks.len().saturating_add(1))?;
+        let last = mem::replace(&mut self.last, Block::new(alloc));
+        self.front.push(last)?;
+        self.front.append(&mut blocks)?;
         Ok(())
     }
 
@@ -235,13 +204,9 @@ impl Pieces {
     pub fn print<O: Sink>(&self, out: &mut O) -> Result<(), SinkFault>
         ensures { Offers (written_of O.Sink out.old out.new) self.now result }
     {
-        let text = self.text.as_slice();
-        let mut done = 0;
-        for len in &self.lengths {
-            let end = done + (*len).min(text.len() - done);
-            offer(out, &text[done..end])?;
-            done = end;
+        for block in &self.front {
+            block.print(out)?;
         }
-        offer(out, &text[done..])
+        self.last.print(out)
     }
 }

@@ -95,6 +95,38 @@ fn stored_at_two(alloc: Global) -> Result<SpreadStores, Memory> {
     Ok(stored)
 }
 
+/// A store at three workers, to which the numbers from 0 on are dealt in turn.
+fn numbers_dealt_to_three(alloc: Global, count: u32) -> Result<SpreadStores, Memory> {
+    let mut parts = Spread::new(alloc);
+    for worker in 0..3 {
+        let mut rows = Rows::new(alloc);
+        for number in 0..count {
+            if number % 3 == worker && rows.len() < 10_000 {
+                let mut row = Row::new(alloc);
+                row.push(Value::Int(i64::from(number)))?;
+                rows.push(row)?;
+            }
+        }
+        parts.push(rows)?;
+    }
+    let key = key_of_r(alloc)?;
+    let schema = numbers(alloc)?;
+    let mut stored = SpreadStores::new(alloc);
+    stored.push(SpreadStore { key, schema, parts })?;
+    Ok(stored)
+}
+
+/// The lines of a store of so many numbers, from 0 on.
+fn lines_of_numbers(alloc: Global, count: u32) -> Result<Vec<String>, Memory> {
+    let mut lines = Vec::new(alloc);
+    lines.push(format!(in alloc; "-- store public:adhoc:R {count} rows\n")?)?;
+    lines.push(String::from_str(alloc, "n:int\n")?)?;
+    for number in 0..count {
+        lines.push(format!(in alloc; "{number}\n")?)?;
+    }
+    Ok(lines)
+}
+
 /// The traffic of an exchange between two workers, as a text.
 fn text_of_traffic(alloc: Global) -> Result<Pieces, Memory> {
     let mut text = Pieces::new(alloc);
@@ -128,6 +160,25 @@ fn stores_are_cut_at_their_rows(rt: HostRuntime) -> Result<(), Memory> {
         "30\n",
     ];
     assert!(rt; is_cut_so(&text, wanted));
+    Ok(())
+}
+
+/// So many rows that three jobs make their text; what comes behind them stands behind them.
+#[test]
+fn many_rows_are_cut_as_few_are(rt: HostRuntime) -> Result<(), Memory> {
+    let stored = numbers_dealt_to_three(rt.alloc(), 12_500)?;
+    let mut text = Pieces::new(rt.alloc());
+    text.add_stored(&rt, rt.alloc(), &stored)?;
+    text.add_trial(&rt, rt.alloc(), 9, &stored)?;
+    let lines = lines_of_numbers(rt.alloc(), 12_500)?;
+    let mut wanted = Vec::new(rt.alloc());
+    for line in &lines {
+        wanted.push(line.as_str())?;
+    }
+    for line in ["-- trial size 9\n", "-- rows 12500\n", "-- distinct 12500\n"] {
+        wanted.push(line)?;
+    }
+    assert!(rt; is_cut_so(&text, &wanted));
     Ok(())
 }
 

@@ -10,6 +10,6 @@ carried (Err why) f h = tt
 pub returns : goal.returns
 returns g c =
     carried c.add_rows.result
-    (λ written. store_text c.args.store.now c.in_ok-rows.rows.items c.deref.result.now c.len-2.result c.self.inside.text.items
+    (λ written. store_text c.args.store.now c.in_ok-rows.rows.items c.deref.result.now c.len.result
     c.args.self.now c.add_store_line.new.self c.add_header.new.self c.add_rows.new.self c.in_ok-rows.ensures c.deref.ensures.value
-    (omega (arith, c.len-2.ensures, c.in_ok-rows.rows.ok)) c.self.view_is c.in_ok-add_store_line.ensures c.in_ok-add_header.ensures written) c.add_rows.ensures
+    (omega (arith, c.len.ensures, c.in_ok-rows.rows.ok)) c.in_ok-add_store_line.ensures c.in_ok-add_header.ensures written) c.add_rows.ensures

@@ -1,30 +1,26 @@
-use Rattle.std.proofs.Common.{◌≡◌, ◌+◌, ◌-◌, ◌∙◌, sym, subst, arith, rules, Err, take, drop, take-append-drop}
+use Rattle.std.proofs.Common.{◌≡◌, ◌∙◌, suc, ◌++◌, Err, ap, refl, drop, rules, subst, sym}
+use Rattle.rel_base.specs.Picks.{joined}
 use Rattle.rel_io.specs.Sinks.{Offers}
-use Rattle.output_texts.proofs.PieceLemmas.{next_piece, last_piece, offers_further, offers_line, offers_refused}
+use Rattle.output_texts.proofs.PieceLemmas.{blocks_at, blocks_whole, offers_further, offers_line, offers_refused}
 use Rattle.output_texts.proofs.pieces.Pieces.print.Goals as goal
 
-pub loop-len-preserved : goal.loop-len-preserved
-loop-len-preserved g c =
-    let kept = c.loop-len.invariant in
-    let done = c.loop-len.done in
-    let end = done + c.min.result in
-    record {
-      within = omega (arith, kept.within);
-      offered = offers_further _ _ _ _ _ _ _ _ (next_piece c.as_slice-text.result.now done end (omega arith)) kept.offered c.in_ok-offer.ensures;
-    }
-
-pub returns-in_err-offer : goal.returns-in_err-offer
-returns-in_err-offer g c =
-    let text = c.as_slice-text.result.now in
-    let done = c.loop-len.done in
-    let piece = take (done + c.min.result - done) (drop done text) in
-    let answer : c.from_residual.result ≡ Err c.in_err-offer.field-0.0 = search rules in
-    let refused = offers_refused _ piece _ (drop done text) _ (sym (take-append-drop (done + c.min.result - done) (drop done text))) c.in_err-offer.ensures in
-    offers_line _ text _ _ (c.as_slice-text.ensures.value ∙ c.self.view_is)
-    (offers_further _ _ _ _ _ _ _ _ (sym (take-append-drop done text)) c.loop-len.invariant.offered (subst (Offers _ _) (sym answer) refused))
+pub returns-in_err-print : goal.returns-in_err-print
+returns-in_err-print g c =
+    let blocks = c.deref-block-items.result.now in
+    let last = c.self.inside.last in
+    let i = c.loop-block.block-index in
+    let block = c.block-item.result in
+    let answer : c.from_residual.result ≡ Err c.in_err-print.field-0.0 = search rules in
+    let text = ap (λ bs. joined bs ++ last) c.deref-block-items.ensures.value ∙ c.self.view_is in
+    let refused = offers_refused _ block (joined (drop (suc i) blocks) ++ last) _ _ refl c.in_err-print.ensures in
+    offers_line _ _ _ _ text
+    (offers_further _ _ _ _ _ _ _ _ (blocks_at blocks last block i c.loop-block-test.true c.block-item.is) c.loop-block.invariant
+    (subst (Offers _ _) (sym answer) refused))
 
 pub returns : goal.returns
 returns g c =
-    let text = c.as_slice-text.result.now in
-    offers_line _ text _ _ (c.as_slice-text.ensures.value ∙ c.self.view_is)
-    (offers_further _ _ _ _ _ _ _ _ (last_piece text c.loop-len.done) c.loop-len.invariant.offered c.offer-2.ensures)
+    let blocks = c.deref-block-items.result.now in
+    let last = c.self.inside.last in
+    let text = ap (λ bs. joined bs ++ last) c.deref-block-items.ensures.value ∙ c.self.view_is in
+    offers_line _ _ _ _ text
+    (offers_further _ _ _ _ _ _ _ _ (blocks_whole blocks last c.loop-block.block-index c.loop-block-test.false) c.loop-block.invariant c.print-2.ensures)

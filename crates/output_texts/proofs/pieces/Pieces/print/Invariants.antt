@@ -1,10 +1,8 @@
--- the sink has taken the first `done` bytes
-use Rattle.std.proofs.Common.{◌≤◌, Ok, length, take}
+-- the sink has taken the blocks so far
+use Rattle.std.proofs.Common.{Ok, take}
+use Rattle.rel_base.specs.Picks.{joined}
 use Rattle.rel_io.specs.Sinks.{Offers, written_of}
 use Rattle.output_texts.proofs.pieces.Pieces.print.Given as goal
 
-abbrev pub invariant-loop-len : goal.invariant-loop-len
-invariant-loop-len g l = record {
-  within : l.done ≤ length l.text;
-  offered : Offers (written_of g.O.Sink l.fn.out l.out) (take l.done l.text) (Ok tt);
-}
+abbrev pub invariant-loop-block : goal.invariant-loop-block
+invariant-loop-block g l = Offers (written_of g.O.Sink l.fn.out l.out) (joined (take l.block-index l.block-items)) (Ok tt)

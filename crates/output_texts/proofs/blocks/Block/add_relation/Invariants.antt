@@ -3,7 +3,7 @@ use Rattle.std.proofs.Common.{◌≡◌, ◌++◌}
 use Rattle.std.specs.List.{flat_map}
 use Rattle.relation_csv.specs.RecordTexts.{row_record}
 use Rattle.output_texts.specs.OutputText.{relation_lines}
-use Rattle.output_texts.proofs.pieces.Pieces.add_relation.Given as goal
+use Rattle.output_texts.proofs.blocks.Block.add_relation.Given as goal
 
 abbrev pub invariant-loop-row : goal.invariant-loop-row
 invariant-loop-row l =

@@ -2,7 +2,7 @@
 use Rattle.std.proofs.Common.{◌≡◌, ◌++◌, take}
 use Rattle.std.specs.List.{flat_map}
 use Rattle.relation_csv.specs.RecordTexts.{row_record}
-use Rattle.output_texts.proofs.pieces.Pieces.add_rows.Given as goal
+use Rattle.output_texts.proofs.blocks.Block.add_rows.Given as goal
 
 abbrev pub invariant-loop-row : goal.invariant-loop-row
 invariant-loop-row l =

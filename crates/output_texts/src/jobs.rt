@@ -1,0 +1,72 @@
+//! The text of many rows, which is made in jobs: ranges of the rows side by side.
+ghost use Rattle.std.specs.Prelude.{◌≡◌, ◌*◌, ◌<◌, ◌≤◌, ℕ, Ok, IfOk, length, map, slice_index_or};
+ghost use Rattle.std.specs.Fork.{slice_chunk};
+ghost use Rattle.std.specs.List.{flat_map};
+ghost use Rattle.rel_base.specs.Picks.{joined};
+ghost use Rattle.relation_csv.specs.RecordTexts.{row_record};
+ghost use Rattle.output_texts.specs.inner.Ranges.{IsTextOf};
+
+use crate::blocks::Block;
+use rel_base::{Memory, Row};
+use std::alloc::Global;
+use std::thread::{Threads, map_chunks};
+
+/// The least number of rows for each job, where there are several.
+const LEAST_ROWS: usize = 4096;
+
+/// How many jobs make the text of so many rows, if there may be so many: fewer for few rows, and at
+/// least one.
+pub(crate) fn jobs_for(rows: usize, most: usize) -> usize
+    ensures { 0 < result }
+{
+    (rows / LEAST_ROWS).min(most).max(1)
+}
+
+/// The text of rows as they stand, in blocks that so many jobs make, each of a range of the rows.
+pub(crate) fn blocks_of_rows<R: Threads + Sync>(
+    rt: &R,
+    alloc: Global,
+    rows: &[&Row],
+    jobs: usize,
+) -> Result<Vec<Block>, Memory>
+    requires { 0 < jobs }
+    ensures { IfOk result (λ blocks.
+        joined blocks.items ≡ flat_map (λ row. row_record row.now) rows.now) }
+{
+    let size = rows.len().div_ceil(jobs).max(1);
+    let parts = blocks_of_ranges(rt, alloc, rows, size)?;
+    all_made(alloc, parts)
+}
+
+/// The text of each range of so many rows, made in a job; the last range may be shorter.
+fn blocks_of_ranges<R: Threads + Sync>(
+    rt: &R,
+    alloc: Global,
+    rows: &[&Row],
+    size: usize,
+) -> Result<Vec<Result<Block, Memory>>, Memory>
+    requires { 0 < size }
+    ensures all { IfOk result (λ parts. length rows.now ≤ length parts.items * size) }
+    ensures each { IfOk result (λ parts. (n : ℕ) (e : _) → n < length parts.items
+        → IsTextOf (slice_chunk rows.now size n) (slice_index_or parts.items n e)) }
+{
+    let parts = map_chunks(
+        rt,
+        alloc,
+        rows,
+        size,
+        &|_, range: &[&Row]| Block::of_rows(alloc, range),
+    )?;
+    Ok(parts)
+}
+
+/// The blocks, where there was memory for each.
+fn all_made(alloc: Global, parts: Vec<Result<Block, Memory>>) -> Result<Vec<Block>, Memory>
+    ensures { IfOk result (λ blocks. map Ok blocks.items ≡ parts.items) }
+{
+    let mut blocks = Vec::with_capacity(alloc, parts.len())?;
+    for part in parts {
+        blocks.push(part?)?;
+    }
+    Ok(blocks)
+}
