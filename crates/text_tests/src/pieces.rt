@@ -175,7 +175,11 @@ fn many_rows_are_cut_as_few_are(rt: HostRuntime) -> Result<(), Memory> {
     for line in &lines {
         wanted.push(line.as_str())?;
     }
-    for line in ["-- trial size 9\n", "-- rows 12500\n", "-- distinct 12500\n"] {
+    for line in [
+        "-- trial size 9\n",
+        "-- rows 12500\n",
+        "-- distinct 12500\n",
+    ] {
         wanted.push(line)?;
     }
     assert!(rt; is_cut_so(&text, &wanted));
