@@ -95,20 +95,25 @@ fn stored_at_two(alloc: Global) -> Result<SpreadStores, Memory> {
     Ok(stored)
 }
 
+/// Every third number from a first one below three on, below an end.
+fn every_third(alloc: Global, first: u32, end: u32) -> Result<Rows, Memory> {
+    let mut rows = Rows::new(alloc);
+    for number in 0..end {
+        if number % 3 == first && rows.len() < 10_000 {
+            let mut row = Row::new(alloc);
+            row.push(Value::Int(i64::from(number)))?;
+            rows.push(row)?;
+        }
+    }
+    Ok(rows)
+}
+
 /// A store at three workers, to which the numbers from 0 on are dealt in turn.
 fn numbers_dealt_to_three(alloc: Global, count: u32) -> Result<SpreadStores, Memory> {
     let mut parts = Spread::new(alloc);
-    for worker in 0..3 {
-        let mut rows = Rows::new(alloc);
-        for number in 0..count {
-            if number % 3 == worker && rows.len() < 10_000 {
-                let mut row = Row::new(alloc);
-                row.push(Value::Int(i64::from(number)))?;
-                rows.push(row)?;
-            }
-        }
-        parts.push(rows)?;
-    }
+    parts.push(every_third(alloc, 0, count)?)?;
+    parts.push(every_third(alloc, 1, count)?)?;
+    parts.push(every_third(alloc, 2, count)?)?;
     let key = key_of_r(alloc)?;
     let schema = numbers(alloc)?;
     let mut stored = SpreadStores::new(alloc);
