@@ -29,6 +29,7 @@ mod shared_rows;
 mod short_texts;
 mod sort_keys;
 mod stretches;
+mod strides;
 mod texts;
 mod tuples;
 mod values;

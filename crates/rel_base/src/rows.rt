@@ -1,5 +1,5 @@
 //! Rows that are shared, not copied.
-ghost use Rattle.std.specs.Prelude.{◌≡◌, ℕ, ◌+◌, ◌-◌, ◌*◌, ◌^◌, ◌<◌, ◌≤◌, ◌==◌, ◌↔◌, [], ◌∷◌, ◌++◌, length, take, map, IsSome, IfOk, IfSome, OnOk, OnErr, All, slice_index_or, slice_range};
+ghost use Rattle.std.specs.Prelude.{◌≡◌, ◌+◌, ◌-◌, ◌^◌, ◌<◌, ◌≤◌, ◌==◌, ◌↔◌, [], ◌∷◌, ◌++◌, length, take, map, IsSome, IfOk, IfSome, OnOk, OnErr, All, slice_index_or, slice_range};
 ghost use Rattle.std.specs.Option.{option_to_list};
 ghost use Rattle.rel_base.specs.Bags.{IsSortedPermutation};
 ghost use Rattle.rel_base.specs.inner.Beginnings.{BeginsWith};
@@ -11,7 +11,8 @@ use crate::list::copies_of;
 use crate::row_iter::RowIter;
 use crate::shared_rows::{SharedRows, run_length};
 use crate::sort_keys::sort_key;
-use crate::stretches::{Stretch, steps_below};
+use crate::stretches::Stretch;
+use crate::strides::{copies_apart, start_behind};
 use crate::{Duplicate, Memory, Row, Value};
 use std::alloc::Global;
 use std::cmp::Ordering;
@@ -196,21 +197,17 @@ impl Rows {
         })
     }
 
-    /// The rows whose number, from 0, leaves the remainder `start` by the step. Where these are all rows of one block, they
-    /// are a view, which takes no memory for each row. No row that is shared is copied.
+    /// The rows whose number, from 0, leaves the remainder `start` by the step. They are a view: each stretch takes memory for
+    /// itself alone, or four bytes a row where its rows don't stand a step apart. No row that is shared is copied.
     pub fn every_nth(&self, alloc: Global, step: u32, start: u32) -> Result<Rows, Memory>
         requires { start < step }
         ensures { IfOk result (λ made. made ≡ every_nth self.now step start) }
     {
-        if let Some(block) = self.as_block() {
-            let block = block.copy(alloc)?;
-            let made = Rows::of_stretch(alloc, Stretch::every_nth(block, step, start))?;
-            return Ok(made);
-        }
-        let count = steps_below(self.len(), step, start);
-        let places = places_apart(alloc, start, step, count)?;
-        let made = self.at_places(alloc, places.as_slice())?;
-        Ok(made)
+        let mut shared = self.shared.every_nth(alloc, step, start)?;
+        let next = start_behind(self.shared.len(), step, start);
+        let mut own = copies_apart(alloc, self.own.as_slice(), step, next)?;
+        share(alloc, &mut shared, &mut own)?;
+        Ok(Rows { shared, own })
     }
 
     /// The stretch, where all rows stand in one.
@@ -224,13 +221,6 @@ impl Rows {
             [only] => Some(only),
             _ => None,
         }
-    }
-
-    /// The block, where these are all of its rows in its order.
-    fn as_block(&self) -> Option<&Block>
-        ensures { IfSome result (λ block. block.now ≡ self.now) }
-    {
-        self.only_stretch()?.as_block()
     }
 
     /// The rows at the first places, as many as stand in one stretch.
@@ -360,18 +350,6 @@ fn numbers_of(alloc: Global, numbered: &[NumberedRow<'_>]) -> Result<Vec<u32>, M
         numbers.push(*number)?;
     }
     Ok(numbers)
-}
-
-/// So many places from a start on, a step apart.
-fn places_apart(alloc: Global, start: u32, step: u32, count: u32) -> Result<Vec<u32>, Memory>
-    requires { (i : ℕ) → i < count → start + step * i < 2 ^ 32 }
-    ensures { IfOk result (λ made. made.items ≡ stepped start step count) }
-{
-    let mut places = Vec::with_capacity(alloc, count as usize)?;
-    for i in 0..count {
-        places.push(start + step * i)?;
-    }
-    Ok(places)
 }
 
 /// Shares the own rows, behind the others. After `Memory` all is as it was.

@@ -1,12 +1,13 @@
 //! Stretches of shared rows, one after another.
 ghost use Rattle.std.specs.Prelude.{◌≡◌, ◌+◌, ◌-◌, ◌^◌, ◌<◌, ◌≤◌, ◌++◌, [], length, take, map, IfOk, IfErr, OnOk, OnErr, All, slice_index_or};
-ghost use Rattle.rel_base.specs.Picks.{items_at, joined};
+ghost use Rattle.rel_base.specs.Picks.{items_at, every_nth, joined};
 ghost use Rattle.rel_base.specs.inner.Starts.{AreStarts};
 ghost use Rattle.rel_base.specs.inner.Strides.{stepped};
 
 use crate::blocks::Block;
 use crate::list::copies_of;
 use crate::stretches::Stretch;
+use crate::strides::start_behind;
 use crate::{Duplicate, Memory, Row};
 use std::alloc::Global;
 use std::marker::Model;
@@ -169,6 +170,23 @@ impl SharedRows {
         let end = stretch.len().min(to - start);
         let run = stretch.slice(alloc, from - start, end)?;
         Ok(run)
+    }
+
+    /// The rows whose number, from 0, leaves the remainder `start` by the step: of each stretch its own, of which none is
+    /// copied.
+    pub fn every_nth(&self, alloc: Global, step: u32, start: u32) -> Result<SharedRows, Memory>
+        requires { start < step }
+        ensures { IfOk result (λ made. made ≡ every_nth self.now step start) }
+    {
+        let _few = self.len();
+        let mut picked = SharedRows::new(alloc);
+        let mut next = start;
+        for stretch in &self.stretches {
+            let part = stretch.every_nth(alloc, step, next)?;
+            picked.push(part)?;
+            next = start_behind(stretch.len(), step, next);
+        }
+        Ok(picked)
     }
 
     /// Takes the rows of the last stretch, each copied. After `Memory` all is as it was.

@@ -1,10 +1,11 @@
 //! Rows of one shared block, by their places in it.
-ghost use Rattle.std.specs.Prelude.{◌≡◌, ℕ, ◌+◌, ◌-◌, ◌*◌, ◌^◌, ◌<◌, ◌≤◌, length, map, IfOk, IfSome, All, slice_index_or};
+ghost use Rattle.std.specs.Prelude.{◌≡◌, ◌+◌, ◌-◌, ◌*◌, ◌^◌, ◌<◌, ◌≤◌, length, map, IfOk, All, slice_index_or};
 ghost use Rattle.rel_base.specs.Picks.{items_at, every_nth};
 ghost use Rattle.rel_base.specs.inner.Strides.{stepped};
 
 use crate::blocks::Block;
 use crate::row_iter::{PlaceIter, StretchIter};
+use crate::strides::{copies_apart, steps_below};
 use crate::{Duplicate, Memory, Row};
 use std::alloc::Global;
 use std::marker::Model;
@@ -51,30 +52,6 @@ impl Stretch {
                 step: 1,
                 len,
             },
-        }
-    }
-
-    /// The rows of a block whose place leaves the remainder `start` by the step.
-    pub fn every_nth(block: Block, step: u32, start: u32) -> Stretch
-        requires { start < step }
-        ensures value { result ≡ every_nth block step start }
-        ensures bound { length result < 2 ^ 32 }
-    {
-        let len = steps_below(block.len(), step, start);
-        Stretch {
-            block,
-            selection: Selection::Every { start, step, len },
-        }
-    }
-
-    /// The block, where these are all of its rows in its order.
-    pub fn as_block(&self) -> Option<&Block>
-        ensures { IfSome result (λ block. block.now ≡ self.now) }
-    {
-        match &self.selection {
-            Selection::Every { start, step, len }
-                if *start == 0 && *step == 1 && *len == self.block.len() => { Some(&self.block) }
-            _ => None,
         }
     }
 
@@ -126,6 +103,17 @@ impl Stretch {
         Ok(Stretch { block, selection })
     }
 
+    /// The rows whose number, from 0, leaves the remainder `start` by the step. No row is copied, and rows that stand a step
+    /// apart are a view, which takes no memory for each row.
+    pub fn every_nth(&self, alloc: Global, step: u32, start: u32) -> Result<Stretch, Memory>
+        requires { start < step }
+        ensures { IfOk result (λ made. made ≡ every_nth self.now step start) }
+    {
+        let block = self.block.copy(alloc)?;
+        let selection = self.selection.every_nth(alloc, block.len(), step, start)?;
+        Ok(Stretch { block, selection })
+    }
+
     /// A copy of each row.
     pub fn copied_rows(&self, alloc: Global) -> Result<Vec<Row>, Memory>
         ensures { IfOk result (λ made. made.items ≡ self.now) }
@@ -154,15 +142,6 @@ impl Stretch {
         };
         StretchIter::of(self.block.as_slice(), places)
     }
-}
-
-/// How many places below a length leave the remainder `start` by the step.
-pub fn steps_below(len: u32, step: u32, start: u32) -> u32
-    requires { 0 < step }
-    ensures enough { len ≤ start + step * result }
-    ensures inside { (i : ℕ) → i < result → start + step * i < len }
-{
-    len.saturating_sub(start).div_ceil(step)
 }
 
 impl Selection {
@@ -210,6 +189,35 @@ impl Selection {
             }),
             Selection::At { places } => {
                 let places = Vec::from_slice(alloc, &places[from as usize..to as usize])?;
+                Ok(Selection::At { places })
+            }
+        }
+    }
+}
+
+impl Selection {
+    ghost use Rattle.rel_base.specs.inner.Selections.{places_of};
+
+    /// The places, in a block of this length, whose number leaves the remainder `start` by the step.
+    fn every_nth(&self, alloc: Global, len: u32, step: u32, start: u32) -> Result<Selection, Memory>
+        requires order { start < step }
+        requires within { All (λ p. p < len) (places_of self.now) }
+        requires room { length (places_of self.now) < 2 ^ 32 }
+        ensures { IfOk result (λ made. places_of made ≡ every_nth (places_of self.now) step start) }
+    {
+        match self {
+            // Of fewer than two places the step doesn't matter, and of none the start.
+            Selection::Every {
+                start: first,
+                step: apart,
+                len: count,
+            } => Ok(Selection::Every {
+                start: first.wrapping_add(apart.wrapping_mul(start)),
+                step: apart.wrapping_mul(step),
+                len: steps_below(*count, step, start),
+            }),
+            Selection::At { places } => {
+                let places = copies_apart(alloc, places.as_slice(), step, start)?;
                 Ok(Selection::At { places })
             }
         }

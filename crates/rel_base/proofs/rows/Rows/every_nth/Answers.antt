@@ -1,23 +1,36 @@
-use Rattle.std.proofs.Common.{◌∙◌, ◌<◌, ◌^◌, length, sym, ap, arith, rules}
-use Rattle.rel_base.specs.Picks.{items_at}
-use Rattle.rel_base.proofs.PickLemmas.{length-stepped, stepped_within}
-use Rattle.rel_base.proofs.StrideLemmas.{every_nth-stepped}
+use Rattle.std.proofs.Common.{◌≡◌, ◌∙◌, ◌+◌, ◌%◌, ◌++◌, sym, ap, append-nil, length, length-append, arith}
+use Rattle.rel_base.specs.Picks.{every_nth}
+use Rattle.rel_base.proofs.StrideLemmas.{every_nth-append, length-every_nth}
 use Rattle.rel_base.proofs.rows.Rows.every_nth.Goals as goal
+use Rattle.rel_base.proofs.rows.Rows.every_nth.Goals.{In_ok-own}
 
-pub at_places-requires-clause-within : goal.at_places-requires-clause-within
-at_places-requires-clause-within c =
-    rw (c.as_slice.ensures.value, c.in_ok-places.ensures)
-    (stepped_within c.args.start c.args.step c.steps_below-count.result (length c.args.self.now)
-    (λ i low. omega (arith, c.steps_below-count.ensures.inside i low, c.len.ensures)))
+-- what is picked of the shared rows, and behind it what is picked of the own ones
+both : (c : In_ok-own) → c.in_ok-shared.shared ++ c.in_ok-own.own.items ≡ every_nth c.args.self.now c.args.step c.args.start
+both c =
+    let step = c.args.step in
+    let start = c.args.start in
+    let next = c.start_behind-next.result in
+    let shared = c.self.inside.shared in
+    let own = c.self.inside.own.items in
+    let counted : (length shared + next) % step ≡ start = rw c.len.ensures at c.start_behind-next.ensures.next in
+    let apart = every_nth-append shared own step start next c.requires c.start_behind-next.ensures.low counted in
+    let copies : c.in_ok-own.own.items ≡ every_nth own step next =
+    c.in_ok-own.ensures ∙ ap (λ xs. every_nth xs step next) c.as_slice.ensures.value in
+    ap (λ xs. xs ++ c.in_ok-own.own.items) c.in_ok-shared.ensures ∙ ap (λ xs. every_nth shared step start ++ xs) copies
+    ∙ sym apart ∙ ap (λ xs. every_nth xs step start) c.self.view_is
 
-pub at_places-requires-clause-room : goal.at_places-requires-clause-room
-at_places-requires-clause-room c =
-    let few : c.steps_below-count.result < 2 ^ 32 = search rules in
-    rw (c.as_slice.ensures.value, c.in_ok-places.ensures, length-stepped c.args.start c.args.step c.steps_below-count.result) few
+pub share-requires : goal.share-requires
+share-requires c = omega (
+  arith,
+  ap length (both (goal.at.share-requires c).In_ok-own),
+  length-append c.in_ok-shared.shared c.in_ok-own.own.items,
+  length-every_nth c.args.self.now c.args.step c.args.start,
+  ap length c.self.view_is,
+  c.self.invariant,
+)
 
 pub returns : goal.returns
 returns c =
-    c.in_ok-made-2.ensures
-    ∙ ap (items_at c.args.self.now) (c.as_slice.ensures.value ∙ c.in_ok-places.ensures)
-    ∙ sym (every_nth-stepped c.args.self.now c.args.step c.args.start c.steps_below-count.result c.requires
-    (omega (arith, c.steps_below-count.ensures.enough, c.len.ensures)))
+    let shared = c.in_ok-share.ensures.ok in
+    ap (λ xs. c.share.new.shared ++ xs) shared.1 ∙ append-nil c.share.new.shared ∙ shared.0
+    ∙ both (goal.at.returns c).In_ok-own
