@@ -1,4 +1,4 @@
-use Rattle.std.proofs.Common.{◌∙◌, arith}
+use Rattle.std.proofs.Common.{arith}
 use Rattle.rel_base.proofs.RangeLemmas.{stepped-first}
 use Rattle.rel_base.proofs.row_iter.PlaceIter.take_first.Goals as goal
 

@@ -1,4 +1,4 @@
-use Rattle.std.proofs.Common.{◌≡◌, ◌∙◌, ◌<◌, ◌++◌, ◌∷◌, length, refl, sym, ap, arith}
+use Rattle.std.proofs.Common.{◌∙◌, ◌<◌, ◌++◌, length, sym, ap, arith}
 use Rattle.rel_base.specs.Picks.{items_at}
 use Rattle.rel_base.specs.inner.PlacesLeft.{places_left}
 use Rattle.rel_base.proofs.PickLemmas.{one_item, rest_within}
