@@ -29,6 +29,19 @@ impl Values {
         }
     }
 
+    /// No values, with room for so many: more than three get memory of their own.
+    #[inline(always)]
+    pub fn with_capacity(alloc: Global, room: u32) -> Result<Values, Memory>
+        ensures value { IfOk result (λ made. values_in made ≡ []) }
+        ensures places { IfOk result (λ made. HasPlaces made) }
+    {
+        if room <= 3 {
+            return Ok(Values::new());
+        }
+        let many = Vec::with_capacity(alloc, room as usize)?;
+        Ok(Values::Many(many))
+    }
+
     /// All values, in order.
     pub fn as_slice(&self) -> &[Value]
         requires { HasPlaces self.now }

@@ -45,6 +45,15 @@ impl Row {
         }
     }
 
+    /// A row without values, with room for so many. It asks for memory only where they are more than three.
+    #[inline(always)]
+    pub fn with_capacity(alloc: Global, room: u32) -> Result<Row, Memory>
+        ensures { IfOk result (λ made. made ≡ []) }
+    {
+        let values = Values::with_capacity(alloc, room)?;
+        Ok(Row { values, alloc })
+    }
+
     /// The number of values.
     pub fn len(&self) -> u32
         ensures { result ≡ length self.now }
@@ -96,7 +105,7 @@ impl Row {
 
 impl Duplicate for Row {
     fn copy(&self, alloc: Global) -> Result<Row, Memory> {
-        let mut row = Row::new(alloc);
+        let mut row = Row::with_capacity(alloc, self.len())?;
         for value in self.as_slice() {
             let copy = value.copy(alloc)?;
             row.push(copy)?;
