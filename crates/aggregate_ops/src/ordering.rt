@@ -1,28 +1,11 @@
 //! Rows in ascending order, each where it stands.
 ghost use Rattle.std.specs.Prelude.{◌≡◌, ◌<◌, ◌^◌, map, length, All, IfOk, OnOk};
 ghost use Rattle.rel_base.specs.Bags.{IsSortedPermutation};
-ghost use Rattle.rel_base.specs.inner.Beginnings.{BeginsWith};
+ghost use Rattle.rel_base.specs.Beginnings.{BeginsWith};
 ghost use Rattle.aggregate_ops.specs.Columns.{rows_in};
 
-use rel_base::{Memory, Row, Rows, Value, sort_key};
+use rel_base::{LedRow, Memory, Row, Rows, led_row};
 use std::alloc::Global;
-
-/// A row behind what it begins with. Most of them compare without a look at the row.
-type LedRow<'a> = (u8, i64, &'a Row);
-
-/// A row behind the rank of its first value's type, 0 where it has none, and what that value begins with: the number of an
-/// int, the key of a string, and else 0.
-fn led_row(row: &Row) -> LedRow<'_>
-    ensures leading { BeginsWith row.now result.0 result.1 }
-    ensures row { result.2.now ≡ row.now }
-{
-    match row.as_slice().first() {
-        None => (0, 0, row),
-        Some(Value::Int(first)) => (1, *first, row),
-        Some(Value::Str(text)) => (2, sort_key(text.as_str().as_bytes()) as i64, row),
-        Some(Value::Bool(_)) => (3, 0, row),
-    }
-}
 
 /// Each row behind what it begins with.
 fn led_rows(alloc: Global, rows: &Rows) -> Result<Vec<LedRow<'_>>, Memory>

@@ -11,7 +11,7 @@ use Rattle.std.specs.Cmp.{IsTotalOrder, on_total}
 use Rattle.rel_base.specs.declared.values.Value.{Value}
 use Rattle.rel_base.specs.Values.{row_order}
 use Rattle.rel_base.specs.ValueLaws.{row_order_total}
-use Rattle.rel_base.specs.inner.Beginnings.{leading_rank, leading_number, leading_bytes}
+use Rattle.rel_base.specs.Beginnings.{leading_rank, leading_number, leading_bytes}
 use Rattle.rel_base.proofs.SortLemmas.{not_less-row}
 use Rattle.collector.specs.inner.Sorted.{rows_at, reference_order}
 

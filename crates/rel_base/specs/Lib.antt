@@ -5,6 +5,7 @@ pub mod Values
 pub mod ValueLaws
 pub mod Codes
 pub mod SortKeys
+pub mod Beginnings
 pub mod Bags
 pub mod Picks
 pub mod Relations

@@ -3,7 +3,6 @@ pub mod Strides
 pub mod Selections
 pub mod Starts
 pub mod Fronts
-pub mod Beginnings
 pub mod Letters
 pub mod PlacesLeft
 pub mod RowValues

@@ -12,6 +12,7 @@
 //! Read `specs/Values.antt`, `specs/Bags.antt` and `specs/Relations.antt`, then `list.rt` and `rows.rt`.
 #![tactic(auto)]
 
+mod beginnings;
 mod blocks;
 mod codes;
 mod copying;
@@ -34,6 +35,7 @@ mod texts;
 mod tuples;
 mod values;
 
+pub use beginnings::{LedRow, led_row};
 pub use codes::mixed_with;
 pub use copying::Duplicate;
 pub use counting::Steps;

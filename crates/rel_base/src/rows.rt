@@ -2,18 +2,18 @@
 ghost use Rattle.std.specs.Prelude.{◌≡◌, ◌+◌, ◌-◌, ◌^◌, ◌<◌, ◌≤◌, ◌==◌, ◌↔◌, [], ◌∷◌, ◌++◌, length, take, map, IsSome, IfOk, IfSome, OnOk, OnErr, All, slice_index_or, slice_range};
 ghost use Rattle.std.specs.Option.{option_to_list};
 ghost use Rattle.rel_base.specs.Bags.{IsSortedPermutation};
-ghost use Rattle.rel_base.specs.inner.Beginnings.{BeginsWith};
+ghost use Rattle.rel_base.specs.Beginnings.{BeginsWith};
 ghost use Rattle.rel_base.specs.Picks.{items_at, every_nth};
 ghost use Rattle.rel_base.specs.inner.Strides.{stepped};
 
+use crate::beginnings::led_row;
 use crate::blocks::Block;
 use crate::list::copies_of;
 use crate::row_iter::RowIter;
 use crate::shared_rows::{SharedRows, run_length};
-use crate::sort_keys::sort_key;
 use crate::stretches::Stretch;
 use crate::strides::{copies_apart, start_behind};
-use crate::{Duplicate, Memory, Row, Value};
+use crate::{Duplicate, Memory, Row};
 use std::alloc::Global;
 use std::cmp::Ordering;
 use std::marker::Model;
@@ -326,19 +326,14 @@ fn numbered_rows(alloc: Global, rows: &Rows) -> Result<Vec<NumberedRow<'_>>, Mem
     Ok(numbered)
 }
 
-/// A row with its number, behind the rank of its first value's type, 0 where it has none, and what that value begins
-/// with: the number of an int, the key of a string, and else 0.
+/// A row with its number, behind what it begins with.
 fn numbered_row(row: &Row, number: u32) -> NumberedRow<'_>
     ensures leading { BeginsWith row.now result.0 result.1 }
     ensures row { result.2.now ≡ row.now }
     ensures number { result.3 ≡ number }
 {
-    match row.as_slice().first() {
-        None => (0, 0, row, number),
-        Some(Value::Int(first)) => (1, *first, row, number),
-        Some(Value::Str(text)) => (2, sort_key(text.as_str().as_bytes()) as i64, row, number),
-        Some(Value::Bool(_)) => (3, 0, row, number),
-    }
+    let (rank, first, row) = led_row(row);
+    (rank, first, row, number)
 }
 
 /// The numbers of rows, without the rows.

@@ -1,7 +1,7 @@
 use Rattle.std.proofs.Common.{◌≡◌, ◌∷◌, [], ◌++◌, map, append_assoc}
 use Rattle.std.proofs.lemmas.List.{map-append}
 use Rattle.std.proofs.lemmas.List.Elements.{All-append}
-use Rattle.rel_base.specs.inner.Beginnings.{BeginsWith}
+use Rattle.rel_base.specs.Beginnings.{BeginsWith}
 use Rattle.rel_base.proofs.SortLemmas.{All-one}
 use Rattle.aggregate_ops.proofs.ordering.led_rows.Goals as goal
 

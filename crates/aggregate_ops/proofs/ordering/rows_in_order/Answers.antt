@@ -4,7 +4,7 @@ use Rattle.std.specs.declared.cmp.Ordering.TheVariants.{Less, Equal, Greater}
 use Rattle.std.specs.Ordering.{ordering_then, nat_cmp, int_cmp}
 use Rattle.std.proofs.lemmas.List.Sorted.{All-permutation, IsPermutation-map}
 use Rattle.rel_base.specs.Values.{row_order}
-use Rattle.rel_base.specs.inner.Beginnings.{BeginsWith}
+use Rattle.rel_base.specs.Beginnings.{BeginsWith}
 use Rattle.rel_base.proofs.SortLemmas.{IsSortedBy-part, not_less-row}
 use Rattle.aggregate_ops.specs.Columns.{rows_in}
 use Rattle.aggregate_ops.proofs.ordering.rows_in_order.Goals as goal

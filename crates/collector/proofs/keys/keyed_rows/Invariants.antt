@@ -1,5 +1,5 @@
 use Rattle.std.proofs.Common.{◌≡◌, ◌++◌, map, All}
-use Rattle.rel_base.specs.inner.Beginnings.{BeginsWith}
+use Rattle.rel_base.specs.Beginnings.{BeginsWith}
 use Rattle.collector.proofs.keys.keyed_rows.Given as goal
 
 abbrev pub invariant-loop-row : goal.invariant-loop-row

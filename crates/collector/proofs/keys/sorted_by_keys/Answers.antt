@@ -2,7 +2,7 @@ use Rattle.std.proofs.Common.{◌≡◌, ◌∙◌, map, ap, rules, is_lt}
 use Rattle.std.specs.Ordering.{ordering_then, nat_cmp, int_cmp}
 use Rattle.std.proofs.lemmas.List.Sorted.{All-permutation, IsPermutation-map}
 use Rattle.rel_base.specs.Values.{row_order}
-use Rattle.rel_base.specs.inner.Beginnings.{BeginsWith}
+use Rattle.rel_base.specs.Beginnings.{BeginsWith}
 use Rattle.rel_base.proofs.SortLemmas.{IsSortedBy-part}
 use Rattle.collector.proofs.SortingLemmas.{in_order_as_rows, not_less-keyed}
 use Rattle.collector.proofs.keys.sorted_by_keys.Goals as goal

@@ -1,6 +1,6 @@
 use Rattle.std.proofs.Common.{◌≡◌, ◌∷◌, [], ◌++◌, map, All}
 use Rattle.rel_base.specs.Picks.{items_at}
-use Rattle.rel_base.specs.inner.Beginnings.{BeginsWith}
+use Rattle.rel_base.specs.Beginnings.{BeginsWith}
 use Rattle.rel_base.proofs.rows.numbered_rows.Given as goal
 
 abbrev pub invariant-loop-row : goal.invariant-loop-row

@@ -4,7 +4,7 @@ use Rattle.std.proofs.lemmas.List.{length-map}
 use Rattle.std.proofs.lemmas.List.Sorted.{All-permutation, IsPermutation-map}
 use Rattle.rel_base.specs.Picks.{items_at}
 use Rattle.rel_base.specs.Values.{row_order}
-use Rattle.rel_base.specs.inner.Beginnings.{BeginsWith}
+use Rattle.rel_base.specs.Beginnings.{BeginsWith}
 use Rattle.rel_base.proofs.SortLemmas.{IsSortedBy-part, not_less-row, items_at-numbered, numbers_within}
 use Rattle.rel_base.proofs.rows.sorted_view.Goals as goal
 
