@@ -190,7 +190,8 @@ fn push_row_of<'a>(
         AddsRow schema.now line.now rows.old rows.new rest.now)) }
 {
     let nth = rows.len() + 1;
-    let mut row = Row::new(alloc);
+    let width = schema.len();
+    let mut row = Row::with_capacity(alloc, width)?;
     let mut left = line;
     let mut more = true;
     for column in schema.as_slice() {

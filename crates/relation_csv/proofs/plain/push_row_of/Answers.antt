@@ -6,7 +6,7 @@ use Rattle.relation_csv.proofs.plain.push_row_of.Goals as goal
 pub loop-column-init : goal.loop-column-init
 loop-column-init c = record {
   text = c.utf8.line;
-  read = rw c.new-row.ensures (HasFields-none c.args.schema.now (c.len-nth.result + 1) c.args.line.now);
+  read = rw c.in_ok-row.ensures (HasFields-none c.args.schema.now (c.len-nth.result + 1) c.args.line.now);
 }
 
 pub overflow_add-len : goal.overflow_add-len
