@@ -1,4 +1,6 @@
 pub mod TableLemmas
+pub mod ColumnLemmas
+pub mod RangeLemmas
 pub mod WordLemmas
 pub mod BuildLemmas
 pub mod GatherLemmas

@@ -1,12 +1,12 @@
 -- Worked cases of this crate's words, each proved by computing.
-use Rattle.std.proofs.Common.{◌≡◌, ℕ, pos, negsuc, true, false, List, [], ◌∷◌, refl, codes, arith}
+use Rattle.std.proofs.Common.{◌≡◌, ℕ, ◌≤◌, pos, negsuc, true, false, List, [], ◌∷◌, refl, codes, arith}
 use Rattle.std.specs.Prelude.{Contains}
 use Rattle.std.specs.declared.cmp.Ordering.TheVariants.{Less}
 use Rattle.std.proofs.lemmas.List.Elements.{All-nil, All-cons, All-contains}
 use Rattle.std.proofs.lemmas.List.Kept.{AllPairs-cons}
 use Rattle.rel_base.specs.declared.values.Value.{Value}
 use Rattle.rel_base.specs.declared.values.Value.TheVariants as variant
-use Rattle.word_table.specs.WordTables.{word_at, cut_into}
+use Rattle.word_table.specs.WordTables.{word_at, cut_into, table_by_columns, IsRange}
 use Rattle.word_table.specs.Words.{text_order, strings_in, IsDictionaryOf, IsHeld, word_of}
 
 -- one part, whose rows have a number and a string each
@@ -104,3 +104,17 @@ rows_without_columns = refl
 
 pub second_of_the_first : word_at ((5 ∷ 6 ∷ []) ∷ (7 ∷ 8 ∷ []) ∷ []) 0 1 ≡ 6
 second_of_the_first = refl
+
+-- the same words, column after column
+pub two_rows_by_columns : (table_by_columns 2 2 (5 ∷ 7 ∷ 6 ∷ 8 ∷ [])).rows ≡ (5 ∷ 6 ∷ []) ∷ (7 ∷ 8 ∷ []) ∷ []
+two_rows_by_columns = refl
+
+-- of the words 7, 5, 7 the least is 5 and the greatest 7
+pub five_to_seven : IsRange (7 ∷ 5 ∷ 7 ∷ []) (record { least = 5; greatest = 7 })
+five_to_seven = record {
+  least = (1, omega arith, refl);
+  greatest = (0, omega arith, refl);
+  within = All-cons (λ w. (5 ≤ w) × (w ≤ 7)) 7 (5 ∷ 7 ∷ []) (omega arith, omega arith)
+      (All-cons (λ w. (5 ≤ w) × (w ≤ 7)) 5 (7 ∷ []) (omega arith, omega arith)
+      (All-cons (λ w. (5 ≤ w) × (w ≤ 7)) 7 [] (omega arith, omega arith) (All-nil (λ w. (5 ≤ w) × (w ≤ 7)))));
+}

@@ -2,10 +2,11 @@
 //!
 //! Stands on `rel_base`. Nothing here reads, writes or waits. A dictionary is built once over all rows that are to be
 //! joined; each value then has a word of 64 bits, and words of one type compare as their values do. A table is rows of
-//! such words in one flat list, so that a join compares numbers that stand side by side.
+//! such words in one flat list, column after column, so that a join compares numbers that stand side by side; it knows each
+//! column's least and greatest word.
 //!
 //! Promises: a dictionary has exactly the strings of the rows that it was built over, each once and in byte order; a
-//! word is undone by `value`; a table has the words of its rows, row by row; `encode` makes both for all parts of a join
+//! word is undone by `value`; a table has the words of its rows, in their order; `encode` makes both for all parts of a join
 //! at once.
 //! Not promised: that memory is there, nor anything of words of two types, which may coincide.
 //!
@@ -13,6 +14,7 @@
 //! `encoding.rt`.
 #![tactic(auto)]
 
+mod columns;
 mod dictionary;
 mod encoding;
 mod entries;
@@ -24,6 +26,7 @@ mod ranking;
 mod tables;
 mod text_keys;
 
+pub use columns::WordRange;
 pub use dictionary::{Dictionary, words_keep_order};
 pub use encoding::{Encoded, encode};
 pub use tables::Table;
