@@ -5,3 +5,4 @@ pub mod BagLemmas
 pub mod StepLemmas
 pub mod FitLemmas
 pub mod ReadLemmas
+pub mod EmitLemmas

@@ -1,24 +1,32 @@
 //! Groups: rows in the order of their keys, read run by run.
-ghost use Rattle.std.specs.Prelude.{◌≡◌, ◌<◌, ◌^◌, ◌++◌, IsTrue, map, length, OnOk, IfOk, IfErr, IsSorted, true};
+ghost use Rattle.std.specs.Prelude.{◌≡◌, ◌<◌, ◌^◌, ◌++◌, IsTrue, map, length, OnOk, IfOk, IfErr, IfSome, IsSorted, true, All};
+ghost use Rattle.std.specs.List.{list_all};
 ghost use Rattle.rel_base.specs.Bags.{SameBag};
 ghost use Rattle.rel_base.specs.Values.{row_order};
-ghost use Rattle.myrial_ast.specs.Groups.{groups, sums_fit};
+ghost use Rattle.myrial_ast.specs.Groups.{groups, sums_fit, row_fits};
+ghost use Rattle.myrial_ast.specs.Combinations.{emitted};
+ghost use Rattle.myrial_ast.specs.CandidateFaults.{all_fit};
+ghost use Rattle.myrial_ast.specs.ScalarTrees.{scalar_tree_of};
 ghost use Rattle.myrial_ast.specs.Partials.{partial_kinds};
 ghost use Rattle.bag_laws.specs.PartialLaws.{AreGrouped};
 ghost use Rattle.algebra.specs.Trees.{kind_of_emit};
 ghost use Rattle.aggregate_ops.specs.Columns.{key_places, key_at, Overflows};
+ghost use Rattle.aggregate_ops.specs.Picks.{are_picks};
+ghost use Rattle.aggregate_ops.specs.inner.Emitted.{all_emitted};
 ghost use Rattle.aggregate_ops.specs.inner.Reading.{rows_of};
 ghost use Rattle.aggregate_ops.specs.Forms.{grouped_kinds, results, results_fit};
 
 use crate::AggFault;
+use crate::emits::Emits;
 use crate::forms::{Form, added};
 use crate::keys::rows_by_key;
 use crate::packing::{key_columns, packed_columns, sorted_words};
+use crate::picking::picked_rows;
 use crate::reading::GroupedRows;
 use crate::runs::{are_in_order, run_length};
-use crate::spans::scanned_columns;
+use crate::spans::{ScannedColumn, scanned_columns};
 use algebra::{EmitKind, EmitKinds};
-use myrial_ast::AggOp;
+use myrial_ast::{AggOp, Scalars};
 use rel_base::{Memory, Places, Rows};
 use std::alloc::Global;
 
@@ -123,6 +131,67 @@ fn rows_of_runs(
     Ok(made)
 }
 
+/// What is made of each group of what rows emit, in the order of the keys, where that is packed in words.
+fn grouped_words(
+    alloc: Global,
+    form: Form,
+    emits: Emits<'_>,
+    rows: &Rows,
+    kinds: &EmitKinds,
+    places: &[u32],
+    scanned: &[ScannedColumn],
+) -> Result<Option<Rows>, AggFault>
+    requires places { places.now ≡ key_places (grouped_kinds form (map kind_of_emit kinds.now)) }
+    requires width { AreGrouped (grouped_kinds form (map kind_of_emit kinds.now))
+        (all_emitted emits rows.now) }
+    ensures bag { IfOk result (λ found. IfSome found (λ made. SameBag
+        (results form (map kind_of_emit kinds.now) (all_emitted emits.entry rows.now)) made)) }
+    ensures fits { IfOk result (λ found. IfSome found (λ made.
+        results_fit form (map kind_of_emit kinds.now) (all_emitted emits.entry rows.now) ≡ true)) }
+    ensures numbers { IfOk result (λ found. IfSome found (λ made.
+        All (λ row. row_fits row ≡ true) (all_emitted emits.entry rows.now))) }
+    ensures fault { IfErr result (λ fault. Overflows fault
+        (results_fit form (map kind_of_emit kinds.now) (all_emitted emits.entry rows.now))) }
+    ensures few { OnOk result (length rows.now < 2 ^ 32) }
+{
+    let columns = packed_columns(alloc, scanned, places)?;
+    let Some(words) = sorted_words(alloc, emits, rows, &columns)? else {
+        return Ok(None);
+    };
+    let packed = GroupedRows::packed(&words, &columns);
+    if !are_in_order(places, packed) {
+        return Ok(None);
+    }
+    match rows_of_runs(alloc, form, kinds, places, packed) {
+        Ok(made) => Ok(Some(made)),
+        Err(fault) => Err(fault),
+    }
+}
+
+/// What is made of each group of rows, which are lent, in the order of the keys.
+fn grouped_rows(
+    alloc: Global,
+    form: Form,
+    rows: &Rows,
+    kinds: &EmitKinds,
+    places: &[u32],
+    scanned: &[ScannedColumn],
+) -> Result<Rows, AggFault>
+    requires places { places.now ≡ key_places (grouped_kinds form (map kind_of_emit kinds.now)) }
+    requires width { AreGrouped (grouped_kinds form (map kind_of_emit kinds.now)) rows.now }
+    requires few { length rows.now < 2 ^ 32 }
+    ensures bag { IfOk result (λ made. SameBag
+        (results form (map kind_of_emit kinds.now) rows.now) made) }
+    ensures fits { OnOk result (results_fit form (map kind_of_emit kinds.now) rows.now ≡ true) }
+    ensures fault { IfErr result (λ fault. Overflows fault
+        (results_fit form (map kind_of_emit kinds.now) rows.now)) }
+{
+    let columns = key_columns(alloc, scanned, places)?;
+    let lent = rows_by_key(alloc, rows, places, &columns)?;
+    let ordered = GroupedRows::lent(&lent);
+    rows_of_runs(alloc, form, kinds, places, ordered)
+}
+
 /// What is made of each group of rows, in the order of the keys.
 pub fn grouped(alloc: Global, form: Form, rows: &Rows, kinds: &EmitKinds) -> Result<Rows, AggFault>
     requires { AreGrouped (grouped_kinds form (map kind_of_emit kinds.now)) rows.now }
@@ -133,18 +202,41 @@ pub fn grouped(alloc: Global, form: Form, rows: &Rows, kinds: &EmitKinds) -> Res
         (results_fit form (map kind_of_emit kinds.now) rows.now)) }
 {
     let places = places_for(alloc, form, kinds)?;
-    let scanned = scanned_columns(alloc, rows, &Rows::new(alloc))?;
-    let columns = packed_columns(alloc, &scanned, places.as_slice())?;
-    if let Some(words) = sorted_words(alloc, rows, &columns)? {
-        let packed = GroupedRows::packed(&words, &columns);
-        if are_in_order(places.as_slice(), packed) {
-            return rows_of_runs(alloc, form, kinds, places.as_slice(), packed);
-        }
+    let places = places.as_slice();
+    let scanned = scanned_columns(alloc, Emits::Whole, rows, &Rows::new(alloc))?;
+    match grouped_words(alloc, form, Emits::Whole, rows, kinds, places, &scanned)? {
+        Some(made) => Ok(made),
+        None => grouped_rows(alloc, form, rows, kinds, places, &scanned),
     }
-    let columns = key_columns(alloc, &scanned, places.as_slice())?;
-    let lent = rows_by_key(alloc, rows, places.as_slice(), &columns)?;
-    let ordered = GroupedRows::lent(&lent);
-    rows_of_runs(alloc, form, kinds, places.as_slice(), ordered)
+}
+
+/// What is made of each group of what rows emit by picks, in the order of the keys. Only where that can't be packed in words
+/// are there rows of it.
+pub fn grouped_picks(
+    alloc: Global,
+    form: Form,
+    rows: &Rows,
+    picks: &Scalars,
+    kinds: &EmitKinds,
+) -> Result<Rows, AggFault>
+    requires picks { IsTrue (are_picks (map scalar_tree_of picks.now)) }
+    requires width { AreGrouped (grouped_kinds form (map kind_of_emit kinds.now))
+        (map (emitted (map scalar_tree_of picks.now)) rows.now) }
+    ensures bag { IfOk result (λ made. SameBag (results form (map kind_of_emit kinds.now)
+        (map (emitted (map scalar_tree_of picks.now)) rows.now)) made) }
+    ensures numbers { OnOk result (list_all (all_fit (map scalar_tree_of picks.now)) rows.now ≡ true) }
+    ensures fault { IfErr result (λ fault. Overflows fault (results_fit form
+        (map kind_of_emit kinds.now) (map (emitted (map scalar_tree_of picks.now)) rows.now))) }
+{
+    let places = places_for(alloc, form, kinds)?;
+    let places = places.as_slice();
+    let emits = Emits::Picked(picks.as_slice());
+    let scanned = scanned_columns(alloc, emits, rows, &Rows::new(alloc))?;
+    if let Some(made) = grouped_words(alloc, form, emits, rows, kinds, places, &scanned)? {
+        return Ok(made);
+    }
+    let listed = picked_rows(alloc, picks, rows)?;
+    grouped_rows(alloc, form, &listed, kinds, places, &scanned)
 }
 
 /// A row for each group of the rows, in the order of their keys: what rows are grouped by, and the aggregates of the rest.

@@ -15,6 +15,7 @@
 
 mod bags;
 mod columns;
+mod emits;
 mod faults;
 mod forms;
 mod grouping;
@@ -25,6 +26,7 @@ mod packed_bags;
 mod packed_columns;
 mod packing;
 mod partials;
+mod picking;
 mod reading;
 mod runs;
 mod spans;
@@ -33,4 +35,5 @@ pub use bags::{append, difference, distinct};
 pub use faults::AggFault;
 pub use grouping::group;
 pub use laws::merged_fit_as_groups;
-pub use partials::{merge, partial, partial_keys};
+pub use partials::{merge, partial, partial_keys, partial_of_picks};
+pub use picking::are_picks;

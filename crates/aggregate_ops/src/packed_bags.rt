@@ -6,6 +6,7 @@ ghost use Rattle.myrial_ast.specs.Bags.{difference};
 ghost use Rattle.aggregate_ops.specs.inner.Reading.{unpacked_row};
 ghost use Rattle.aggregate_ops.specs.inner.Runs.{IsRun, IsBelow, begins};
 
+use crate::emits::Emits;
 use crate::forms::put;
 use crate::packed_columns::PackedColumn;
 use crate::packing::{packed_columns, sorted_words};
@@ -142,12 +143,12 @@ fn without(
 pub fn packed_difference(alloc: Global, a: &Rows, b: &Rows) -> Result<Option<Rows>, Memory>
     ensures { IfOk result (λ found. IfSome found (λ made. SameBag (difference a.now b.now) made)) }
 {
-    let scanned = scanned_columns(alloc, a, b)?;
+    let scanned = scanned_columns(alloc, Emits::Whole, a, b)?;
     let columns = packed_columns(alloc, &scanned, &[])?;
-    let Some(words) = sorted_words(alloc, a, &columns)? else {
+    let Some(words) = sorted_words(alloc, Emits::Whole, a, &columns)? else {
         return Ok(None);
     };
-    let Some(others) = sorted_words(alloc, b, &columns)? else {
+    let Some(others) = sorted_words(alloc, Emits::Whole, b, &columns)? else {
         return Ok(None);
     };
     if !are_in_order(&columns, &words) || !are_in_order(&columns, &others) {

@@ -3,12 +3,14 @@
 //!
 //! How columns are chosen decides about speed alone: a word is taken only where it gives the values of its row back.
 ghost use Rattle.std.specs.Prelude.{◌≡◌, ◌<◌, ◌^◌, IsTrue, IfOk, OnOk, IfSome, IsPermutation, map, length};
+ghost use Rattle.aggregate_ops.specs.inner.Emitted.{emitted_by, all_emitted};
 ghost use Rattle.aggregate_ops.specs.inner.Reading.{unpacked_row};
 
+use crate::emits::Emits;
 use crate::keys::order_of;
 use crate::packed_columns::PackedColumn;
 use crate::spans::ScannedColumn;
-use rel_base::{Memory, Row, Rows, Value};
+use rel_base::{Memory, Rows, Value};
 use std::alloc::Global;
 
 /// One of these places whose column has the same values.
@@ -86,47 +88,53 @@ pub fn key_columns(
     Ok(columns)
 }
 
-/// Whether a word has these values in the columns.
-fn gives_back(word: u64, columns: &[PackedColumn], values: &[Value]) -> bool
-    ensures { IsTrue result → unpacked_row columns.now word ≡ values.now }
+/// Whether a word has in the columns what a row emits.
+fn gives_back(word: u64, columns: &[PackedColumn], emits: Emits<'_>, values: &[Value]) -> bool
+    ensures { IsTrue result → unpacked_row columns.now word ≡ emitted_by emits.entry values.now }
 {
-    match (columns, values) {
-        ([], []) => true,
-        ([column, columns @ ..], [value, values @ ..]) => {
-            order_of(&column.value(word), value).is_eq() && gives_back(word, columns, values)
-        }
-        _ => false,
+    if columns.len() != emits.width(values) {
+        return false;
     }
+    for (place, column) in columns.iter().enumerate() {
+        match emits.value(values, place) {
+            Some(value) if order_of(&column.value(word), value).is_eq() => {}
+            _ => return false,
+        }
+    }
+    true
 }
 
-/// The word of a row, where it gives the row's values back.
-fn word_of(columns: &[PackedColumn], row: &Row) -> Option<u64>
-    ensures { IfSome result (λ word. unpacked_row columns.now word ≡ row.now) }
+/// The word of what a row emits, where it gives that back.
+fn word_of(columns: &[PackedColumn], emits: Emits<'_>, values: &[Value]) -> Option<u64>
+    ensures { IfSome result (λ word. unpacked_row columns.now word ≡ emitted_by emits.entry values.now) }
 {
     let mut word = 0;
-    for (column, value) in columns.iter().zip(row.as_slice()) {
-        word |= column.bits_of(value);
+    for (place, column) in columns.iter().enumerate() {
+        if let Some(value) = emits.value(values, place) {
+            word |= column.bits_of(value);
+        }
     }
-    if gives_back(word, columns, row.as_slice()) {
+    if gives_back(word, columns, emits, values) {
         Some(word)
     } else {
         None
     }
 }
 
-/// The words of the rows, where each gives its row's values back.
+/// The words of what the rows emit, where each gives that back.
 fn words_of(
     alloc: Global,
+    emits: Emits<'_>,
     rows: &Rows,
     columns: &[PackedColumn],
 ) -> Result<Option<Vec<u64>>, Memory>
     ensures words { IfOk result (λ found. IfSome found (λ words. map
-        (unpacked_row columns.now) words.items ≡ rows.now)) }
+        (unpacked_row columns.now) words.items ≡ all_emitted emits.entry rows.now)) }
     ensures few { OnOk result (length rows.now < 2 ^ 32) }
 {
     let mut words = Vec::with_capacity(alloc, rows.len() as usize)?;
     for row in rows {
-        match word_of(columns, row) {
+        match word_of(columns, emits, row.as_slice()) {
             Some(word) => words.push(word)?,
             None => return Ok(None),
         }
@@ -134,17 +142,18 @@ fn words_of(
     Ok(Some(words))
 }
 
-/// The words of the rows in ascending order, where each gives its row's values back.
+/// The words of what the rows emit, in ascending order, where each gives that back.
 pub fn sorted_words(
     alloc: Global,
+    emits: Emits<'_>,
     rows: &Rows,
     columns: &[PackedColumn],
 ) -> Result<Option<Vec<u64>>, Memory>
-    ensures same { IfOk result (λ found. IfSome found (λ words. IsPermutation rows.now
-        (map (unpacked_row columns.now) words.items))) }
+    ensures same { IfOk result (λ found. IfSome found (λ words. IsPermutation
+        (all_emitted emits.entry rows.now) (map (unpacked_row columns.now) words.items))) }
     ensures few { OnOk result (length rows.now < 2 ^ 32) }
 {
-    match words_of(alloc, rows, columns)? {
+    match words_of(alloc, emits, rows, columns)? {
         Some(mut words) => {
             words.sort_unstable();
             Ok(Some(words))

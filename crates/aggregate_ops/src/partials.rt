@@ -1,16 +1,22 @@
 //! Partial rows: what is formed of the rows of a part, and what the partial rows of all parts come to.
-ghost use Rattle.std.specs.Prelude.{◌≡◌, map, OnOk, IfOk, IfErr, true};
+ghost use Rattle.std.specs.Prelude.{◌≡◌, map, length, OnOk, IfOk, IfErr, IsTrue, true};
+ghost use Rattle.std.specs.List.{list_all};
 ghost use Rattle.rel_base.specs.Bags.{SameBag};
+ghost use Rattle.myrial_ast.specs.Combinations.{emitted};
+ghost use Rattle.myrial_ast.specs.CandidateFaults.{all_fit};
+ghost use Rattle.myrial_ast.specs.ScalarTrees.{scalar_tree_of};
 ghost use Rattle.myrial_ast.specs.Partials.{partial_kinds, partial_rows, partial_keys, merged};
 ghost use Rattle.bag_laws.specs.PartialLaws.{AreGrouped};
 ghost use Rattle.algebra.specs.Trees.{kind_of_emit};
 ghost use Rattle.aggregate_ops.specs.Columns.{Overflows};
 ghost use Rattle.aggregate_ops.specs.Forms.{merged_fits};
+ghost use Rattle.aggregate_ops.specs.Picks.{are_picks};
 
 use crate::AggFault;
 use crate::forms::Form;
-use crate::grouping::{grouped, partial_places};
+use crate::grouping::{grouped, grouped_picks, partial_places};
 use algebra::EmitKinds;
+use myrial_ast::Scalars;
 use rel_base::{Memory, Places, Rows};
 use std::alloc::Global;
 
@@ -22,6 +28,27 @@ pub fn partial(alloc: Global, rows: &Rows, kinds: &EmitKinds) -> Result<Rows, Me
         (partial_rows (map kind_of_emit kinds.now) rows.now) made) }
 {
     match grouped(alloc, Form::Split, rows, kinds) {
+        Ok(made) => Ok(made),
+        Err(AggFault::Memory) => Err(Memory),
+        Err(AggFault::AggregateOverflow) => unreachable!(),
+    }
+}
+
+/// A partial row for each group of what the rows emit by picks, which are columns and literals, in the order of their keys. Where
+/// what a row emits fits one word it is packed into it, and nothing else is made of the row. Every emitted number lies in 64 bits.
+pub fn partial_of_picks(
+    alloc: Global,
+    rows: &Rows,
+    picks: &Scalars,
+    kinds: &EmitKinds,
+) -> Result<Rows, Memory>
+    requires picks { IsTrue (are_picks (map scalar_tree_of picks.now)) }
+    requires kinds { length kinds.now ≡ length picks.now }
+    ensures bag { IfOk result (λ made. SameBag (partial_rows (map kind_of_emit kinds.now)
+        (map (emitted (map scalar_tree_of picks.now)) rows.now)) made) }
+    ensures fits { OnOk result (list_all (all_fit (map scalar_tree_of picks.now)) rows.now ≡ true) }
+{
+    match grouped_picks(alloc, Form::Split, rows, picks, kinds) {
         Ok(made) => Ok(made),
         Err(AggFault::Memory) => Err(Memory),
         Err(AggFault::AggregateOverflow) => unreachable!(),

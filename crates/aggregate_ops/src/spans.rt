@@ -1,4 +1,5 @@
 //! What the columns of rows have, so that they may be packed.
+use crate::emits::Emits;
 use crate::keys::order_of;
 use crate::packed_columns::PackedColumn;
 use rel_base::{Memory, Rows, Value};
@@ -44,7 +45,7 @@ impl Span {
     }
 }
 
-/// A column of rows.
+/// A column of what rows emit.
 #[derive(Clone, Copy)]
 pub struct ScannedColumn {
     /// What its values are.
@@ -53,35 +54,43 @@ pub struct ScannedColumn {
     pub twin: usize,
 }
 
-/// The first place of the value at a place.
-fn first_place(values: &[Value], place: usize) -> usize {
-    for (other, value) in values.iter().enumerate() {
-        if values.get(place) == Some(value) {
+/// The first place of the value at a place of what a row emits.
+fn first_place(emits: Emits<'_>, values: &[Value], place: usize) -> usize {
+    for other in 0..place {
+        if emits.value(values, other) == emits.value(values, place) {
             return other;
         }
     }
     place
 }
 
-/// The columns of rows of which this is the first, as long as none is scanned.
-fn columns_of(alloc: Global, first: &[Value]) -> Result<Vec<ScannedColumn>, Memory> {
-    let mut columns = Vec::with_capacity(alloc, first.len())?;
-    for place in 0..first.len() {
+/// The columns of what rows emit of which this is the first, as long as none is scanned.
+fn columns_of(
+    alloc: Global,
+    emits: Emits<'_>,
+    first: &[Value],
+) -> Result<Vec<ScannedColumn>, Memory> {
+    let width = emits.width(first);
+    let mut columns = Vec::with_capacity(alloc, width)?;
+    for place in 0..width {
         columns.push(ScannedColumn {
             span: Span::Nothing,
-            twin: first_place(first, place),
+            twin: first_place(emits, first, place),
         })?;
     }
     Ok(columns)
 }
 
-/// Scans one row more, and says whether a column may still be packed.
-fn scan(columns: &mut [ScannedColumn], values: &[Value]) -> bool {
+/// Scans what one row more emits, and says whether a column may still be packed.
+fn scan(columns: &mut [ScannedColumn], emits: Emits<'_>, values: &[Value]) -> bool {
     let mut may_pack = false;
-    for (place, (column, value)) in columns.iter_mut().zip(values).enumerate() {
+    for (place, column) in columns.iter_mut().enumerate() {
+        let Some(value) = emits.value(values, place) else {
+            return false;
+        };
         column.span = column.span.with(value);
         may_pack |= column.span != Span::Others;
-        match values.get(column.twin) {
+        match emits.value(values, column.twin) {
             Some(twin) if column.twin == place || order_of(twin, value).is_eq() => {}
             _ => column.twin = place,
         }
@@ -89,9 +98,10 @@ fn scan(columns: &mut [ScannedColumn], values: &[Value]) -> bool {
     may_pack
 }
 
-/// The columns of the rows of both lists; none where no column may be packed.
+/// The columns of what the rows of both lists emit; none where no column may be packed.
 pub fn scanned_columns(
     alloc: Global,
+    emits: Emits<'_>,
     rows: &Rows,
     others: &Rows,
 ) -> Result<Vec<ScannedColumn>, Memory> {
@@ -99,18 +109,18 @@ pub fn scanned_columns(
     if some.is_empty() {
         return Ok(Vec::new(alloc));
     }
-    let mut columns = columns_of(alloc, some.get(0).as_slice())?;
-    if scan_all(&mut columns, rows) && scan_all(&mut columns, others) {
+    let mut columns = columns_of(alloc, emits, some.get(0).as_slice())?;
+    if scan_all(&mut columns, emits, rows) && scan_all(&mut columns, emits, others) {
         Ok(columns)
     } else {
         Ok(Vec::new(alloc))
     }
 }
 
-/// Scans more rows, and says whether a column may still be packed.
-fn scan_all(columns: &mut [ScannedColumn], rows: &Rows) -> bool {
+/// Scans what more rows emit, and says whether a column may still be packed.
+fn scan_all(columns: &mut [ScannedColumn], emits: Emits<'_>, rows: &Rows) -> bool {
     for row in rows {
-        if !scan(columns, row.as_slice()) {
+        if !scan(columns, emits, row.as_slice()) {
             return false;
         }
     }

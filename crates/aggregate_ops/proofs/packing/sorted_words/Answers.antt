@@ -1,13 +1,14 @@
 use Rattle.std.proofs.Common.{◌≡◌, map}
 use Rattle.std.specs.Prelude.{IsPermutation}
 use Rattle.std.proofs.lemmas.List.Sorted.{IsPermutation-map}
+use Rattle.aggregate_ops.specs.inner.Emitted.{all_emitted}
 use Rattle.aggregate_ops.specs.inner.Reading.{unpacked_row}
 use Rattle.aggregate_ops.proofs.packing.sorted_words.Goals as goal
 
 pub returns-in-Some-clause-same : goal.returns-in-Some-clause-same
 returns-in-Some-clause-same c =
     let unpack = unpacked_row c.args.columns.now in
-    let words : map unpack c.in-Some.words.items ≡ c.args.rows.now = rw c.in-Some.is at c.in_ok-words.ensures.words in
+    let words : map unpack c.in-Some.words.items ≡ all_emitted c.args.emits c.args.rows.now = rw c.in-Some.is at c.in_ok-words.ensures.words in
     let sorted : IsPermutation (map unpack c.in-Some.words.items) (map unpack c.sort_unstable.new.self.items) =
     IsPermutation-map unpack c.in-Some.words.items c.sort_unstable.new.self.items c.sort_unstable.ensures.permutation in
     rw words at sorted

@@ -1,0 +1,27 @@
+use Rattle.std.proofs.Common.{◌≡◌, true, List, map, All, Err, IfErr, sym, subst, rules}
+use Rattle.myrial_ast.specs.declared.scalars.Scalar as code
+use Rattle.myrial_ast.specs.Combinations.{emitted}
+use Rattle.myrial_ast.specs.Groups.{row_fits}
+use Rattle.myrial_ast.specs.ScalarTrees.{scalar_tree_of}
+use Rattle.algebra.specs.Trees.{kind_of_emit}
+use Rattle.aggregate_ops.specs.Columns.{Overflows}
+use Rattle.aggregate_ops.specs.Forms.{results_fit}
+use Rattle.aggregate_ops.proofs.EmitLemmas.{all-picks-fit}
+use Rattle.aggregate_ops.proofs.grouping.grouped_picks.Goals as goal
+
+pub returns-in_err-made-clause-fault : goal.returns-in_err-made-clause-fault
+returns-in_err-made-clause-fault c =
+    let fits = results_fit c.args.form (map kind_of_emit c.args.kinds.now) in
+    let wrong = c.in_err-made.field-0.0 in
+    let answer : c.from_residual-in_err-made.result ≡ Err wrong = search rules in
+    subst (λ answer. IfErr answer (λ wrong. Overflows wrong (fits (map (emitted (map scalar_tree_of c.args.picks.now)) c.args.rows.now)))) (sym answer)
+    (subst (λ (picks : List code.Scalar). Overflows wrong (fits (map (emitted (map scalar_tree_of picks)) c.args.rows.now)))
+    c.as_slice.ensures.value c.in_err-made.ensures.fault)
+
+pub returns-in-Some-clause-numbers : goal.returns-in-Some-clause-numbers
+returns-in-Some-clause-numbers c =
+    let all : All (λ row. row_fits row ≡ true) (map (emitted (map scalar_tree_of c.as_slice.result.now)) c.args.rows.now) =
+    rw c.in-Some.is at c.in_ok-made.ensures.numbers in
+    all-picks-fit (map scalar_tree_of c.args.picks.now) c.args.rows.now c.requires.picks
+    (subst (λ (picks : List code.Scalar). All (λ row. row_fits row ≡ true) (map (emitted (map scalar_tree_of picks)) c.args.rows.now))
+    c.as_slice.ensures.value all)
