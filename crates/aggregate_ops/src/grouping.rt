@@ -131,7 +131,8 @@ fn rows_of_runs(
     Ok(made)
 }
 
-/// What is made of each group of what rows emit, in the order of the keys, where that is packed in words.
+/// What is made of each group of what rows emit, in the order of the keys, where that is packed in
+/// words.
 fn grouped_words(
     alloc: Global,
     form: Form,
@@ -210,8 +211,8 @@ pub fn grouped(alloc: Global, form: Form, rows: &Rows, kinds: &EmitKinds) -> Res
     }
 }
 
-/// What is made of each group of what rows emit by picks, in the order of the keys. Only where that can't be packed in words
-/// are there rows of it.
+/// What is made of each group of what rows emit by picks, in the order of the keys. Only where that
+/// can't be packed in words are there rows of it.
 pub fn grouped_picks(
     alloc: Global,
     form: Form,
@@ -224,7 +225,8 @@ pub fn grouped_picks(
         (map (emitted (map scalar_tree_of picks.now)) rows.now) }
     ensures bag { IfOk result (λ made. SameBag (results form (map kind_of_emit kinds.now)
         (map (emitted (map scalar_tree_of picks.now)) rows.now)) made) }
-    ensures numbers { OnOk result (list_all (all_fit (map scalar_tree_of picks.now)) rows.now ≡ true) }
+    ensures numbers { OnOk result
+        (list_all (all_fit (map scalar_tree_of picks.now)) rows.now ≡ true) }
     ensures fault { IfErr result (λ fault. Overflows fault (results_fit form
         (map kind_of_emit kinds.now) (map (emitted (map scalar_tree_of picks.now)) rows.now))) }
 {

@@ -106,7 +106,8 @@ fn gives_back(word: u64, columns: &[PackedColumn], emits: Emits<'_>, values: &[V
 
 /// The word of what a row emits, where it gives that back.
 fn word_of(columns: &[PackedColumn], emits: Emits<'_>, values: &[Value]) -> Option<u64>
-    ensures { IfSome result (λ word. unpacked_row columns.now word ≡ emitted_by emits.entry values.now) }
+    ensures { IfSome result (λ word. unpacked_row columns.now word
+        ≡ emitted_by emits.entry values.now) }
 {
     let mut word = 0;
     for (place, column) in columns.iter().enumerate() {

@@ -34,8 +34,9 @@ pub fn partial(alloc: Global, rows: &Rows, kinds: &EmitKinds) -> Result<Rows, Me
     }
 }
 
-/// A partial row for each group of what the rows emit by picks, which are columns and literals, in the order of their keys. Where
-/// what a row emits fits one word it is packed into it, and nothing else is made of the row. Every emitted number lies in 64 bits.
+/// A partial row for each group of what the rows emit by picks, which are columns and literals, in
+/// the order of their keys. Where what a row emits fits one word it is packed into it, and nothing
+/// else is made of the row. On Ok every emitted number lies in 64 bits.
 pub fn partial_of_picks(
     alloc: Global,
     rows: &Rows,

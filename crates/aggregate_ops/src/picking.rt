@@ -78,7 +78,8 @@ fn picked_row(alloc: Global, picks: &Scalars, row: &Row) -> Result<Row, Memory>
 /// What each row emits by these picks, in order.
 pub fn picked_rows(alloc: Global, picks: &Scalars, rows: &Rows) -> Result<Rows, Memory>
     requires { IsTrue (are_picks (map scalar_tree_of picks.now)) }
-    ensures rows { IfOk result (λ made. made ≡ map (emitted (map scalar_tree_of picks.now)) rows.now) }
+    ensures rows { IfOk result (λ made. made
+        ≡ map (emitted (map scalar_tree_of picks.now)) rows.now) }
     ensures fits { OnOk result (list_all (all_fit (map scalar_tree_of picks.now)) rows.now ≡ true) }
 {
     let mut made = Rows::with_capacity(alloc, rows.len())?;
