@@ -1,23 +1,37 @@
 -- Rows that are made worker by worker.
 use Rattle.std.proofs.Common.{◌≡◌, ℕ, zero, suc, ◌+◌, ◌*◌, ◌^◌, ◌<◌, ◌≤◌, Bool, true, false, List, [], ◌∷◌, ◌++◌, length, map, get_or, Result, Ok, Err, refl, inl, inr, sym, ap, ◌∙◌, subst, arith}
-use Rattle.std.specs.Prelude.{◌&&◌, sum_by, IfOk}
+use Rattle.std.specs.Prelude.{◌&&◌, sum_by, IfOk, OnOk}
 use Rattle.std.specs.List.{list_all, range_with_len}
 use Rattle.std.proofs.lemmas.List.{get_or_default, get_or-map, length-map}
 use Rattle.std.proofs.lemmas.List.{map-id}
 use Rattle.std.proofs.lemmas.List.FromFn.{map-range_with_len_more}
 use Rattle.std.proofs.lemmas.List.Concat.{length-flat_map}
+use Rattle.std.proofs.lemmas.List.Elements.{All-map}
+use Rattle.std.proofs.lemmas.List.Folds.{list_all-append}
+use Rattle.std.proofs.lemmas.Result.{IfErr-weaker}
 use Rattle.std.proofs.lemmas.List.Sums.{get_or-le-sum_by, sum_by-le}
 use Rattle.rel_base.specs.Bags.{SameBag}
 use Rattle.rel_base.specs.Limits.{most_workers}
-use Rattle.myrial_ast.specs.Combinations.{Rows}
+use Rattle.rel_base.specs.declared.failure.Memory.{Memory}
+use Rattle.myrial_ast.specs.CandidateFaults.{all_fit}
+use Rattle.myrial_ast.specs.Combinations.{Row, Rows, emitted}
+use Rattle.myrial_ast.specs.Scalars.{Scalar}
 use Rattle.myrial_ast.specs.Groups.{Kinds}
-use Rattle.myrial_ast.specs.Partials.{merged}
+use Rattle.myrial_ast.specs.Partials.{partial_rows, merged}
+use Rattle.bag_laws.specs.PartialLaws.{AreGrouped}
+use Rattle.aggregate_ops.proofs.EmitLemmas.{picked-wide}
 use Rattle.aggregate_ops.specs.Columns.{Overflows}
 use Rattle.aggregate_ops.specs.Forms.{merged_fits}
 use Rattle.aggregate_ops.specs.declared.faults.AggFault.{AggFault}
 use Rattle.aggregate_ops.specs.declared.faults.AggFault.TheVariants as fault
+use Rattle.algebra.specs.declared.settings.Settings.{Settings}
+use Rattle.rel_io.specs.declared.taps.Totals.{Totals}
+use Rattle.placement.specs.Exchanges.{PlacedExchange}
 use Rattle.placement.specs.Layouts.{together, by_worker}
-use Rattle.keyed_terms.specs.inner.Making.{AreMadeBy, IsFaultOf, IsMerged}
+use Rattle.term_runs.specs.declared.moved.Moved.{Moved}
+use Rattle.term_runs.specs.TermRuns.{IsTermRun}
+use Rattle.keyed_terms.specs.KeyedTerms.{emitted_parts, IsGroupFault, IsPickedFault}
+use Rattle.keyed_terms.specs.inner.Making.{AreMadeBy, IsPicked, AreFormed, IsFaultOf, IsMerged}
 
 -- the rows at a worker, whatever stands for those of others
 pub rows-at : (parts : List Rows) (w : ℕ) (d : Rows) → w < length parts → d ≡ get_or parts w d → d ≡ get_or parts w []
@@ -60,6 +74,75 @@ few-together parts workers few =
     sum_by-le (λ (rows : Rows). length rows) 4294967296 parts
     (λ k d below. subst (λ (rows : Rows). length rows ≤ 4294967296) (get_or_default parts k [] d below) (omega (arith, few k below))) in
     omega (arith, length-flat_map (λ (rows : Rows). rows) parts, each, workers)
+
+-- ---- partial rows of what rows emit
+
+-- tests on all rows together
+all-together : (p : Row → Bool) (parts : List Rows) → ((w : ℕ) → w < length parts → list_all p (get_or parts w []) ≡ true) → list_all p (together parts) ≡ true
+all-together p [] each = refl
+all-together p (rows ∷ parts) each =
+    list_all-append p rows (together parts)
+    ∙ (λ i. each 0 (omega arith) i && all-together p parts (λ w below. each (suc w) (omega (arith, below))) i)
+
+module _ (kinds : Kinds) (picks : List Scalar) (parts : List Rows) (all : List (Result Rows Memory))
+    (each : (w : ℕ) (d : Result Rows Memory) → w < length parts → IsPicked kinds picks (get_or parts w []) (get_or all w d)) (long : length all ≡ length parts) where
+  emitted-at : (w : ℕ) → w < length parts → get_or (emitted_parts picks parts) w [] ≡ map (emitted picks) (get_or parts w [])
+  emitted-at w below = get_or-map (map (emitted picks)) parts w [] [] below
+
+  pub picked-rows : (w : ℕ) (d : Result Rows Memory) → w < length parts
+      → IfOk (get_or all w d) (SameBag (partial_rows kinds (get_or (emitted_parts picks parts) w [])))
+  picked-rows w d below =
+      subst (λ (rows : Rows). IfOk (get_or all w d) (SameBag (partial_rows kinds rows))) (sym (emitted-at w below)) (each w d below).rows
+
+  pub picked-few : length parts ≤ most_workers → length (together (emitted_parts picks parts)) < 2 ^ 63
+  picked-few workers =
+      few-together (emitted_parts picks parts) (omega (arith, workers, length-map parts (map (emitted picks))))
+      (λ w below.
+      let inside : w < length parts = omega (arith, below, length-map parts (map (emitted picks))) in
+      omega (arith, (each w (Ok []) inside).few, ap length (emitted-at w inside), length-map (get_or parts w []) (emitted picks)))
+
+  pub picked-fits : (made : List Rows) → map Ok made ≡ all → list_all (all_fit picks) (together parts) ≡ true
+  picked-fits made is =
+      let count : length made ≡ length parts = sym (length-map made Ok) ∙ ap length is ∙ long in
+      all-together (all_fit picks) parts
+      (λ w below.
+      let at : get_or all w (Ok []) ≡ Ok (get_or made w []) =
+      sym (ap (λ (l : List (Result Rows Memory)). get_or l w (Ok [])) is) ∙ get_or-map Ok made w [] (Ok []) (omega (arith, below, count)) in
+      (subst (IsPicked kinds picks (get_or parts w [])) at (each w (Ok []) below)).fits)
+
+-- the partial rows that were made of what rows emit
+pub picked-formed : (kinds : Kinds) (picks : List Scalar) (parts : List Rows) (n : ℕ) (partials : List Rows) → length parts ≡ n → length kinds ≡ length picks
+    → length (together (emitted_parts picks parts)) < 2 ^ 63
+    → AreMadeBy (length parts) (λ w. partial_rows kinds (get_or (emitted_parts picks parts) w [])) partials
+    → AreFormed kinds n (emitted_parts picks parts) partials
+picked-formed kinds picks parts n partials workers wide few made = record {
+  long = length-map parts (map (emitted picks)) ∙ workers;
+  grouped = All-map (AreGrouped kinds) (map (emitted picks)) parts (λ k d below. picked-wide kinds picks (get_or parts k d) wide);
+  few = few;
+  made = subst (λ (m : ℕ). AreMadeBy m (λ w. partial_rows kinds (get_or (emitted_parts picks parts) w [])) partials) workers made;
+}
+
+-- a fault of the groups of what rows emit, where every number that is emitted fits
+picked-fault : (kinds : Kinds) (picks : List Scalar) (parts : List Rows) (wrong : AggFault) → list_all (all_fit picks) (together parts) ≡ true
+    → IsGroupFault kinds (emitted_parts picks parts) wrong → IsPickedFault kinds picks parts wrong
+picked-fault kinds picks parts fault.AggregateOverflow fits h = (h, fits)
+picked-fault kinds picks parts fault.Memory fits h = tt
+
+pub picked-run : {T : Type 0} (s : Settings) (number : ℕ) (kinds : Kinds) (picks : List Scalar) (parts expected : List Rows) (exchanges : List PlacedExchange)
+    (totals : T → Totals) (tag : T → ℕ) (before after : List T) (answer : Result Moved AggFault) → list_all (all_fit picks) (together parts) ≡ true
+    → IsTermRun s number expected exchanges totals tag (IsGroupFault kinds (emitted_parts picks parts)) before after answer
+    → IsTermRun s number expected exchanges totals tag (IsPickedFault kinds picks parts) before after answer
+picked-run s number kinds picks parts expected exchanges totals tag before after answer fits run = record {
+  fair = run.fair;
+  ok = run.ok;
+  err = IfErr-weaker answer (IsGroupFault kinds (emitted_parts picks parts)) (IsPickedFault kinds picks parts)
+      (λ wrong h. picked-fault kinds picks parts wrong fits h) run.err;
+}
+
+-- what holds in any case holds on Ok
+pub on-any : {X E : Type 0} {P : Type 0} (r : Result X E) → P → OnOk r P
+on-any (Ok x) p = p
+on-any (Err e) p = tt
 
 -- ---- merged rows
 

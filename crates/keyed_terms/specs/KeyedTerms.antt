@@ -4,17 +4,24 @@
 --   distinct_parts, distinct_exchanges      each row once, at the home of all its columns
 --   diff_parts, diff_exchanges      each row of the one that the other doesn't have, once, there too
 --   group_parts, group_exchanges    the groups of listed rows, at the homes of their keys
+--   emitted_parts emits parts       what the rows at each worker emit
 --   IsRefused fault                 memory may be refused at any time
 --   IsGroupFault kinds listed fault a sum of the groups lies outside 64 bits, or memory was refused
-use Rattle.std.specs.Prelude.{◌≡◌, ⊤, ℕ, ◌++◌, List, [], ◌∷◌, length, All, slice_index_or}
+--   IsPickedFault kinds picks parts fault
+--                                   the same of what rows emit, of which each number lies in 64 bits
+use Rattle.std.specs.Prelude.{◌≡◌, ⊤, ℕ, ◌++◌, true, false, List, [], ◌∷◌, map, length, All, slice_index_or}
+use Rattle.std.specs.List.{list_all}
 use Rattle.rel_base.specs.declared.failure.Memory.{Memory}
 use Rattle.myrial_ast.specs.Bags.{distinct, difference}
-use Rattle.myrial_ast.specs.Combinations.{Rows}
+use Rattle.myrial_ast.specs.CandidateFaults.{all_fit}
+use Rattle.myrial_ast.specs.Combinations.{Rows, emitted}
 use Rattle.myrial_ast.specs.Groups.{Kinds, groups, sums_fit}
+use Rattle.myrial_ast.specs.Scalars.{Scalar}
 use Rattle.algebra.specs.declared.notes.Exchange.TheVariants as exchange
 use Rattle.algebra.specs.declared.settings.Settings.{Settings}
 use Rattle.aggregate_ops.specs.Columns.{Overflows}
 use Rattle.aggregate_ops.specs.declared.faults.AggFault.{AggFault}
+use Rattle.aggregate_ops.specs.declared.faults.AggFault.TheVariants as fault
 use Rattle.placement.specs.Exchanges.{PlacedExchange, row_exchange, group_exchange}
 use Rattle.placement.specs.Layouts.{together, by_worker, parts_by_row, parts_by_key}
 use Rattle.placement.specs.Plans.{usual_placing}
@@ -50,6 +57,10 @@ group_parts s kinds listed = parts_by_key (usual_placing s) kinds (groups kinds 
 abbrev pub group_exchanges : Settings → Kinds → List Rows → List PlacedExchange
 group_exchanges s kinds listed = group_exchange (usual_placing s) kinds listed (group_parts s kinds listed) ∷ []
 
+-- what the rows at each worker emit
+abbrev pub emitted_parts : List Scalar → List Rows → List Rows
+emitted_parts emits parts = map (map (emitted emits)) parts
+
 -- at each worker the rows of both
 abbrev pub both_parts : List Rows → List Rows → List Rows
 both_parts left right = by_worker (length left) (λ w. slice_index_or left w [] ++ slice_index_or right w [])
@@ -61,3 +72,10 @@ IsRefused fault = ⊤
 -- a sum of the groups lies outside 64 bits; memory may be refused at any time
 abbrev pub IsGroupFault : Kinds → List Rows → AggFault → Type 0
 IsGroupFault kinds listed fault = Overflows fault (sums_fit kinds (together listed))
+
+-- a sum of the groups of what the rows emit lies outside 64 bits, and no number that is emitted does; memory may be refused at any
+-- time
+abbrev pub IsPickedFault : Kinds → List Scalar → List Rows → AggFault → Type 0
+IsPickedFault kinds picks parts fault.AggregateOverflow =
+    (sums_fit kinds (together (emitted_parts picks parts)) ≡ false) × (list_all (all_fit picks) (together parts) ≡ true)
+IsPickedFault kinds picks parts fault.Memory = ⊤

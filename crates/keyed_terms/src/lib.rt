@@ -25,5 +25,5 @@ mod unions;
 
 pub use diffs::{Operands, run_diff};
 pub use distincts::run_distinct;
-pub use grouping::run_group;
+pub use grouping::{run_group, run_picked_group};
 pub use unions::{empty_parts, union_parts};

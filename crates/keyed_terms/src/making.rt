@@ -1,20 +1,25 @@
 //! What each worker makes of its own rows, all workers side by side.
-ghost use Rattle.std.specs.Prelude.{◌≡◌, ◌<◌, ◌≤◌, ◌^◌, true, [], length, map, All, IfOk, OnOk, IfErr, slice_index_or};
+ghost use Rattle.std.specs.Prelude.{◌≡◌, ◌<◌, ◌≤◌, ◌^◌, true, [], length, map, All, IsTrue, IfOk, OnOk, IfErr, slice_index_or};
 ghost use Rattle.std.specs.List.{list_all};
 ghost use Rattle.rel_base.specs.Bags.{SameBag};
 ghost use Rattle.rel_base.specs.Limits.{most_workers};
 ghost use Rattle.myrial_ast.specs.Bags.{distinct, difference};
+ghost use Rattle.myrial_ast.specs.CandidateFaults.{all_fit};
+ghost use Rattle.myrial_ast.specs.ScalarTrees.{scalar_tree_of};
 ghost use Rattle.myrial_ast.specs.Partials.{partial_kinds, partial_rows, merged};
 ghost use Rattle.bag_laws.specs.PartialLaws.{AreGrouped};
 ghost use Rattle.algebra.specs.Trees.{kind_of_emit};
 ghost use Rattle.aggregate_ops.specs.Columns.{Overflows};
 ghost use Rattle.aggregate_ops.specs.Forms.{merged_fits};
+ghost use Rattle.aggregate_ops.specs.Picks.{are_picks};
 ghost use Rattle.placement.specs.Layouts.{together};
-ghost use Rattle.keyed_terms.specs.inner.Making.{AreMadeBy, IsMerged};
+ghost use Rattle.keyed_terms.specs.KeyedTerms.{emitted_parts};
+ghost use Rattle.keyed_terms.specs.inner.Making.{AreMadeBy, IsPicked, IsMerged};
 
 use crate::gathering::{gather, gather_merged};
-use aggregate_ops::{AggFault, difference, distinct, merge, partial};
+use aggregate_ops::{AggFault, difference, distinct, merge, partial, partial_of_picks};
 use algebra::EmitKinds;
+use myrial_ast::Scalars;
 use rel_base::{Memory, Rows, Spread};
 use std::alloc::Global;
 use std::thread::{Threads, map_indices};
@@ -95,6 +100,55 @@ fn partial_at(alloc: Global, own: &Rows, kinds: &EmitKinds) -> Result<Rows, Memo
     // A number that was read fits its type.
     let _few = own.len();
     partial(alloc, own, kinds)
+}
+
+/// At each worker a partial row for each group of what its rows emit by picks. So few rows emit
+/// that every count of them fits.
+pub(crate) fn partial_picks_each<R: Threads + Sync>(
+    rt: &R,
+    alloc: Global,
+    parts: &Spread,
+    picks: &Scalars,
+    kinds: &EmitKinds,
+) -> Result<Spread, Memory>
+    requires picks { IsTrue (are_picks (map scalar_tree_of picks.now)) }
+    requires kinds { length kinds.now ≡ length picks.now }
+    requires workers { length parts.now ≤ most_workers }
+    ensures rows { let picks = map scalar_tree_of picks.entry.now in
+        IfOk result (AreMadeBy (length parts.entry.now) (λ w. partial_rows
+        (map kind_of_emit kinds.entry.now)
+        (slice_index_or (emitted_parts picks parts.entry.now) w []))) }
+    ensures few { OnOk result (length
+        (together (emitted_parts (map scalar_tree_of picks.now) parts.now)) < 2 ^ 63) }
+    ensures fits { OnOk result
+        (list_all (all_fit (map scalar_tree_of picks.now)) (together parts.now) ≡ true) }
+{
+    let workers = parts.as_slice();
+    let at = |worker: usize| -> Result<Rows, Memory>
+        requires { (worker < length workers.now)
+            × IsTrue (are_picks (map scalar_tree_of picks.now))
+            × (length kinds.now ≡ length picks.now) }
+        ensures { IsPicked (map kind_of_emit kinds.entry.now) (map scalar_tree_of picks.entry.now)
+            (slice_index_or workers.entry.now worker []) result }
+    { partial_picks_at(alloc, &workers[worker], picks, kinds) };
+    let all = map_indices(rt, alloc, workers.len(), &at)?;
+    gather(alloc, all)
+}
+
+/// A partial row for each group of what a worker's rows emit, which are few.
+fn partial_picks_at(
+    alloc: Global,
+    own: &Rows,
+    picks: &Scalars,
+    kinds: &EmitKinds,
+) -> Result<Rows, Memory>
+    requires picks { IsTrue (are_picks (map scalar_tree_of picks.now)) }
+    requires kinds { length kinds.now ≡ length picks.now }
+    ensures { IsPicked (map kind_of_emit kinds.now) (map scalar_tree_of picks.now) own.now result }
+{
+    // A number that was read fits its type.
+    let _few = own.len();
+    partial_of_picks(alloc, own, picks, kinds)
 }
 
 /// At each worker the groups of its partial rows.
