@@ -10,13 +10,15 @@ use Rattle.word_table.specs.inner.TextKeys.{AreKeysOf}
 
 -- the bytes from where the text begins to where the next one begins
 abbrev pub text_at : List ℕ → List ℕ → ℕ → List ℕ
-text_at bytes starts place = slice_range bytes (slice_index starts place) (slice_index starts (place + 1))
+text_at bytes starts place =
+    slice_range bytes (slice_index starts place) (slice_index starts (place + 1))
 
 -- the texts of the first so many places
 abbrev pub texts_in : List ℕ → List ℕ → ℕ → List (List ℕ)
 texts_in bytes starts count = map (text_at bytes starts) (range_with_len 0 count)
 
--- one place more than there are keys, where the bytes may be cut; no text ends before it begins, and its keys are beside it
+-- one place more than there are keys, where the bytes may be cut; no text ends before it begins,
+-- and its keys are beside it
 pub record AreTexts (bytes starts : List ℕ) (keys : List TextKeys) : Type 0 where
   pub many : length starts ≡ length keys + 1
   pub cut : All (IsCharBoundary bytes) starts

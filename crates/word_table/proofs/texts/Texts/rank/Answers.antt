@@ -8,8 +8,12 @@ use Rattle.word_table.proofs.texts.Texts.rank.Goals as goal
 
 pub loop-low-init : goal.loop-low-init
 loop-low-init c =
-    let count = count_is (string_bytes c.self.inside.letters) c.self.inside.starts.items c.self.inside.keys.items c.args.self.now c.self.view_is c.self.invariant in
-    let long : c.len-high.result ≡ length c.args.self.now = omega (arith, c.len-high.ensures, c.self.inside.keys.ok.0) in
+    let own = c.self.inside in
+    let count =
+    count_is (string_bytes own.letters) own.starts.items own.keys.items c.args.self.now c.self.view_is
+    c.self.invariant in
+    let long : c.len-high.result ≡ length c.args.self.now =
+    omega (arith, c.len-high.ensures, own.keys.ok.0) in
     record {
       span = omega arith;
       inside = omega arith;
@@ -22,7 +26,8 @@ loop-low-preserved-in-Less c =
     let had = c.loop-low.invariant in
     let middle = c.loop-low.low + (c.loop-low.high - c.loop-low.low) / 2 in
     let within : middle < length c.args.self.now = omega (arith, had.inside) in
-    let less : text_order (get_or c.args.self.now middle []) c.of-sought.result ≡ Less = sym c.compare.ensures ∙ c.in-Less.is in
+    let less : text_order (get_or c.args.self.now middle []) c.of-sought.result ≡ Less =
+    sym c.compare.ensures ∙ c.in-Less.is in
     record {
       span = omega arith;
       inside = had.inside;
@@ -35,7 +40,8 @@ loop-low-preserved c =
     let had = c.loop-low.invariant in
     let middle = c.loop-low.low + (c.loop-low.high - c.loop-low.low) / 2 in
     let within : middle < length c.args.self.now = omega (arith, had.inside) in
-    let greater : text_order (get_or c.args.self.now middle []) c.of-sought.result ≡ Greater = sym c.compare.ensures ∙ c.in-Greater.is in
+    let greater : text_order (get_or c.args.self.now middle []) c.of-sought.result ≡ Greater =
+    sym c.compare.ensures ∙ c.in-Greater.is in
     record {
       span = omega arith;
       inside = omega arith;
@@ -48,10 +54,15 @@ returns-in-Equal c =
     let middle = c.loop-low.low + (c.loop-low.high - c.loop-low.low) / 2 in
     let within : middle < length c.args.self.now = omega (arith, c.loop-low.invariant.inside) in
     let tied : text_order (get_or c.args.self.now middle []) c.args.text.now ≡ Equal =
-    ap (text_order (get_or c.args.self.now middle [])) (sym c.of-sought.ensures) ∙ sym c.compare.ensures ∙ c.in-Equal.is in
-    met_at c.args.self.now c.args.text.now middle c.requires within (λ d. ap (λ t. text_order t c.args.text.now) (get_or_default c.args.self.now middle d [] within) ∙ tied)
+    ap (text_order (get_or c.args.self.now middle [])) (sym c.of-sought.ensures)
+    ∙ sym c.compare.ensures ∙ c.in-Equal.is in
+    met_at c.args.self.now c.args.text.now middle c.requires within
+    (λ d. ap (λ t. text_order t c.args.text.now)
+    (get_or_default c.args.self.now middle d [] within) ∙ tied)
 
 pub returns : goal.returns
 returns c held =
     let had = c.loop-low.invariant in
-    not_met c.args.self.now c.of-sought.result c.loop-low.low had.front (λ k d low inside. had.rest k d (omega arith) inside) (subst (Contains c.args.self.now) (sym c.of-sought.ensures) held)
+    not_met c.args.self.now c.of-sought.result c.loop-low.low had.front
+    (λ k d low inside. had.rest k d (omega arith) inside)
+    (subst (Contains c.args.self.now) (sym c.of-sought.ensures) held)

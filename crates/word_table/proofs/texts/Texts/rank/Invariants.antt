@@ -8,7 +8,8 @@ invariant-loop-low l = record {
   span : l.low ≤ l.high;
   inside : l.high ≤ length l.self;
   front : (k : ℕ) (d : List ℕ) → k < l.low → text_order (get_or l.self k d) l.sought ≡ Less;
-  rest : (k : ℕ) (d : List ℕ) → l.high ≤ k → k < length l.self → text_order (get_or l.self k d) l.sought ≡ Greater;
+  rest : (k : ℕ) (d : List ℕ) → l.high ≤ k → k < length l.self
+      → text_order (get_or l.self k d) l.sought ≡ Greater;
 }
 
 abbrev pub decreases-loop-low : goal.decreases-loop-low
