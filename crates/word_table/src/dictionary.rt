@@ -76,7 +76,7 @@ impl Dictionary {
         ensures undoes { IfOk result (λ made. (v : Datum) → IsWordOf self.now v kind word → made ≡ v) }
     {
         match kind {
-            ColType::Int => Ok(Value::Int(int_of(word))),
+            ColType::Int => Ok(Value::Int(number_of_word(word))),
             ColType::Str => Ok(Value::Str(Text::of(alloc, self.lend(word))?)),
             ColType::Bool => Ok(Value::Bool(word == 1)),
         }
@@ -105,8 +105,8 @@ pub(crate) fn word_of_int(number: i64) -> u64
     number.abs_diff(i64::MIN)
 }
 
-/// The number with this word.
-fn int_of(word: u64) -> i64
+/// The number with this word: under any dictionary the number of the int whose word it is.
+pub fn number_of_word(word: u64) -> i64
     ensures fits { FitsSigned w64 result }
     ensures word { int_word result ≡ word }
 {

@@ -28,6 +28,6 @@ mod text_keys;
 mod texts;
 
 pub use columns::WordRange;
-pub use dictionary::{Dictionary, words_keep_order};
+pub use dictionary::{Dictionary, number_of_word, words_keep_order};
 pub use encoding::{Encoded, encode};
 pub use tables::Table;
