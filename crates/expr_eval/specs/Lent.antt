@@ -3,8 +3,8 @@
 --   value_of_lent v     the value that is lent
 use Rattle.rel_base.specs.declared.values.Value.{Value}
 use Rattle.rel_base.specs.declared.values.Value.TheVariants as value
-use Rattle.expr_eval.specs.declared.operands.Lent.{Lent}
-use Rattle.expr_eval.specs.declared.operands.Lent.TheVariants as lent
+use Rattle.expr_eval.specs.declared.lent_values.Lent.{Lent}
+use Rattle.expr_eval.specs.declared.lent_values.Lent.TheVariants as lent
 
 -- the value that is lent
 abbrev pub value_of_lent : Lent → Value

@@ -5,10 +5,10 @@ ghost use Rattle.myrial_ast.specs.ScalarTrees.{scalar_tree_of};
 ghost use Rattle.expr_eval.specs.Lent.{value_of_lent};
 ghost use Rattle.expr_eval.specs.Results.{IsFault};
 
-use crate::RowView;
-use crate::operands::{Lent, applied, minus};
+use crate::operands::{applied, minus};
+use crate::{Lent, RowView};
 use myrial_ast::Scalar;
-use rel_base::{Duplicate, Memory, Value};
+use rel_base::{Memory, Text, Value};
 use std::alloc::Global;
 
 /// A number that a part of a scalar makes lies outside 64 bits.
@@ -56,7 +56,7 @@ fn lent<'a, R: RowView>(scalar: &'a Scalar, row: &'a R) -> Result<Lent<'a>, Over
     match scalar {
         Scalar::Lit(value) => Ok(Lent::of(value)),
         Scalar::At(place) => match row.column(*place) {
-            Some(value) => Ok(Lent::of(value)),
+            Some(value) => Ok(value),
             None => Ok(Lent::Int(0)),
         },
         Scalar::Not(operand) => {
@@ -92,15 +92,15 @@ pub fn eval<R: RowView>(alloc: Global, scalar: &Scalar, row: &R) -> Result<Value
 {
     // Most scalars are a column, and most values a number: these need no evaluation.
     if let Scalar::At(place) = scalar {
-        if let Some(Value::Int(number)) = row.column(*place) {
-            return Ok(Value::Int(*number));
+        if let Some(Lent::Int(number)) = row.column(*place) {
+            return Ok(Value::Int(number));
         }
     }
     match lent(scalar, row) {
         Err(Overflow) => Err(EvalFault::Overflow),
         Ok(Lent::Int(number)) => Ok(Value::Int(number)),
         Ok(Lent::Bool(truth)) => Ok(Value::Bool(truth)),
-        Ok(Lent::Str(text)) => match text.copy(alloc) {
+        Ok(Lent::Str(text)) => match Text::of(alloc, text) {
             Ok(text) => Ok(Value::Str(text)),
             Err(Memory) => Err(EvalFault::Memory),
         },

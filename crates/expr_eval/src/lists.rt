@@ -43,13 +43,13 @@ pub fn all_hold<R: RowView>(scalars: &[Scalar], row: &R) -> Result<bool, Overflo
     Ok(all)
 }
 
-/// The values of these on a row. Memory is asked for strings, and for a row of more than three values.
+/// The values of these on a row. Memory is asked for strings, and once for a row of more than three values.
 pub fn emitted<R: RowView>(alloc: Global, scalars: &Scalars, row: &R) -> Result<Row, EvalFault>
     ensures row { IfOk result (λ made. made ≡ emitted (map scalar_tree_of scalars.now) (R.values row.now)) }
     ensures fits { OnOk result (all_fit (map scalar_tree_of scalars.now) (R.values row.now) ≡ true) }
     ensures fault { IfErr result (λ fault. IsListFault fault (map scalar_tree_of scalars.now) (R.values row.now)) }
 {
-    let mut made = Row::new(alloc);
+    let mut made = Row::with_capacity(alloc, scalars.len())?;
     for scalar in scalars.as_slice() {
         match eval(alloc, scalar, row) {
             Ok(value) => made.push(value)?,

@@ -1,74 +1,12 @@
 //! What operators make of values, without memory.
-ghost use Rattle.std.specs.Prelude.{◌≡◌, ◌+ℤ◌, ◌-ℤ◌, ◌*ℤ◌, neg_ℤ, IsTrue, IfOk, OnOk, OnErr, true, false};
+ghost use Rattle.std.specs.Prelude.{◌≡◌, ◌+ℤ◌, ◌-ℤ◌, ◌*ℤ◌, neg_ℤ, IfOk, OnOk, OnErr, true, false};
 ghost use Rattle.rel_base.specs.declared.values.Value.TheVariants as value;
-ghost use Rattle.rel_base.specs.Values.{value_order, number_of, truth_of, in_64_bits};
+ghost use Rattle.rel_base.specs.Values.{number_of, in_64_bits};
 ghost use Rattle.myrial_ast.specs.Scalars.{applied, is_arithmetic};
 ghost use Rattle.expr_eval.specs.Lent.{value_of_lent};
 
-use crate::Overflow;
+use crate::{Lent, Overflow};
 use myrial_ast::BinOp;
-use rel_base::{Text, Value};
-use std::cmp::Ordering;
-
-/// A value, its string lent.
-#[derive(Clone, Copy, Debug)]
-pub enum Lent<'a> {
-    /// A number.
-    Int(i64),
-    /// A text.
-    Str(&'a Text),
-    /// A truth value.
-    Bool(bool),
-}
-
-impl<'a> Lent<'a> {
-    /// The same value.
-    pub fn of(value: &'a Value) -> Lent<'a>
-        ensures value { value_of_lent result ≡ value.entry.now }
-        ensures fits { IsTrue (in_64_bits (number_of value.entry.now)) }
-    {
-        match value {
-            Value::Int(number) => Lent::Int(*number),
-            Value::Str(text) => Lent::Str(text),
-            Value::Bool(truth) => Lent::Bool(*truth),
-        }
-    }
-
-    /// The number; of another value 0.
-    pub fn number(self) -> i64
-        ensures value { result ≡ number_of (value_of_lent self.entry) }
-    {
-        match self {
-            Lent::Int(number) => number,
-            _ => 0,
-        }
-    }
-
-    /// The truth; of another value false.
-    pub fn truth(self) -> bool
-        ensures { result ≡ truth_of (value_of_lent self.entry) }
-    {
-        match self {
-            Lent::Bool(truth) => truth,
-            _ => false,
-        }
-    }
-
-    /// How the values compare: an int comes before a string, and a string before a boolean.
-    fn compared(self, other: Lent<'_>) -> Ordering
-        ensures { result ≡ value_order (value_of_lent self.entry) (value_of_lent other.entry) }
-    {
-        match (self, other) {
-            (Lent::Int(a), Lent::Int(b)) => a.cmp(&b),
-            (Lent::Str(a), Lent::Str(b)) => a.cmp(b),
-            (Lent::Bool(a), Lent::Bool(b)) => a.cmp(&b),
-            (Lent::Int(_), _) => Ordering::Less,
-            (_, Lent::Int(_)) => Ordering::Greater,
-            (Lent::Str(_), Lent::Bool(_)) => Ordering::Less,
-            (Lent::Bool(_), Lent::Str(_)) => Ordering::Greater,
-        }
-    }
-}
 
 /// The negation of a number.
 fn negated(number: i64) -> Result<i64, Overflow>

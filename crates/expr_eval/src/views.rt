@@ -1,27 +1,28 @@
 //! Rows as scalars see them: values by place.
-ghost use Rattle.std.specs.Prelude.{◌≡◌};
-ghost use Rattle.std.specs.Option.{option_copied};
+ghost use Rattle.std.specs.Prelude.{◌≡◌, List, option_map};
 ghost use Rattle.std.specs.List.{slice_get};
-ghost use Rattle.std.specs.Prelude.{List};
 ghost use Rattle.rel_base.specs.declared.values.Value.{Value as Datum};
+ghost use Rattle.expr_eval.specs.Lent.{value_of_lent};
 ghost use Rattle.expr_eval.specs.SideBySide.{values_of};
 
-use rel_base::{Row, Value};
+use crate::Lent;
+use rel_base::Row;
 
 /// What has a value at each place, as a row has in its columns.
 pub trait RowView {
     ghost values: { Self → List Datum };
 
     /// The value at a place, from 0; `None` past the end.
-    fn column(&self, place: u32) -> Option<&Value>
-        ensures { option_copied result ≡ slice_get (values self.now) place };
+    fn column(&self, place: u32) -> Option<Lent<'_>>
+        ensures { option_map value_of_lent result ≡ slice_get (values self.now) place };
 }
 
 impl RowView for Row {
     ghost values = { λ row. row };
 
-    fn column(&self, place: u32) -> Option<&Value> {
-        self.as_slice().get(place as usize)
+    fn column(&self, place: u32) -> Option<Lent<'_>> {
+        let value = self.as_slice().get(place as usize)?;
+        Some(Lent::of(value))
     }
 }
 
@@ -35,20 +36,20 @@ pub struct SideBySide<'a> {
 impl<'a> RowView for SideBySide<'a> {
     ghost values = { λ s. values_of s.rows.now };
 
-    fn column(&self, place: u32) -> Option<&Value> {
+    fn column(&self, place: u32) -> Option<Lent<'_>> {
         column_of(self.rows, place)
     }
 }
 
 /// The value at a place of rows side by side.
-fn column_of<'a>(rows: &'a [&'a Row], place: u32) -> Option<&'a Value>
-    ensures { option_copied result ≡ slice_get (values_of rows.entry.now) place }
+fn column_of<'a>(rows: &'a [&'a Row], place: u32) -> Option<Lent<'a>>
+    ensures { option_map value_of_lent result ≡ slice_get (values_of rows.entry.now) place }
 {
     match rows {
         [] => None,
         [row, rest @ ..] => {
             if place < row.len() {
-                Some(row.get(place))
+                Some(Lent::of(row.get(place)))
             } else {
                 column_of(rest, place - row.len())
             }

@@ -40,7 +40,7 @@ pub(crate) fn row_of(
     if fields.len() != schema.len() as usize {
         return Err(RelFault::FieldCount { nth });
     }
-    let mut row = Row::with_capacity(alloc, schema.len())?;
+    let mut row = Row::new(alloc);
     for (column, field) in schema.as_slice().iter().zip(fields) {
         let value = value_of(alloc, column.kind, field, nth, row.len() + 1)?;
         row.push(value)?;

@@ -8,3 +8,4 @@ pub mod RankLemmas
 pub mod EncodeLemmas
 pub mod WorkedRows
 pub mod TextKeyLemmas
+pub mod TextLemmas

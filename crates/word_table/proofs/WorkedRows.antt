@@ -8,6 +8,7 @@ use Rattle.rel_base.specs.declared.values.Value.{Value}
 use Rattle.rel_base.specs.declared.values.Value.TheVariants as variant
 use Rattle.word_table.specs.WordTables.{word_at, cut_into, table_by_columns, IsRange}
 use Rattle.word_table.specs.Words.{text_order, strings_in, IsDictionaryOf, IsHeld, word_of}
+use Rattle.word_table.specs.inner.Texts.{texts_in}
 
 -- one part, whose rows have a number and a string each
 abbrev part : List (List Value)
@@ -94,6 +95,10 @@ word-true = refl
 -- a string comes before each longer one that begins with it
 pub shorter_first : text_order (codes "a") (codes "ab") ≡ Less
 shorter_first = refl
+
+-- the empty string, `a` and `ba` one behind another
+pub three_texts : texts_in (codes "aba") (0 ∷ 0 ∷ 1 ∷ 3 ∷ []) 3 ≡ [] ∷ codes "a" ∷ codes "ba" ∷ []
+three_texts = refl
 
 -- four words as rows of two columns, and three rows of none
 pub two_rows : cut_into 2 2 (5 ∷ 6 ∷ 7 ∷ 8 ∷ []) ≡ (5 ∷ 6 ∷ []) ∷ (7 ∷ 8 ∷ []) ∷ []

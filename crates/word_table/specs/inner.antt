@@ -1,3 +1,4 @@
 -- The words of private functions.
 pub mod Gathered
 pub mod TextKeys
+pub mod Texts

@@ -1,16 +1,16 @@
 //! Dictionaries: the strings of rows, in byte order, and the words of values.
-ghost use Rattle.std.specs.Prelude.{◌≡◌, ◌↔◌, All, Contains, FitsSigned, IsSome, IfSome, IfOk};
+ghost use Rattle.std.specs.Prelude.{◌≡◌, ◌↔◌, All, FitsSigned, IsSome, IfSome, IfOk};
 ghost use Rattle.std.specs.Int.{w64};
-ghost use Rattle.std.specs.Option.{SomeIff};
 ghost use Rattle.rel_base.specs.Relations.{type_of};
 ghost use Rattle.rel_base.specs.declared.values.Value.{Value as Datum};
+ghost use Rattle.rel_base.specs.declared.values.Value.TheVariants as variant;
 ghost use Rattle.rel_base.specs.declared.values.ColType.TheVariants as kind;
-ghost use Rattle.word_table.specs.Words.{IsAscending, IsDictionaryOf, rank, int_word, word_of, HasWord, IsHeld, IsWordOf, WordsKeepOrder};
+ghost use Rattle.word_table.specs.Words.{IsAscending, IsDictionaryOf, int_word, word_of, HasWord, IsHeld, IsWordOf, WordsKeepOrder};
 
-use crate::entries::{Entry, entries_of};
 use crate::gathering::strings_of_parts;
 use crate::keyed::Keyed;
-use rel_base::{ColType, Duplicate, Memory, Parts, Value};
+use crate::texts::Texts;
+use rel_base::{ColType, Memory, Parts, Text, Value};
 use std::alloc::Global;
 use std::marker::Model;
 
@@ -20,7 +20,7 @@ use std::marker::Model;
 /// the strings. Words of one type compare as their values do; words of two types may coincide.
 #[derive(Drop)]
 pub struct Dictionary {
-    entries: Vec<Entry>,
+    texts: Texts,
 }
 
 impl Model for Dictionary {
@@ -29,9 +29,9 @@ impl Model for Dictionary {
 
     ghost Value = { List (List ℕ) };
 
-    ghost view = { λ d. d.entries.items };
+    ghost view = { λ d. d.texts };
 
-    ghost invariant = { λ d. IsAscending d.entries.items };
+    ghost invariant = { λ d. IsAscending d.texts };
 }
 
 impl Dictionary {
@@ -43,16 +43,16 @@ impl Dictionary {
         let mut strings = strings_of_parts(alloc, parts)?;
         strings.sort_unstable();
         strings.dedup();
-        let entries = entries_of(alloc, strings.as_slice())?;
-        Ok(Dictionary { entries })
+        Dictionary::of_strings(alloc, strings.as_slice())
     }
 
-    /// The dictionary of these strings.
-    pub(crate) fn of_entries(entries: Vec<Entry>) -> Dictionary
-        requires { IsAscending entries.items }
-        ensures { result ≡ entries.items }
+    /// The dictionary of these strings, which are copied.
+    pub(crate) fn of_strings(alloc: Global, strings: &[Keyed<'_>]) -> Result<Dictionary, Memory>
+        requires { IsAscending strings.now }
+        ensures { IfOk result (λ made. made ≡ strings.now) }
     {
-        Dictionary { entries }
+        let texts = Texts::of(alloc, strings)?;
+        Ok(Dictionary { texts })
     }
 
     /// The word of a value; `None` where it is a string that is not in the dictionary.
@@ -61,10 +61,10 @@ impl Dictionary {
         ensures word { IfSome result (IsWordOf self.now value.now (type_of value.now)) }
         ensures ascending { IsAscending self.now }
     {
-        let _strings = &self.entries;
+        let texts = &self.texts;
         match value {
             Value::Int(number) => Some(word_of_int(*number)),
-            Value::Str(text) => self.rank(text.as_str()),
+            Value::Str(text) => texts.rank(text.as_str()),
             Value::Bool(truth) => Some(u64::from(*truth)),
         }
     }
@@ -76,34 +76,20 @@ impl Dictionary {
         ensures undoes { IfOk result (λ made. (v : Datum) → IsWordOf self.now v kind word → made ≡ v) }
     {
         match kind {
-            ColType::Int => Ok(Value::Int(int_of(word))),
-            ColType::Str => self.lend(word).copy(alloc),
+            ColType::Int => Ok(Value::Int(number_of_word(word))),
+            ColType::Str => Ok(Value::Str(Text::of(alloc, self.lend(word))?)),
             ColType::Bool => Ok(Value::Bool(word == 1)),
         }
     }
 
-    /// The string with this word as a value, which is not copied.
-    pub fn lend(&self, word: u64) -> &Value
+    /// The string with this word, which is not copied.
+    pub fn lend(&self, word: u64) -> &str
         requires { (v : Datum) × IsWordOf self.now v kind.Str word }
-        ensures value { IsWordOf self.now result.now kind.Str word }
-        ensures undoes { (v : Datum) → IsWordOf self.now v kind.Str word → result.now ≡ v }
+        ensures value { IsWordOf self.now (variant.Str result.now) kind.Str word }
+        ensures undoes { (v : Datum) → IsWordOf self.now v kind.Str word
+            → variant.Str result.now ≡ v }
     {
-        self.entries[word as usize].value()
-    }
-
-    /// How many strings of the dictionary are below this one, where it is one of them.
-    fn rank(&self, text: &str) -> Option<u64>
-        ensures { SomeIff result (Contains self.now text.now) (rank self.now text.now) }
-    {
-        let sought = Keyed::of(text);
-        let found = self
-            .entries
-            .as_slice()
-            .binary_search_by(|entry| entry.compare(&sought));
-        match found {
-            Ok(place) => Some(place as u64),
-            Err(_) => None,
-        }
+        self.texts.at(word as usize)
     }
 }
 
@@ -119,8 +105,8 @@ pub(crate) fn word_of_int(number: i64) -> u64
     number.abs_diff(i64::MIN)
 }
 
-/// The number with this word.
-fn int_of(word: u64) -> i64
+/// The number with this word: under any dictionary the number of the int whose word it is.
+pub fn number_of_word(word: u64) -> i64
     ensures fits { FitsSigned w64 result }
     ensures word { int_word result ≡ word }
 {

@@ -39,6 +39,16 @@ impl<'a> Keyed<'a> {
         }
     }
 
+    /// The same string beside its keys once more.
+    pub(crate) fn again(&self) -> Keyed<'a>
+        ensures { result ≡ self.now }
+    {
+        Keyed {
+            keys: self.keys,
+            text: self.text,
+        }
+    }
+
     /// The string's keys.
     pub(crate) fn keys(&self) -> TextKeys
         ensures { AreKeysOf self.now result }

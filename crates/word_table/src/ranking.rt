@@ -3,39 +3,38 @@ ghost use Rattle.std.specs.Prelude.{◌<◌, ◌↔◌, All, AllPairs, IfOk, IsT
 ghost use Rattle.word_table.specs.declared.numbering.Occurrence.{Occurrence as Found};
 ghost use Rattle.word_table.specs.inner.Gathered.{Rise, IsLast, IsRanked, HasRanks};
 
-use crate::entries::Entry;
 use crate::keyed::Keyed;
 use crate::numbering::Occurrence;
 use rel_base::Memory;
 use std::alloc::Global;
 
 /// The strings of occurrences that ascend, each once, and in the place of each occurrence the rank of its string.
-pub(crate) fn ranked(
+pub(crate) fn ranked<'a>(
     alloc: Global,
-    found: &[Occurrence<'_>],
+    found: &[Occurrence<'a>],
     words: &mut Vec<u64>,
-) -> Result<Vec<Entry>, Memory>
+) -> Result<Vec<Keyed<'a>>, Memory>
     requires rise { Rise found.now }
     requires places { All (λ (o : Found). o.place < length words.old.items) found.now }
     ensures { IfOk result (λ made.
         IsRanked found.now (length found.now) made.items words.old.items words.new.items) }
 {
-    let mut entries = Vec::new(alloc);
+    let mut strings = Vec::new(alloc);
     for occurrence in found {
-        if !is_last(entries.as_slice(), &occurrence.string) {
-            entries.push(Entry::of(alloc, &occurrence.string)?)?;
+        if !is_last(strings.as_slice(), &occurrence.string) {
+            strings.push(occurrence.string.again())?;
         }
-        words[occurrence.place as usize] = entries.len() as u64 - 1;
+        words[occurrence.place as usize] = strings.len() as u64 - 1;
     }
-    Ok(entries)
+    Ok(strings)
 }
 
-/// Whether the last of the entries is this string.
-fn is_last(entries: &[Entry], string: &Keyed<'_>) -> bool
-    ensures { IsTrue result ↔ IsLast entries.now string.now }
+/// Whether the last of the strings is this one.
+fn is_last<'a>(strings: &[Keyed<'a>], string: &Keyed<'a>) -> bool
+    ensures { IsTrue result ↔ IsLast strings.now string.now }
 {
-    match entries.last() {
-        Some(entry) => entry.compare(string).is_eq(),
+    match strings.last() {
+        Some(last) => last == string,
         None => false,
     }
 }

@@ -9,10 +9,10 @@ use Rattle.word_table.proofs.ranking.is_last.Goals as goal
 
 pub returns-in-Some : goal.returns-in-Some
 returns-in-Some c =
-    let last = c.in-Some.entry.now in
+    let last = c.in-Some.last.now in
     let s = c.args.string.now in
-    let at : last ≡ get_or c.args.entries.now (length c.args.entries.now - 1) [] = c.in-Some.ensures.item.3.1 [] in
-    let order : c.is_eq.result ≡ is_eq (text_order last s) = c.is_eq.ensures ∙ ap is_eq c.compare.ensures in (
+    let at : last ≡ get_or c.args.strings.now (length c.args.strings.now - 1) [] = c.in-Some.ensures.item.3.1 [] in
+    let order : c.eq.result ≡ is_eq (text_order last s) = c.eq.ensures in (
       (λ yes. (c.in-Some.ensures.item.3.0, sym at ∙ same_text last s (equal_from_test (text_order last s) (sym order ∙ yes)))),
       (λ is.
           let same : last ≡ s = at ∙ is.1 in

@@ -3,4 +3,4 @@ use Rattle.word_table.specs.inner.Gathered.{IsRanked}
 use Rattle.word_table.proofs.ranking.ranked.Given as goal
 
 abbrev pub invariant-loop-occurrence : goal.invariant-loop-occurrence
-invariant-loop-occurrence l = IsRanked l.found l.occurrence-index l.entries.items l.initial.words.items l.words.items
+invariant-loop-occurrence l = IsRanked l.found l.occurrence-index l.strings.items l.initial.words.items l.words.items
