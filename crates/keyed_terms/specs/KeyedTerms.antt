@@ -21,7 +21,7 @@ use Rattle.algebra.specs.declared.notes.Exchange.TheVariants as exchange
 use Rattle.algebra.specs.declared.settings.Settings.{Settings}
 use Rattle.aggregate_ops.specs.Columns.{Overflows}
 use Rattle.aggregate_ops.specs.declared.faults.AggFault.{AggFault}
-use Rattle.aggregate_ops.specs.declared.faults.AggFault.TheVariants as fault
+use Rattle.aggregate_ops.specs.declared.faults.AggFault.TheVariants as agg
 use Rattle.placement.specs.Exchanges.{PlacedExchange, row_exchange, group_exchange}
 use Rattle.placement.specs.Layouts.{together, by_worker, parts_by_row, parts_by_key}
 use Rattle.placement.specs.Plans.{usual_placing}
@@ -76,6 +76,6 @@ IsGroupFault kinds listed fault = Overflows fault (sums_fit kinds (together list
 -- a sum of the groups of what the rows emit lies outside 64 bits, and no number that is emitted does; memory may be refused at any
 -- time
 abbrev pub IsPickedFault : Kinds → List Scalar → List Rows → AggFault → Type 0
-IsPickedFault kinds picks parts fault.AggregateOverflow =
+IsPickedFault kinds picks parts agg.AggregateOverflow =
     (sums_fit kinds (together (emitted_parts picks parts)) ≡ false) × (list_all (all_fit picks) (together parts) ≡ true)
-IsPickedFault kinds picks parts fault.Memory = ⊤
+IsPickedFault kinds picks parts agg.Memory = ⊤

@@ -28,10 +28,11 @@ returns-clause-run g c =
     let parts = c.args.parts.now in
     picked-run c.args.settings.now c.args.statement kinds picks parts (group_parts c.args.settings.now kinds (emitted_parts picks parts))
     (group_exchanges c.args.settings.now kinds (emitted_parts picks parts)) g.T.Tap.totals g.T.Tap.tag c.args.taps.now.items
-    c.meet_partials.new.taps.items c.meet_partials.result c.in_ok-partials.ensures.fits $ c.meet_partials.ensures.run (emitted_parts picks parts)
+    c.meet_partials.new.taps.items c.meet_partials.result c.in_ok-partials.ensures.fits
+    (c.meet_partials.ensures.run (emitted_parts picks parts)
     (picked-formed kinds picks parts c.args.settings.now.workers c.in_ok-partials.partials c.requires.workers
     (length-map c.args.kinds.now kind_of_emit ∙ c.requires.kinds ∙ sym (length-map c.args.picks.now scalar_tree_of))
-    c.in_ok-partials.ensures.few c.in_ok-partials.ensures.rows)
+    c.in_ok-partials.ensures.few c.in_ok-partials.ensures.rows))
 
 pub returns-clause-sums : goal.returns-clause-sums
 returns-clause-sums g c =
