@@ -1,11 +1,7 @@
-use Rattle.std.proofs.Common.{◌≡◌, ◌∙◌, true, List, map, length, sym}
-use Rattle.std.specs.List.{list_all}
+use Rattle.std.proofs.Common.{◌∙◌, map, sym}
 use Rattle.std.proofs.lemmas.List.{length-map}
-use Rattle.myrial_ast.specs.CandidateFaults.{all_fit}
-use Rattle.myrial_ast.specs.Combinations.{Rows}
 use Rattle.myrial_ast.specs.ScalarTrees.{scalar_tree_of}
 use Rattle.algebra.specs.Trees.{kind_of_emit}
-use Rattle.placement.specs.Layouts.{together}
 use Rattle.keyed_terms.specs.KeyedTerms.{group_parts, group_exchanges, emitted_parts}
 use Rattle.keyed_terms.proofs.MakingLemmas.{picked-formed, picked-run, on-any}
 use Rattle.keyed_terms.proofs.grouping.run_picked_group.Goals as goal

@@ -1,12 +1,9 @@
-use Rattle.std.proofs.Common.{◌≡◌, ◌∙◌, ◌<◌, ◌^◌, true, ℕ, List, [], length, map, get_or, Result, Ok, sym, ap, subst, arith}
-use Rattle.std.specs.Prelude.{IfOk}
+use Rattle.std.proofs.Common.{◌≡◌, ◌<◌, ◌^◌, true, ℕ, List, [], length, map, get_or, Result, Ok, ap, subst, arith}
 use Rattle.std.specs.List.{list_all}
-use Rattle.std.proofs.lemmas.List.{length-map, get_or-map}
 use Rattle.std.proofs.lemmas.Result.{IfOk-weaker}
-use Rattle.rel_base.specs.Bags.{SameBag}
 use Rattle.rel_base.specs.declared.failure.Memory.{Memory}
 use Rattle.myrial_ast.specs.CandidateFaults.{all_fit}
-use Rattle.myrial_ast.specs.Combinations.{Row, Rows, emitted}
+use Rattle.myrial_ast.specs.Combinations.{Rows}
 use Rattle.myrial_ast.specs.Partials.{partial_rows}
 use Rattle.myrial_ast.specs.ScalarTrees.{scalar_tree_of}
 use Rattle.algebra.specs.Trees.{kind_of_emit}
