@@ -15,7 +15,7 @@ use Rattle.myrial_ast.specs.Scalars.{Scalar}
 use Rattle.algebra.specs.ShapeConditions.{all_different, are_atoms, are_of, are_scalars, are_variables, is_atom, is_kind, is_plain_test, is_shape, is_truth, is_typed, is_variable, kind_at, kinds_of, where_both}
 use Rattle.algebra.specs.Shapes.{keeps_from, shifted, tests_of, tie_test, widths_of}
 use Rattle.algebra.specs.Trees.{AtomTree, Shape}
-use Rattle.plan_rewrite.specs.inner.Pushing.{is_of_one, left_tests, lowered, own_tests, pushed, pushed_atom, pushed_from, span_at, spans_from, ties_within}
+use Rattle.plan_rewrite.specs.inner.Pushing.{is_of_one, is_tied, left_tests, lowered, own_tests, pushed, pushed_atom, pushed_from, span_at, spans_from, ties_within}
 use Rattle.plan_rewrite.proofs.ListLemmas.{Each, all-kept}
 use Rattle.plan_rewrite.proofs.PushingLemmas.{own-inside, pushed-widths}
 use Rattle.plan_rewrite.proofs.SpanLemmas.{lowered-tests, shifted-tests}
@@ -142,8 +142,8 @@ pushed-formed s h =
     let same : kinds_of (pushed s) ≡ kinds = kinds-pushed (tests_of s) s.variables 0 s.atoms in
     let many = pushed-length (tests_of s) s.variables 0 s.atoms in
     let each : list_all is_atom (pushed s).atoms ≡ true = atoms-formed kinds (widths_of s) (tests_of s) s.variables tests joined.1 [] s.atoms refl atoms.1 in
-    let left : list_all (is_plain_test kinds) (left_tests s.atoms (tests_of s)) ≡ true =
-    all-kept (is_plain_test kinds) (λ e. not (is_of_one (spans_from 0 s.atoms) e)) (tests_of s) tests in
+    let left : list_all (is_plain_test kinds) (left_tests s.atoms s.variables (tests_of s)) ≡ true =
+    all-kept (is_plain_test kinds) (λ e. not (is_of_one (spans_from 0 s.atoms) e) && not (is_tied s.variables e)) (tests_of s) tests in
     let first : are_atoms (pushed s).atoms ≡ true =
     (λ i. (nat_lt 0 (sym many i) && nat_le (sym many i) most_items) && each i)
     ∙ and_from (nat_lt 0 (length s.atoms) && nat_le (length s.atoms) most_items) true atoms.0 refl in
@@ -151,7 +151,7 @@ pushed-formed s h =
     (λ i. are_variables (same i) (pushed-widths s i) s.variables) ∙ middle.1 in
     let third : are_scalars (kinds_of (pushed s)) (pushed s).plain s.arith s.emits ≡ true =
     (λ i. are_scalars (same i) (pushed s).plain s.arith s.emits)
-    ∙ and_from (list_all (is_plain_test kinds) (left_tests s.atoms (tests_of s)) && list_all (is_truth kinds) s.arith) (list_all (is_typed kinds) s.emits)
-    (and_from (list_all (is_plain_test kinds) (left_tests s.atoms (tests_of s))) (list_all (is_truth kinds) s.arith) left plain.1) scalars.1 in
+    ∙ and_from (list_all (is_plain_test kinds) (left_tests s.atoms s.variables (tests_of s)) && list_all (is_truth kinds) s.arith) (list_all (is_typed kinds) s.emits)
+    (and_from (list_all (is_plain_test kinds) (left_tests s.atoms s.variables (tests_of s))) (list_all (is_truth kinds) s.arith) left plain.1) scalars.1 in
     and_from (are_atoms (pushed s).atoms && are_variables (kinds_of (pushed s)) (widths_of (pushed s)) s.variables) (are_scalars (kinds_of (pushed s)) (pushed s).plain s.arith s.emits)
     (and_from (are_atoms (pushed s).atoms) (are_variables (kinds_of (pushed s)) (widths_of (pushed s)) s.variables) first second) third

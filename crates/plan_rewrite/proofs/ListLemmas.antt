@@ -71,6 +71,19 @@ module _ {X : Type 0} where
       by true e h = and_from (test x) (list_all test (filter keep xs)) e h
       by false e h = h
 
+  -- those that pass in any case may be left out
+  pub all-without : (test keep pass : X → Bool) → ((x : X) → pass x ≡ true → test x ≡ true) → (xs : List X)
+      → list_all test (filter (λ x. keep x && not (pass x)) xs) ≡ list_all test (filter keep xs)
+  all-without test keep pass h [] = refl
+  all-without test keep pass h (x ∷ xs) = by (keep x) (pass x) refl (all-without test keep pass h xs)
+    where
+      by : (k p : Bool) → pass x ≡ p → list_all test (filter (λ x. keep x && not (pass x)) xs) ≡ list_all test (filter keep xs)
+          → list_all test (cond (k && not p) (x ∷ filter (λ x. keep x && not (pass x)) xs) (filter (λ x. keep x && not (pass x)) xs))
+          ≡ list_all test (cond k (x ∷ filter keep xs) (filter keep xs))
+      by true false e r = ap (λ b. test x && b) r
+      by true true e r = r ∙ ap (λ b. b && list_all test (filter keep xs)) (sym (h x e))
+      by false p e r = r
+
   -- where each passes the one test, the two together are the other
   pub all-where : (keep test : X → Bool) (xs : List X) → list_all keep xs ≡ true → list_all (λ x. not (keep x) || test x) xs ≡ list_all test xs
   all-where keep test [] h = refl

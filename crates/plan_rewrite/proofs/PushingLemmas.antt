@@ -16,10 +16,10 @@ use Rattle.algebra.specs.Shapes.{candidates_of, keeps_from, kept_of, prefix_of, 
 use Rattle.algebra.specs.declared.shapes.Atom.{Atom}
 use Rattle.algebra.specs.Trees.{AtomTree, Shape, atom_tree_of}
 use Rattle.algebra.proofs.ShapeLemmas.{tie-holds}
-use Rattle.plan_rewrite.specs.inner.Pushing.{is_of_one, left_tests, lowered, own_tests, pushed, pushed_atom, pushed_from, span_at, spans_from, ties_within}
-use Rattle.plan_rewrite.proofs.ListLemmas.{all-filter, all-passing, all-split, and-true, filter-same}
+use Rattle.plan_rewrite.specs.inner.Pushing.{is_of_one, is_tied, left_tests, lowered, own_tests, pushed, pushed_atom, pushed_from, span_at, spans_from, ties_within}
+use Rattle.plan_rewrite.proofs.ListLemmas.{all-filter, all-passing, all-split, all-without, and-true, filter-same}
 use Rattle.plan_rewrite.proofs.SpanLemmas.{all-lowered, all-raised}
-use Rattle.plan_rewrite.proofs.TieLemmas.{each-holding, ties-agreed, ties-exact, ties-inside, ties-pass}
+use Rattle.plan_rewrite.proofs.TieLemmas.{each-holding, tied-agreed, tied-passes, ties-agreed, ties-exact, ties-inside, ties-pass}
 
 -- ---- the tests of a pushed shape
 
@@ -54,10 +54,11 @@ module _ (tests : List Scalar) (variables : List (List ℕ)) where
     spread-passes (span ∷ spans) =
         list_all-append test (own_tests tests variables span) (spread spans) ∙ (λ i. own-passes span i && spread-passes spans i)
 
-    pub whole-passes : (spans : List Span) → list_all test (spread spans ++ filter (λ e. not (is_of_one spans e)) tests) ≡ list_all test tests
-    whole-passes spans =
-        list_all-append test (spread spans) (filter (λ e. not (is_of_one spans e)) tests)
-        ∙ ap (λ b. b && list_all test (filter (λ e. not (is_of_one spans e)) tests)) (spread-passes spans)
+    pub whole-passes : ((e : Scalar) → is_tied variables e ≡ true → test e ≡ true) → (spans : List Span)
+        → list_all test (spread spans ++ filter (λ e. not (is_of_one spans e) && not (is_tied variables e)) tests) ≡ list_all test tests
+    whole-passes equal spans =
+        list_all-append test (spread spans) (filter (λ e. not (is_of_one spans e) && not (is_tied variables e)) tests)
+        ∙ (λ i. spread-passes spans i && all-without test (λ e. not (is_of_one spans e)) (is_tied variables) equal tests i)
         ∙ all-split reads_within test spans tests
 
 and-false : (a : Bool) → (a && false) ≡ false
@@ -65,12 +66,12 @@ and-false true = refl
 and-false false = refl
 
 module _ (s : Shape) where
-  -- a test that the equalities within variables pass is passed by the pushed tests where it is by the tests
+  -- a test that the equalities of variables pass is passed by the pushed tests where it is by the tests
   all-pushed : (test : Scalar → Bool) → ((span : Span) → list_all test (map tie_test (ties_within span s.variables)) ≡ true)
-      → list_all test (tests_of (pushed s)) ≡ list_all test (tests_of s)
-  all-pushed test tied =
-      ap (λ keeps. list_all test (keeps ++ left_tests s.atoms (tests_of s))) (keeps-spread (tests_of s) s.variables 0 s.atoms)
-      ∙ whole-passes (tests_of s) s.variables test tied (spans_from 0 s.atoms)
+      → ((e : Scalar) → is_tied s.variables e ≡ true → test e ≡ true) → list_all test (tests_of (pushed s)) ≡ list_all test (tests_of s)
+  all-pushed test tied equal =
+      ap (λ keeps. list_all test (keeps ++ left_tests s.atoms s.variables (tests_of s))) (keeps-spread (tests_of s) s.variables 0 s.atoms)
+      ∙ whole-passes (tests_of s) s.variables test tied equal (spans_from 0 s.atoms)
 
   -- ---- candidates
 
@@ -84,7 +85,8 @@ module _ (s : Shape) where
       by true e =
           ap (λ a. a && true)
           (all-pushed (λ e. holds e row)
-          (λ span. ties-pass (λ x c. value_at row c ≡ x) (λ e. holds e row) (λ x a b f g. tie-holds row a b (f ∙ sym g)) span s.variables (each-holding row s.variables e)))
+          (λ span. ties-pass (λ x c. value_at row c ≡ x) (λ e. holds e row) (λ x a b f g. tie-holds row a b (f ∙ sym g)) span s.variables (each-holding row s.variables e))
+          (tied-passes (λ x c. value_at row c ≡ x) (λ e. holds e row) (λ x a b f g. tie-holds row a b (f ∙ sym g)) s.variables (each-holding row s.variables e)))
       by false e = and-false (all_hold (tests_of (pushed s)) row) ∙ sym (and-false (all_hold (tests_of s) row))
 
   pub candidates-same : (tables : List Rows) → candidates_of s tables ≡ candidates_of (pushed s) tables
@@ -101,7 +103,7 @@ module _ (s : Shape) where
       by true e =
           ap (λ a. a && true)
           (all-filter (λ e. holds e row) (reads_within span) (tests_of (pushed s))
-          ∙ all-pushed (λ e. not (reads_within span e) || holds e row) (ties-agreed span row s.variables e)
+          ∙ all-pushed (λ e. not (reads_within span e) || holds e row) (ties-agreed span row s.variables e) (tied-agreed span row s.variables e)
           ∙ sym (all-filter (λ e. holds e row) (reads_within span) (tests_of s)))
       by false e = and-false (all_hold (filter (reads_within span) (tests_of (pushed s))) row) ∙ sym (and-false (all_hold (filter (reads_within span) (tests_of s)) row))
 

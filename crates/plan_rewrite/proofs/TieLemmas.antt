@@ -1,5 +1,5 @@
 -- The equalities that variables make: where they hold, and what columns they make one class of.
-use Rattle.std.proofs.Common.{◌≡◌, ◌∙◌, ℕ, zero, suc, ◌+◌, ◌-◌, ◌<◌, ◌≤◌, ◌==◌, Bool, true, false, cond, not, List, [], ◌∷◌, ◌++◌, map, refl, sym, ap, arith, Option, Some, None}
+use Rattle.std.proofs.Common.{◌≡◌, ◌∙◌, ℕ, zero, suc, ◌+◌, ◌-◌, ◌<◌, ◌≤◌, ◌==◌, Bool, true, false, cond, not, List, [], ◌∷◌, ◌++◌, map, refl, sym, ap, subst, arith, Option, Some, None}
 use Rattle.std.specs.Prelude.{◌&&◌, ◌||◌, ⊤, All, Contains, filter, nat_le, nat_lt, unwrap_or}
 use Rattle.std.specs.List.{flat_map, list_all, list_any, range_with_len}
 use Rattle.std.specs.Ordering.{is_eq}
@@ -9,15 +9,15 @@ use Rattle.std.proofs.lemmas.List.Elements.{All-head, All-tail, All-weaker, All-
 use Rattle.std.proofs.lemmas.List.Folds.{list_any-append}
 use Rattle.rel_base.specs.declared.values.Value.{Value}
 use Rattle.rel_base.specs.Values.{value_order}
-use Rattle.myrial_ast.specs.Classes.{here, along, leader, same_class}
+use Rattle.myrial_ast.specs.Classes.{equality, here, along, leader, same_class}
 use Rattle.myrial_ast.specs.Combinations.{Row, all_hold}
 use Rattle.myrial_ast.specs.KeptRows.{Span, classes_agree, columns_in, lies_in, reads_within}
 use Rattle.myrial_ast.specs.Scalars.{Scalar, holds, value_at}
 use Rattle.myrial_ast.proofs.ClassLemmas.{linked_where_same_class}
 use Rattle.algebra.specs.ShapeConditions.{all_different}
 use Rattle.algebra.specs.Shapes.{tie_test, ties_in}
-use Rattle.algebra.proofs.ShapeLemmas.{tie-holds, tied-value}
-use Rattle.plan_rewrite.specs.inner.Pushing.{ties_within}
+use Rattle.algebra.proofs.ShapeLemmas.{equality-is, tie-holds, tied-value}
+use Rattle.plan_rewrite.specs.inner.Pushing.{are_tied, is_among, is_tied, share_variable, ties_within}
 use Rattle.plan_rewrite.proofs.ListLemmas.{Each, all-passing, all-spread, all-where, each-apart, each-append, each-both, each-filter, each-map, each-of, same-truth}
 use Rattle.plan_rewrite.proofs.SpanLemmas.{lies-behind, lies-before}
 
@@ -49,6 +49,32 @@ module _ {V : Type 0} (Has : V → ℕ → Type 0) (test : Scalar → Bool) (sam
       each : (vs : List (List ℕ)) → Each (OneOf Has) vs → Each (λ v. list_all test (map tie_test (ties_in (filter (lies_in span) v))) ≡ true) vs
       each [] h = tt
       each (v ∷ vs) h = (one-ties h.0.0 (filter (lies_in span) v) (each-filter (Has h.0.0) (lies_in span) v h.0.1), each vs h.1)
+
+  member : (x : V) (cs : List ℕ) (c : ℕ) → Each (Has x) cs → is_among cs c ≡ true → Has x c
+  member x [] c h e = absurd (cc)
+  member x (d ∷ cs) c h e = by (d == c) refl e (member x cs c h.1)
+    where
+      by : (t : Bool) → (d == c) ≡ t → (t || is_among cs c) ≡ true → (is_among cs c ≡ true → Has x c) → Has x c
+      by true is e later = subst (Has x) (eqb-true d c is) h.0
+      by false is e later = later e
+
+  pair-passes : (a b : ℕ) (variables : List (List ℕ)) → Each (OneOf Has) variables → share_variable variables a b ≡ true → test (tie_test (a, b)) ≡ true
+  pair-passes a b [] h e = absurd (cc)
+  pair-passes a b (v ∷ vs) h e = by (is_among v a && is_among v b) refl e (pair-passes a b vs h.1)
+    where
+      by : (t : Bool) → (is_among v a && is_among v b) ≡ t → (t || share_variable vs a b) ≡ true → (share_variable vs a b ≡ true → test (tie_test (a, b)) ≡ true) → test (tie_test (a, b)) ≡ true
+      by true both e later =
+          let parts = and_parts (is_among v a) (is_among v b) both in
+          same h.0.0 a b (member h.0.0 v a h.0.1 parts.0) (member h.0.0 v b h.0.1 parts.1)
+      by false both e later = later e
+
+  -- and for each equality of two columns of one variable
+  pub tied-passes : (variables : List (List ℕ)) → Each (OneOf Has) variables → (e : Scalar) → is_tied variables e ≡ true → test e ≡ true
+  tied-passes variables h e t = by (equality e) refl t
+    where
+      by : (o : Option (ℕ × ℕ)) → equality e ≡ o → are_tied variables o ≡ true → test e ≡ true
+      by None is t = absurd (cc)
+      by (Some pair) is t = ap test (equality-is e pair is) ∙ pair-passes pair.0 pair.1 variables h t
 
 -- ---- pairs
 
@@ -197,20 +223,29 @@ ties-inside span variables = all-spread (reads_within span) tie_test (λ v. ties
     each [] = tt
     each (v ∷ vs) = (one (filter (lies_in span) v) (all-passing (lies_in span) v), each vs)
 
+-- where the classes agree in a span, two columns of one class that lie in it are equal
+agreed-pair : (span : Span) (row : Row) (variables : List (List ℕ)) → classes_agree (flat_map ties_in variables) (columns_in span) row ≡ true
+    → (a b : ℕ) → leader (flat_map ties_in variables) a ≡ leader (flat_map ties_in variables) b → (s : Bool) → lies_in span a ≡ s → (t : Bool) → lies_in span b ≡ t
+    → (not (reads_within span (tie_test (a, b))) || holds (tie_test (a, b)) row) ≡ true
+agreed-pair span row variables h a b e true f true g =
+    or_right (not (reads_within span (tie_test (a, b)))) (holds (tie_test (a, b)) row)
+    (at-pair span row (flat_map ties_in variables) h a b f g (grind (arith, nat_tests, e)))
+agreed-pair span row variables h a b e true f false g = λ i. not (f i && (g i && true)) || holds (tie_test (a, b)) row
+agreed-pair span row variables h a b e false f t g = λ i. not (f i && (lies_in span b && true)) || holds (tie_test (a, b)) row
+
+-- and so does each equality of two columns of one variable
+pub tied-agreed : (span : Span) (row : Row) (variables : List (List ℕ)) → classes_agree (flat_map ties_in variables) (columns_in span) row ≡ true
+    → (e : Scalar) → is_tied variables e ≡ true → (not (reads_within span e) || holds e row) ≡ true
+tied-agreed span row variables h e t =
+    tied-passes (λ (x c : ℕ). leader (flat_map ties_in variables) c ≡ x) (λ e. not (reads_within span e) || holds e row)
+    (λ x a b e f. agreed-pair span row variables h a b (e ∙ sym f) (lies_in span a) refl (lies_in span b) refl) variables (each-led variables) e t
+
 -- where the classes agree in a span, the equalities of variables that lie in it hold
 pub ties-agreed : (span : Span) (row : Row) (variables : List (List ℕ)) → classes_agree (flat_map ties_in variables) (columns_in span) row ≡ true
     → (other : Span) → list_all (λ e. not (reads_within span e) || holds e row) (map tie_test (ties_within other variables)) ≡ true
 ties-agreed span row variables h other =
     ties-pass (λ (x c : ℕ). leader (flat_map ties_in variables) c ≡ x) (λ e. not (reads_within span e) || holds e row)
-    (λ x a b e f. by a b (e ∙ sym f) (lies_in span a) refl (lies_in span b) refl) other variables (each-led variables)
-  where
-    by : (a b : ℕ) → leader (flat_map ties_in variables) a ≡ leader (flat_map ties_in variables) b → (s : Bool) → lies_in span a ≡ s → (t : Bool) → lies_in span b ≡ t
-        → (not (reads_within span (tie_test (a, b))) || holds (tie_test (a, b)) row) ≡ true
-    by a b e true f true g =
-        or_right (not (reads_within span (tie_test (a, b)))) (holds (tie_test (a, b)) row)
-        (at-pair span row (flat_map ties_in variables) h a b f g (grind (arith, nat_tests, e)))
-    by a b e true f false g = λ i. not (f i && (g i && true)) || holds (tie_test (a, b)) row
-    by a b e false f t g = λ i. not (f i && (lies_in span b && true)) || holds (tie_test (a, b)) row
+    (λ x a b e f. agreed-pair span row variables h a b (e ∙ sym f) (lies_in span a) refl (lies_in span b) refl) other variables (each-led variables)
 
 -- ---- columns of one variable alone
 

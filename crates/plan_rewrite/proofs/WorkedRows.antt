@@ -14,25 +14,25 @@ equal l r = Bin op.Eq l r
 abbrev one : Scalar
 one = Lit (value.Int (pos 1))
 
--- R(x, y), S(z) where R.x = R.y and R.x = S.z and R.y = 1 and S.z < 1 and 1 = 1
+-- R(x, y), S(z) where R.x = R.y and S.z = R.x and R.y < S.z and R.y = 1 and S.z < 1 and 1 = 1
 abbrev of_two : Shape
 of_two = record {
   atoms = record { kinds = kind.Int ∷ kind.Int ∷ []; keeps = [] } ∷ record { kinds = kind.Int ∷ []; keeps = [] } ∷ [];
   variables = (0 ∷ 1 ∷ 2 ∷ []) ∷ [];
-  plain = equal (At 0) (At 1) ∷ equal (At 0) (At 2) ∷ equal (At 1) one ∷ Bin op.Lt (At 2) one ∷ equal one one ∷ [];
+  plain = equal (At 0) (At 1) ∷ equal (At 2) (At 0) ∷ Bin op.Lt (At 1) (At 2) ∷ equal (At 1) one ∷ Bin op.Lt (At 2) one ∷ equal one one ∷ [];
   arith = [];
   emits = At 2 ∷ [];
 }
 
 -- the tests of R and of S are their keeps, each over its own columns, and that R.x and R.y are one variable is another of R's; the
--- equality of R and S stays, and so does the test without columns
+-- equality of R and S goes, since their variable says it; their other test stays, and so does the test without columns
 pushed-of-two : pushed of_two
     ≡ record {
       atoms =
           record { kinds = kind.Int ∷ kind.Int ∷ []; keeps = equal (At 0) (At 1) ∷ equal (At 1) one ∷ equal (At 0) (At 1) ∷ [] }
           ∷ record { kinds = kind.Int ∷ []; keeps = Bin op.Lt (At 0) one ∷ [] } ∷ [];
       variables = (0 ∷ 1 ∷ 2 ∷ []) ∷ [];
-      plain = equal (At 0) (At 2) ∷ equal one one ∷ [];
+      plain = Bin op.Lt (At 1) (At 2) ∷ equal one one ∷ [];
       arith = [];
       emits = At 2 ∷ [];
     }

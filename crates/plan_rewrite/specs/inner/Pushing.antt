@@ -4,9 +4,12 @@
 --   spans_from column atoms       the columns of each atom, where the first begins at a column
 --   is_of_one spans e             whether it reads columns of one of these alone
 --   ties_within span variables    the equalities that variables make among the columns of a span
---   pushed shape                  the shape with each test that reads columns of one atom alone among its keeps
-use Rattle.std.specs.Prelude.{ℕ, ◌+◌, ◌-◌, Bool, not, List, [], ◌∷◌, ◌++◌, filter, length, map}
+--   is_tied variables e           whether it is an equality of two columns of one variable
+--   pushed shape                  the shape with each test that reads columns of one atom alone among its keeps, and without what its
+--                                 variables say
+use Rattle.std.specs.Prelude.{ℕ, ◌+◌, ◌-◌, ◌==◌, Bool, false, not, ◌&&◌, List, [], ◌∷◌, ◌++◌, filter, length, map, Option, Some, None}
 use Rattle.std.specs.List.{flat_map, list_any}
+use Rattle.myrial_ast.specs.Classes.{equality}
 use Rattle.myrial_ast.specs.KeptRows.{Span, lies_in, reads_within}
 use Rattle.myrial_ast.specs.Scalars.{Scalar, Lit, At, Not, Neg, Bin}
 use Rattle.algebra.specs.Shapes.{tests_of, tie_test, ties_in}
@@ -52,16 +55,33 @@ pushed_from tests variables column (a ∷ atoms) =
     pushed_atom tests variables (span_at column a) a
     ∷ pushed_from tests variables (column + length a.kinds) atoms
 
--- the tests of no atom, which read no column or columns of two atoms
-abbrev pub left_tests : List AtomTree → List Scalar → List Scalar
-left_tests atoms tests = filter (λ e. not (is_of_one (spans_from 0 atoms) e)) tests
+-- whether a column is one of these
+abbrev pub is_among : List ℕ → ℕ → Bool
+is_among columns c = list_any (λ d. d == c) columns
 
--- the shape with each test that reads columns of one atom alone among its keeps, and no other
+-- whether two columns are of one variable
+abbrev pub share_variable : List (List ℕ) → ℕ → ℕ → Bool
+share_variable variables a b = list_any (λ v. is_among v a && is_among v b) variables
+
+-- whether the columns of an equality are of one variable
+abbrev pub are_tied : List (List ℕ) → Option (ℕ × ℕ) → Bool
+are_tied variables None = false
+are_tied variables (Some pair) = share_variable variables pair.0 pair.1
+
+-- whether a test is an equality of two columns of one variable: it holds wherever each variable has one value
+abbrev pub is_tied : List (List ℕ) → Scalar → Bool
+is_tied variables e = are_tied variables (equality e)
+
+-- the tests of no atom, which read no column or columns of two atoms, but for those that the variables say
+abbrev pub left_tests : List AtomTree → List (List ℕ) → List Scalar → List Scalar
+left_tests atoms variables tests = filter (λ e. not (is_of_one (spans_from 0 atoms) e) && not (is_tied variables e)) tests
+
+-- the shape with each test that reads columns of one atom alone among its keeps and no other, and without what its variables say
 abbrev pub pushed : Shape → Shape
 pushed s = record {
   atoms = pushed_from (tests_of s) s.variables 0 s.atoms;
   variables = s.variables;
-  plain = left_tests s.atoms (tests_of s);
+  plain = left_tests s.atoms s.variables (tests_of s);
   arith = s.arith;
   emits = s.emits;
 }

@@ -6,4 +6,4 @@ use Rattle.plan_rewrite.specs.inner.Pushing.{left_tests}
 use Rattle.plan_rewrite.proofs.pushing.left_tests.Given as goal
 
 abbrev pub invariant-loop-test : goal.invariant-loop-test
-invariant-loop-test l = map scalar_tree_of l.left ≡ left_tests (map atom_tree_of l.atoms) (map scalar_tree_of (take l.test-index l.test-items))
+invariant-loop-test l = map scalar_tree_of l.left ≡ left_tests (map atom_tree_of l.atoms) l.variables (map scalar_tree_of (take l.test-index l.test-items))
