@@ -1,12 +1,12 @@
 -- Worked rows of pushed shapes and rewritten scripts.
-use Rattle.std.proofs.Common.{◌≡◌, [], ◌∷◌, refl}
+use Rattle.std.proofs.Common.{◌≡◌, false, [], ◌∷◌, refl}
 use Rattle.std.specs.Prelude.{pos}
 use Rattle.rel_base.specs.declared.values.ColType.TheVariants as kind
 use Rattle.rel_base.specs.declared.values.Value.TheVariants as value
 use Rattle.myrial_ast.specs.declared.operators.BinOp.TheVariants as op
 use Rattle.myrial_ast.specs.Scalars.{Scalar, Lit, At, Bin}
 use Rattle.algebra.specs.Trees.{Shape}
-use Rattle.plan_rewrite.specs.inner.Pushing.{pushed}
+use Rattle.plan_rewrite.specs.inner.Pushing.{is_tied, pushed}
 
 abbrev equal : Scalar → Scalar → Scalar
 equal l r = Bin op.Eq l r
@@ -37,6 +37,13 @@ pushed-of-two : pushed of_two
       emits = At 2 ∷ [];
     }
 pushed-of-two = refl
+
+-- an equality of columns of two variables, or of one column that has a variable, isn't said by one
+tied-apart : is_tied ((0 ∷ 2 ∷ []) ∷ (1 ∷ 3 ∷ []) ∷ []) (equal (At 0) (At 1)) ≡ false
+tied-apart = refl
+
+tied-of-one : is_tied ((0 ∷ 2 ∷ []) ∷ []) (equal (At 2) (At 1)) ≡ false
+tied-of-one = refl
 
 -- a keep without columns is a test of candidates, and a keep with columns stays one
 abbrev with_keeps : Shape

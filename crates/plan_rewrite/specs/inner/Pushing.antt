@@ -5,8 +5,8 @@
 --   is_of_one spans e             whether it reads columns of one of these alone
 --   ties_within span variables    the equalities that variables make among the columns of a span
 --   is_tied variables e           whether it is an equality of two columns of one variable
---   pushed shape                  the shape with each test that reads columns of one atom alone among its keeps, and without what its
---                                 variables say
+--   pushed shape                  the shape with each test that reads columns of one atom alone among its
+--                                 keeps, and without what its variables say
 use Rattle.std.specs.Prelude.{ℕ, ◌+◌, ◌-◌, ◌==◌, Bool, false, not, ◌&&◌, List, [], ◌∷◌, ◌++◌, filter, length, map, Option, Some, None}
 use Rattle.std.specs.List.{flat_map, list_any}
 use Rattle.myrial_ast.specs.Classes.{equality}
@@ -68,15 +68,19 @@ abbrev pub are_tied : List (List ℕ) → Option (ℕ × ℕ) → Bool
 are_tied variables None = false
 are_tied variables (Some pair) = share_variable variables pair.0 pair.1
 
--- whether a test is an equality of two columns of one variable: it holds wherever each variable has one value
+-- whether a test is an equality of two columns of one variable: it holds wherever each variable has
+-- one value
 abbrev pub is_tied : List (List ℕ) → Scalar → Bool
 is_tied variables e = are_tied variables (equality e)
 
--- the tests of no atom, which read no column or columns of two atoms, but for those that the variables say
+-- the tests of no atom, which read no column or columns of two atoms, but for those that the
+-- variables say
 abbrev pub left_tests : List AtomTree → List (List ℕ) → List Scalar → List Scalar
-left_tests atoms variables tests = filter (λ e. not (is_of_one (spans_from 0 atoms) e) && not (is_tied variables e)) tests
+left_tests atoms variables tests =
+    filter (λ e. not (is_of_one (spans_from 0 atoms) e) && not (is_tied variables e)) tests
 
--- the shape with each test that reads columns of one atom alone among its keeps and no other, and without what its variables say
+-- the shape with each test that reads columns of one atom alone among its keeps and no other, and
+-- without what its variables say
 abbrev pub pushed : Shape → Shape
 pushed s = record {
   atoms = pushed_from (tests_of s) s.variables 0 s.atoms;
