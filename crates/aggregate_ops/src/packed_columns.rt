@@ -1,5 +1,5 @@
 //! Columns of rows that are packed in words.
-ghost use Rattle.std.specs.Prelude.{◌≡◌, ◌<◌, ◌^◌, ◌/◌, pos, bit_and};
+ghost use Rattle.std.specs.Prelude.{◌≡◌, ◌<◌, ◌^◌, ◌/◌, pos, bit_and, IsTrue};
 ghost use Rattle.std.specs.Int.{w64, int_wrapping_add};
 ghost use Rattle.rel_base.specs.Values.{value_order};
 ghost use Rattle.aggregate_ops.specs.inner.Words.{unpacked};
@@ -66,6 +66,20 @@ impl PackedColumn {
             Value::Bool(bits == 1)
         } else {
             Value::Int(self.least.wrapping_add(bits as i64))
+        }
+    }
+
+    /// Whether a word has this value in this column.
+    pub fn holds(self, word: u64, value: &Value) -> bool
+        ensures { IsTrue result
+            → unpacked self.shift self.mask self.least self.is_truth word ≡ value.now }
+    {
+        match value {
+            Value::Int(number) => !self.is_truth && self.number(word) == *number,
+            Value::Bool(truth) => {
+                self.is_truth && (((word >> self.shift) & self.mask) == 1) == *truth
+            }
+            Value::Str(_) => false,
         }
     }
 

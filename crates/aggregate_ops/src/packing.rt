@@ -7,7 +7,6 @@ ghost use Rattle.aggregate_ops.specs.inner.Emitted.{emitted_by, all_emitted};
 ghost use Rattle.aggregate_ops.specs.inner.Reading.{unpacked_row};
 
 use crate::emits::Emits;
-use crate::keys::order_of;
 use crate::packed_columns::PackedColumn;
 use crate::spans::ScannedColumn;
 use rel_base::{Memory, Rows, Value};
@@ -97,7 +96,7 @@ fn gives_back(word: u64, columns: &[PackedColumn], emits: Emits<'_>, values: &[V
     }
     for (place, column) in columns.iter().enumerate() {
         match emits.value(values, place) {
-            Some(value) if order_of(&column.value(word), value).is_eq() => {}
+            Some(value) if column.holds(word, value) => {}
             _ => return false,
         }
     }

@@ -6,7 +6,7 @@ use rel_base::{Memory, Rows, Value};
 use std::alloc::Global;
 
 /// What the values of a column are.
-#[derive(Clone, Copy, PartialEq)]
+#[derive(Clone, Copy)]
 pub enum Span {
     /// There is none.
     Nothing,
@@ -19,17 +19,20 @@ pub enum Span {
 }
 
 impl Span {
-    /// What they are with one value more.
-    fn with(self, value: &Value) -> Span {
-        match (self, value) {
-            (Span::Nothing, Value::Int(number)) => Span::Numbers(*number, *number),
+    /// What they are with one value more. Most numbers lie between those before, and change nothing.
+    fn add(&mut self, value: &Value) {
+        *self = match (*self, value) {
             (Span::Numbers(least, greatest), Value::Int(number)) => {
+                if least <= *number && *number <= greatest {
+                    return;
+                }
                 Span::Numbers(least.min(*number), greatest.max(*number))
             }
+            (Span::Truths, Value::Bool(_)) => return,
+            (Span::Nothing, Value::Int(number)) => Span::Numbers(*number, *number),
             (Span::Nothing, Value::Bool(_)) => Span::Truths,
-            (Span::Truths, Value::Bool(_)) => Span::Truths,
             _ => Span::Others,
-        }
+        };
     }
 
     /// The column of these values in the highest of so many bits that are left, where they take no more.
@@ -88,10 +91,13 @@ fn scan(columns: &mut [ScannedColumn], emits: Emits<'_>, values: &[Value]) -> bo
         let Some(value) = emits.value(values, place) else {
             return false;
         };
-        column.span = column.span.with(value);
-        may_pack |= column.span != Span::Others;
+        column.span.add(value);
+        may_pack |= !matches!(column.span, Span::Others);
+        if column.twin == place {
+            continue;
+        }
         match emits.value(values, column.twin) {
-            Some(twin) if column.twin == place || order_of(twin, value).is_eq() => {}
+            Some(twin) if order_of(twin, value).is_eq() => {}
             _ => column.twin = place,
         }
     }

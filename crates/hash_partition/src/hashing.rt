@@ -57,14 +57,14 @@ pub fn key_code(row: &Row, columns: &Places) -> u64
 
 /// The worker at which the rows with one key meet: the key that a row has in these columns, over so many workers.
 ///
-/// A key of no columns has its home at worker 0.
+/// A key of no columns has its home at worker 0. Where there is one worker, no key is hashed.
 pub fn home_of_key(seed: u64, row: &Row, columns: &Places, workers: u32) -> u32
     requires columns { All (λ column. column < length row.now) columns.now }
     requires workers { 1 ≤ workers }
     ensures value { result ≡ home_of seed (key_of row.now columns.now) workers }
     ensures range { result < workers }
 {
-    if columns.is_empty() {
+    if workers == 1 || columns.is_empty() {
         return 0;
     }
     coord(seed, 0, key_code(row, columns), workers)
