@@ -6,6 +6,7 @@ pub mod BuildLemmas
 pub mod GatherLemmas
 pub mod RankLemmas
 pub mod EncodeLemmas
+pub mod UnlikeLemmas
 pub mod WorkedRows
 pub mod TextKeyLemmas
 pub mod TextLemmas

@@ -2,3 +2,4 @@
 pub mod Gathered
 pub mod TextKeys
 pub mod Texts
+pub mod Unlike

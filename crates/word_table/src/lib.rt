@@ -23,9 +23,11 @@ mod keyed;
 mod numbering;
 mod occurrences;
 mod ranking;
+mod shared_words;
 mod tables;
 mod text_keys;
 mod texts;
+mod unlike;
 
 pub use columns::WordRange;
 pub use dictionary::{Dictionary, number_of_word, words_keep_order};

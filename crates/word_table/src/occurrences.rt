@@ -3,10 +3,11 @@
 ghost use Rattle.std.specs.Prelude.{◌≡◌, ◌∷◌, ◌++◌, [], List, IfOk, OnOk};
 ghost use Rattle.rel_base.specs.declared.values.Value.{Value as Datum};
 ghost use Rattle.word_table.specs.inner.Gathered.{IsGathered, values_of_rows, values_in};
+ghost use Rattle.word_table.specs.inner.Unlike.{parts_in};
 
 use crate::dictionary::word_of_int;
 use crate::numbering::Numbering;
-use rel_base::{Memory, Parts, Row, Rows, Value};
+use rel_base::{Memory, Row, Rows, Value};
 use std::alloc::Global;
 
 /// Words of values, where the word of a string is still the number of an occurrence of it.
@@ -20,8 +21,8 @@ pub(crate) struct Gathered<'a> {
 
 impl<'a> Gathered<'a> {
     /// The values of all parts.
-    pub(crate) fn of_parts(alloc: Global, parts: &'a Parts) -> Result<Gathered<'a>, Memory>
-        ensures { IfOk result (λ made. IsGathered (values_in parts.now) made.words.items
+    pub(crate) fn of_parts(alloc: Global, parts: &[&'a Rows]) -> Result<Gathered<'a>, Memory>
+        ensures { IfOk result (λ made. IsGathered (values_in (parts_in parts.now)) made.words.items
             made.places.items made.strings.found.items) }
     {
         let mut gathered = Gathered {
@@ -29,7 +30,7 @@ impl<'a> Gathered<'a> {
             places: Vec::new(alloc),
             strings: Numbering::new(alloc),
         };
-        for rows in parts.as_slice() {
+        for rows in parts {
             gathered.add_rows(rows)?;
         }
         Ok(gathered)
