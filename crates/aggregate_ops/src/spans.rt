@@ -19,7 +19,7 @@ pub enum Span {
 }
 
 impl Span {
-    /// What they are with one value more. Most numbers lie between those before, and change nothing.
+    /// Adds one value more. Most numbers lie between those before, and change nothing.
     fn add(&mut self, value: &Value) {
         *self = match (*self, value) {
             (Span::Numbers(least, greatest), Value::Int(number)) => {

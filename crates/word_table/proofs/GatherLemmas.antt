@@ -27,7 +27,8 @@ word-last words w p e =
     let end : p ≡ length words + 0 = omega arith in
     ap (λ n. get_or (words ++ w ∷ []) n 0) end ∙ get_or-append-add words (w ∷ []) 0 0
 
-longer : {X : Type 0} (xs : List X) (x : X) → length (xs ++ x ∷ []) ≡ length xs + 1
+-- a list with one item more
+pub longer : {X : Type 0} (xs : List X) (x : X) → length (xs ++ x ∷ []) ≡ length xs + 1
 longer xs x = length-append xs (x ∷ [])
 
 IsStringAt-more : (done : List Value) (v : Value) (q : ℕ) → IsStringAt done q → IsStringAt (done ++ v ∷ []) q

@@ -1,5 +1,5 @@
 -- What holds of parts that are like none before them holds of all parts.
-use Rattle.std.proofs.Common.{◌≡◌, ℕ, zero, suc, ◌+◌, ◌<◌, List, [], ◌∷◌, ◌++◌, true, All, length, get_or, map, refl, ap, ◌∙◌, sym, subst, arith, inl, inr, length-append}
+use Rattle.std.proofs.Common.{◌≡◌, ℕ, zero, suc, ◌+◌, ◌<◌, List, [], ◌∷◌, ◌++◌, true, All, length, get_or, map, refl, ap, ◌∙◌, sym, subst, arith, inl, inr}
 use Rattle.std.specs.Prelude.{Contains}
 use Rattle.std.specs.Borrow.{Bor}
 use Rattle.std.specs.FinMap.{slice_cmp-IsAntisymmetric}
@@ -18,6 +18,7 @@ use Rattle.word_table.specs.Words.{strings_of_rows, strings_in, word_of, IsDicti
 use Rattle.word_table.specs.Encodings.{AreWide, AreTablesOf}
 use Rattle.word_table.specs.inner.Unlike.{parts_in, AreUnlike, ArePicked}
 use Rattle.word_table.proofs.BuildLemmas.{Contains-flat_map, equal_from_test}
+use Rattle.word_table.proofs.GatherLemmas.{longer}
 
 -- an item behind a list: those before it are as they were, and it is the last
 before : {X : Type 0} (xs : List X) (x d : X) (j : ℕ) → j < length xs → get_or (xs ++ x ∷ []) j d ≡ get_or xs j d
@@ -27,9 +28,6 @@ last : {X : Type 0} (xs : List X) (x d : X) (j : ℕ) → j ≡ length xs → ge
 last xs x d j end =
     let at : j ≡ length xs + 0 = omega arith in
     ap (λ n. get_or (xs ++ x ∷ []) n d) at ∙ get_or-append-add xs (x ∷ []) 0 d
-
-longer : {X : Type 0} (xs : List X) (x : X) → length (xs ++ x ∷ []) ≡ length xs + 1
-longer xs x = length-append xs (x ∷ [])
 
 -- the rows of a part that is lent
 pub parts-many : (parts : List (Bor Rows)) → length (parts_in parts) ≡ length parts

@@ -9,6 +9,8 @@ use Rattle.rel_base.specs.declared.values.Value.TheVariants as variant
 use Rattle.word_table.specs.WordTables.{word_at, cut_into, table_by_columns, IsRange}
 use Rattle.word_table.specs.Words.{text_order, strings_in, IsDictionaryOf, IsHeld, word_of}
 use Rattle.word_table.specs.inner.Texts.{texts_in}
+use Rattle.word_table.specs.inner.Unlike.{AreUnlike}
+use Rattle.word_table.proofs.UnlikeLemmas.{AreUnlike-none, AreUnlike-known, AreUnlike-new}
 
 -- one part, whose rows have a number and a string each
 abbrev part : List (List Value)
@@ -123,3 +125,21 @@ five_to_seven = record {
       (All-cons (λ w. (5 ≤ w) × (w ≤ 7)) 5 (7 ∷ []) (omega arith, omega arith)
       (All-cons (λ w. (5 ≤ w) × (w ≤ 7)) 7 [] (omega arith, omega arith) (All-nil (λ w. (5 ≤ w) × (w ≤ 7)))));
 }
+
+-- of a part, one without rows, and the first again two are unlike
+pub first_again : AreUnlike (part ∷ [] ∷ part ∷ []) (2 ∷ 2 ∷ 2 ∷ []) (part ∷ [] ∷ []) (2 ∷ 2 ∷ []) (0 ∷ 1 ∷ 0 ∷ [])
+first_again =
+    let one = AreUnlike-new [] [] [] [] [] AreUnlike-none part 2 0 refl in
+    let two = AreUnlike-new (part ∷ []) (2 ∷ []) (part ∷ []) (2 ∷ []) (0 ∷ []) one [] 2 1 refl in
+    AreUnlike-known (part ∷ [] ∷ []) (2 ∷ 2 ∷ []) (part ∷ [] ∷ []) (2 ∷ 2 ∷ []) (0 ∷ 1 ∷ []) two part 2 0 (omega arith) refl refl
+
+-- parts with other rows are not alike, and neither are parts without rows whose widths differ
+pub rows_tell : AreUnlike (part ∷ [] ∷ []) (2 ∷ 2 ∷ []) (part ∷ []) (2 ∷ []) (0 ∷ 0 ∷ []) → ⊥
+rows_tell is = let same : part ≡ [] = is.rows 1 (omega arith) in absurd (cc)
+
+pub widths_tell : AreUnlike ([] ∷ [] ∷ []) (1 ∷ 2 ∷ []) ([] ∷ []) (1 ∷ []) (0 ∷ 0 ∷ []) → ⊥
+widths_tell is = let same : 1 ≡ 2 = is.columns 1 (omega arith) in absurd (omega (arith, same))
+
+-- what is no part is none of the unlike ones
+pub none_from_elsewhere : AreUnlike [] [] (part ∷ []) (2 ∷ []) [] → ⊥
+none_from_elsewhere is = let from = is.from 0 (omega arith) in let below = from.1 in absurd (omega arith)
