@@ -5,8 +5,8 @@
 --   is_of_one spans e             whether it reads columns of one of these alone
 --   ties_within span variables    the equalities that variables make among the columns of a span
 --   is_tied variables e           whether it is an equality of two columns of one variable
---   pushed shape                  the shape with each test that reads columns of one atom alone among its
---                                 keeps, and without what its variables say
+--   pushed shape                  the shape with each test that reads columns of one atom alone
+--                                 among its keeps, and without what its variables say
 use Rattle.std.specs.Prelude.{ℕ, ◌+◌, ◌-◌, ◌==◌, Bool, false, not, ◌&&◌, List, [], ◌∷◌, ◌++◌, filter, length, map, Option, Some, None}
 use Rattle.std.specs.List.{flat_map, list_any}
 use Rattle.myrial_ast.specs.Classes.{equality}
