@@ -1,5 +1,7 @@
 -- Digits read one by one, and the number of a field that has nothing else.
-use Rattle.std.proofs.Common.{◌≡◌, ℕ, ◌+◌, ◌-◌, ◌*◌, ◌^◌, ◌<◌, ◌≤◌, pos, true, Some, List, [], ◌∷◌, ◌++◌, length, refl, sym, arith}
+use Rattle.std.proofs.Common.{◌≡◌, ℕ, ◌+◌, ◌-◌, ◌*◌, ◌^◌, ◌<◌, ◌≤◌, pos, true, false, Some, List, [], ◌∷◌, ◌++◌, length, refl, sym, arith, FitsSigned, w64}
+use Rattle.std.specs.List.{list_any}
+use Rattle.csv.specs.Writing.{default_writer, needs_byte}
 use Rattle.std.specs.Char.{digit_value}
 use Rattle.std.specs.Int.{IsInRange}
 use Rattle.std.specs.Str.{all_ascii_digits}
@@ -37,6 +39,30 @@ AreDigitsOf-push bytes number c are digit = record {
   digits = all_ascii_digits-push bytes c are.digits digit;
   is_number = rw are.is_number (sym (digits_value-push 0 bytes c digit));
 }
+
+-- digits mean nothing in a file
+digit-plain : (c : ℕ) → IsInRange 48 57 c → needs_byte default_writer c ≡ false
+digit-plain c digit =
+    rw (
+      ne_eqb c 44 (λ e. omega arith),
+      ne_eqb c 34 (λ e. omega arith),
+      ne_eqb c 13 (λ e. omega arith),
+      ne_eqb c 10 (λ e. omega arith),
+    ) refl
+
+pub digits-plain : (bytes : List ℕ) → all_ascii_digits bytes ≡ true → list_any (needs_byte default_writer) bytes ≡ false
+digits-plain [] all = refl
+digits-plain (c ∷ rest) all =
+    let parts = tells_all_ascii_digits.parts c rest all in
+    rw (digit-plain c parts.0, digits-plain rest parts.1) refl
+
+-- a number of so few digits fits in 64 bits
+pub fits_signed : (n : ℕ) → n < 10 ^ 18 → FitsSigned w64 (pos n)
+fits_signed n small = record { sfits = omega arith }
+
+-- a number of so few digits, and one digit more
+pub one_digit_more : (n c : ℕ) → n < 10 ^ 17 → IsInRange 48 57 c → 10 * n + (c - 48) < 2 ^ 63
+one_digit_more n c small digit = omega arith
 
 -- few digits have a small number
 pub AreDigitsOf-small : (bytes : List ℕ) (number k : ℕ) → AreDigitsOf bytes number → length bytes ≤ k → number < 10 ^ k

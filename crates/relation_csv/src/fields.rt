@@ -1,5 +1,6 @@
 //! Fields: reads the columns of a header and the values of a row.
-ghost use Rattle.std.specs.Prelude.{◌≡◌, ◌≤◌, true, IfSome, Some};
+ghost use Rattle.std.specs.Prelude.{◌≡◌, ◌<◌, ◌≤◌, true, IfSome, Some, length, take};
+ghost use Rattle.std.specs.Str.{all_ascii_digits};
 ghost use Rattle.rel_base.specs.Limits.{most_rows};
 ghost use Rattle.csv.specs.Records.{fields_of};
 ghost use Rattle.relation_csv.specs.Fields.{bool_of_field, column_of_field, int_of_field, type_of_name, value_of_field};
@@ -139,6 +140,31 @@ fn short_number(digits: &[u8]) -> Option<i64>
         number = 10 * number + (*digit - b'0') as u64;
     }
     Some(number as i64)
+}
+
+/// The number that the digits at the front write, and how many they are; `None` where there is none, where they are more
+/// than 18, and where nothing stands behind them.
+#[inline(always)]
+pub(crate) fn leading_number(bytes: &[u8]) -> Option<(i64, usize)>
+    ensures bound { IfSome result (λ (_, count). count < length bytes.now) }
+    ensures digits { IfSome result (λ (_, count). all_ascii_digits (take count bytes.now) ≡ true) }
+    ensures number { IfSome result (λ (number, count).
+        int_of_field (take count bytes.now) ≡ Some number) }
+{
+    let mut number = 0u64;
+    for (count, byte) in bytes.iter().enumerate() {
+        if !byte.is_ascii_digit() {
+            if count == 0 {
+                return None;
+            }
+            return Some((number as i64, count));
+        }
+        if count == 18 {
+            return None;
+        }
+        number = 10 * number + (*byte - b'0') as u64;
+    }
+    None
 }
 
 /// The truth value that a boolean field writes, in any case.

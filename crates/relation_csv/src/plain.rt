@@ -3,20 +3,21 @@
 //! Where a file has no quote and no carriage return its records are its lines, and their fields lie between commas. There a
 //! value is made of the file's own bytes, and no record is copied first. A call here answers `None` where it can't tell: at
 //! a quote or a carriage return, at bytes that are not UTF-8, and at every fault, which the reader of records then finds.
-ghost use Rattle.std.specs.Prelude.{◌≡◌, ◌<◌, ◌≤◌, false, true, IfOk, IfSome, Ok, drop, length, take};
+ghost use Rattle.std.specs.Prelude.{◌≡◌, ◌<◌, ◌≤◌, false, true, IfOk, IfSome, Ok, Some, drop, length, take};
 ghost use Rattle.std.specs.List.{list_any};
 ghost use Rattle.rel_base.specs.Limits.{most_rows};
 ghost use Rattle.csv.specs.Reading.{is_bom, strip_bom};
 ghost use Rattle.csv.specs.Writing.{default_writer, needs_byte};
 ghost use Rattle.csv.specs.declared.parser.State.TheVariants as state;
 ghost use Rattle.relation_csv.specs.Files.{records_of_bytes, rows_of_records};
-ghost use Rattle.relation_csv.specs.inner.PlainLines.{AddsRow, BeginsWithField, IsLine};
+ghost use Rattle.relation_csv.specs.Fields.{int_of_field};
+ghost use Rattle.relation_csv.specs.inner.PlainLines.{AddsRow, BeginsWithField, BeginsWithValue, IsLine};
 ghost use Rattle.relation_csv.specs.inner.RecordsLeft.{records_after};
 
 use crate::RelFault;
-use crate::fields::value_of;
+use crate::fields::{leading_number, value_of};
 use memchr::memchr2;
-use rel_base::{MOST_ROWS, Memory, Row, Rows, Schema};
+use rel_base::{ColType, MOST_ROWS, Memory, Row, Rows, Schema, Value};
 use std::alloc::Global;
 use std::str;
 
@@ -198,13 +199,9 @@ fn push_row_of<'a>(
         if !more {
             return Ok(None);
         }
-        let Some((field, follows, rest)) = first_field(left) else {
+        let read = first_value(alloc, column.kind, left, nth, row.len() + 1)?;
+        let Some((value, follows, rest)) = read else {
             return Ok(None);
-        };
-        let value = match value_of(alloc, column.kind, field, nth, row.len() + 1) {
-            Ok(value) => value,
-            Err(RelFault::Memory) => return Err(Memory),
-            Err(_) => return Ok(None),
         };
         row.push(value)?;
         left = rest;
@@ -215,6 +212,52 @@ fn push_row_of<'a>(
     }
     rows.push(row)?;
     Ok(Some(left))
+}
+
+/// The value that the first field of a text writes, whether another field follows it in its record, and what stands behind
+/// it.
+#[inline(always)]
+fn first_value<'a>(
+    alloc: Global,
+    kind: ColType,
+    text: &'a str,
+    nth: u32,
+    column: u32,
+) -> Result<Option<(Value, bool, &'a str)>, Memory>
+    ensures { IfOk result (λ found. IfSome found (λ (value, more, rest).
+        BeginsWithValue nth column kind text.now value more rest.now)) }
+{
+    if kind == ColType::Int {
+        if let Some((_, number, more, rest)) = first_number(text) {
+            return Ok(Some((Value::Int(number), more, rest)));
+        }
+    }
+    let Some((field, more, rest)) = first_field(text) else {
+        return Ok(None);
+    };
+    match value_of(alloc, kind, field, nth, column) {
+        Ok(value) => Ok(Some((value, more, rest))),
+        Err(RelFault::Memory) => Err(Memory),
+        Err(_) => Ok(None),
+    }
+}
+
+/// The first field of a text with its number, whether another one follows it in its record, and what stands behind it; none
+/// unless it is a number without a sign, of 18 digits at most, and something stands behind it. Its end is where its digits end,
+/// so that nothing is searched for.
+#[inline(always)]
+fn first_number(text: &str) -> Option<(&str, i64, bool, &str)>
+    ensures begins { IfSome result (λ (field, _, more, rest).
+        BeginsWithField text.now field.now more rest.now) }
+    ensures number { IfSome result (λ (field, number, _, _). int_of_field field.now ≡ Some number) }
+{
+    let bytes = text.as_bytes();
+    let (number, end) = leading_number(bytes)?;
+    match bytes[end] {
+        b',' => Some((&text[..end], number, true, &text[end + 1..])),
+        b'\n' => Some((&text[..end], number, false, &text[end + 1..])),
+        _ => None,
+    }
 }
 
 /// The first field of a text, whether another one follows it in its record, and what stands behind it.

@@ -1,13 +1,9 @@
-use Rattle.std.proofs.Common.{◌∙◌, ℕ, ◌+◌, ◌-◌, ◌*◌, ◌^◌, ◌<◌, ◌≤◌, List, pos, Some, ap, sym, length, take, arith, rules, FitsSigned, w64, length-take, slice_index_or}
+use Rattle.std.proofs.Common.{◌∙◌, ℕ, ◌<◌, ◌≤◌, List, pos, Some, ap, sym, length, take, arith, rules, w64, length-take, slice_index_or}
 use Rattle.std.proofs.lemmas.Int.{to_z-of_z}
 use Rattle.std.proofs.lemmas.List.{take_all, take_more}
 use Rattle.std.specs.Int.{IsInRange}
-use Rattle.relation_csv.proofs.DigitLemmas.{AreDigitsOf, AreDigitsOf-none, AreDigitsOf-push, AreDigitsOf-small, int_of_field-digits}
+use Rattle.relation_csv.proofs.DigitLemmas.{AreDigitsOf, AreDigitsOf-none, AreDigitsOf-push, AreDigitsOf-small, fits_signed, int_of_field-digits}
 use Rattle.relation_csv.proofs.fields.short_number.Goals as goal
-
--- a number of so few digits, and one digit more
-bound : (n c : ℕ) → n < 10 ^ 17 → IsInRange 48 57 c → 10 * n + (c - 48) < 2 ^ 63
-bound n c small digit = omega arith
 
 pub loop-digit-init : goal.loop-digit-init
 loop-digit-init c = AreDigitsOf-none
@@ -41,14 +37,11 @@ loop-digit-preserved c =
 whole : (ds : List ℕ) (i number : ℕ) → length ds ≤ i → AreDigitsOf (take i ds) number → AreDigitsOf ds number
 whole ds i number all are = rw (take_all i ds all) at are
 
-fits : (n : ℕ) → n < 10 ^ 18 → FitsSigned w64 (pos n)
-fits n small = record { sfits = omega arith }
-
 pub overflow_cast-result : goal.overflow_cast-result
 overflow_cast-result c =
     let ds = c.args.digits.now in
     let are = whole ds c.loop-digit.digit-index c.loop-digit.number (omega arith) c.loop-digit.invariant in
-    fits c.loop-digit.number (AreDigitsOf-small ds c.loop-digit.number 18 are (omega arith))
+    fits_signed c.loop-digit.number (AreDigitsOf-small ds c.loop-digit.number 18 are (omega arith))
 
 pub returns : goal.returns
 returns c =
@@ -57,4 +50,4 @@ returns c =
     let are = whole ds c.loop-digit.digit-index n (omega arith) c.loop-digit.invariant in
     let some : 0 < length ds = search rules in
     int_of_field-digits ds n are some (omega arith)
-    ∙ ap Some (sym (to_z-of_z w64 (pos n) (fits n (AreDigitsOf-small ds n 18 are (omega arith)))))
+    ∙ ap Some (sym (to_z-of_z w64 (pos n) (fits_signed n (AreDigitsOf-small ds n 18 are (omega arith)))))

@@ -1,6 +1,5 @@
 use Rattle.std.proofs.Common.{◌≡◌, ◌+◌, ◌<◌, ap, length, get_or, arith, rules}
 use Rattle.relation_csv.proofs.PlainLemmas.{BeginsWithRow-all, HasFields-none, HasFields-push, length-row}
-use Rattle.relation_csv.proofs.ReadAsLemmas.{IsReadAs-Ok}
 use Rattle.relation_csv.proofs.plain.push_row_of.Goals as goal
 
 pub loop-column-init : goal.loop-column-init
@@ -33,13 +32,13 @@ loop-column-preserved c =
     let at : c.column-item.result ≡ get_or schema c.loop-column.column-index c.column-item.result =
     rw c.as_slice-column-items.ensures.value at c.column-item.is in
     let read = rw c.if-not-more.false at c.loop-column.invariant.read in
+    let (field, text, begins, value) = rw c.in-Some.is at c.in_ok-read.ensures in
     record {
       text = search rules;
       read = rw c.in_ok-push.ensures.ok
           (HasFields-push schema (c.len-nth.result + 1) c.args.line.now c.loop-column.left.now c.loop-column.row
-          c.loop-column.column-index read c.column-item.result c.in-Some.field.now c.in-Some.follows c.in-Some.rest.now
-          c.in-Ok.value (c.len.result + 1) low at (omega arith) (search rules) c.in-Some.ensures.begins
-          (IsReadAs-Ok _ _ c.in-Ok.ensures));
+          c.loop-column.column-index read c.column-item.result field c.in-Some.follows c.in-Some.rest.now
+          c.in-Some.value (c.len.result + 1) low at (omega arith) text begins value);
     }
 
 pub returns : goal.returns
