@@ -1,5 +1,5 @@
 //! Rows one by one.
-ghost use Rattle.std.specs.Prelude.{◌≡◌, ◌++◌, ◌^◌, ◌<◌, [], length, All, IfNone};
+ghost use Rattle.std.specs.Prelude.{◌≡◌, ◌∷◌, ◌++◌, ◌^◌, ◌<◌, [], length, All, IfSome, IfNone};
 ghost use Rattle.std.specs.Option.{option_to_list};
 ghost use Rattle.std.specs.Iterator.{YieldsFirstRef, item_count};
 ghost use Rattle.rel_base.specs.Picks.{joined};
@@ -94,15 +94,15 @@ impl<'a> Iterator for StretchIter<'a> {
     }
 }
 
-/// The rows of a list that are left, which contracts see as the list of these rows.
+/// The rows of a list that are left behind the run in hand.
 #[derive(Drop)]
-pub struct RowIter<'a> {
+struct Behind<'a> {
     front: Option<StretchIter<'a>>,
     stretches: &'a [Stretch],
     own: &'a [Row],
 }
 
-impl<'a> Model for RowIter<'a> {
+impl<'a> Model for Behind<'a> {
     ghost use Rattle.std.specs.Prelude.{List, ◌++◌, ◌<◌, length, All};
     ghost use Rattle.rel_base.specs.declared.values.Value.{Value as Datum};
     ghost use Rattle.rel_base.specs.Picks.{joined};
@@ -110,9 +110,58 @@ impl<'a> Model for RowIter<'a> {
 
     ghost Value = { List (List Datum) };
 
-    ghost view = { λ it. front_rows it.front ++ joined it.stretches.now ++ it.own.now };
+    ghost view = { λ b. front_rows b.front ++ joined b.stretches.now ++ b.own.now };
 
-    ghost invariant = { λ it. All (λ s. 0 < length s) it.stretches.now };
+    ghost invariant = { λ b. All (λ s. 0 < length s) b.stretches.now };
+}
+
+impl<'a> Behind<'a> {
+    /// Takes the first row, and with it rows that stand side by side behind it, which may be none;
+    /// `None` where no row is left.
+    #[inline(never)]
+    fn take_run(&mut self) -> Option<(&'a Row, &'a [Row])>
+        ensures rows { IfSome result (λ run. self.old ≡ run.0.now ∷ run.1.now ++ self.new) }
+        ensures none { IfNone result (self.old ≡ []) }
+        ensures over { IfNone result (self.new ≡ []) }
+    {
+        let stretches = self.stretches;
+        if let Some(rest) = &mut self.front {
+            if let Some(row) = rest.next() {
+                return Some((row, &[]));
+            }
+            self.front = None;
+        }
+        if let Some((stretch, rest)) = stretches.split_first() {
+            self.stretches = rest;
+            if let Some(run) = stretch.run() {
+                return run.split_first();
+            }
+            let mut rows = stretch.iter();
+            let row = rows.next()?;
+            self.front = Some(rows);
+            return Some((row, &[]));
+        }
+        let own = self.own;
+        self.own = &[];
+        own.split_first()
+    }
+}
+
+/// The rows of a list that are left, which contracts see as the list of these rows. Rows that stand
+/// side by side are walked over as a slice, the run.
+#[derive(Drop)]
+pub struct RowIter<'a> {
+    run: &'a [Row],
+    behind: Behind<'a>,
+}
+
+impl<'a> Model for RowIter<'a> {
+    ghost use Rattle.std.specs.Prelude.{List, ◌++◌};
+    ghost use Rattle.rel_base.specs.declared.values.Value.{Value as Datum};
+
+    ghost Value = { List (List Datum) };
+
+    ghost view = { λ it. it.run.now ++ it.behind };
 }
 
 impl<'a> RowIter<'a> {
@@ -122,9 +171,12 @@ impl<'a> RowIter<'a> {
         ensures { result ≡ joined stretches.now ++ own.now }
     {
         RowIter {
-            front: None,
-            stretches,
-            own,
+            run: &[],
+            behind: Behind {
+                front: None,
+                stretches,
+                own,
+            },
         }
     }
 }
@@ -136,23 +188,14 @@ impl<'a> Iterator for RowIter<'a> {
 
     ghost remaining = { item_count (λ left. left) };
 
+    #[inline(always)]
     fn next(&mut self) -> Option<&'a Row> {
-        let stretches = self.stretches;
-        if let Some(rest) = &mut self.front {
-            if let Some(row) = rest.next() {
-                return Some(row);
-            }
-            self.front = None;
-        }
-        if let Some((stretch, rest)) = stretches.split_first() {
-            self.stretches = rest;
-            let mut rows = stretch.iter();
-            let row = rows.next()?;
-            self.front = Some(rows);
+        if let Some((row, rest)) = self.run.split_first() {
+            self.run = rest;
             return Some(row);
         }
-        let (row, rest) = self.own.split_first()?;
-        self.own = rest;
+        let (row, rest) = self.behind.take_run()?;
+        self.run = rest;
         Some(row)
     }
 }

@@ -1,5 +1,5 @@
 //! Rows of one shared block, by their places in it.
-ghost use Rattle.std.specs.Prelude.{◌≡◌, ◌+◌, ◌-◌, ◌*◌, ◌^◌, ◌<◌, ◌≤◌, length, map, IfOk, All, slice_index_or};
+ghost use Rattle.std.specs.Prelude.{◌≡◌, ◌+◌, ◌-◌, ◌*◌, ◌^◌, ◌<◌, ◌≤◌, length, map, IfOk, IfSome, All, slice_index_or};
 ghost use Rattle.rel_base.specs.Picks.{items_at, every_nth};
 ghost use Rattle.rel_base.specs.inner.Strides.{stepped};
 
@@ -124,6 +124,19 @@ impl Stretch {
             copies.push(copy)?;
         }
         Ok(copies)
+    }
+
+    /// All rows, in order, where they stand side by side in their block.
+    pub fn run(&self) -> Option<&[Row]>
+        ensures { IfSome result (λ rows. rows.now ≡ self.now) }
+    {
+        match &self.selection {
+            Selection::Every { start, step, len } if *step == 1 => {
+                let start = *start as usize;
+                self.block.as_slice().get(start..start + *len as usize)
+            }
+            _ => None,
+        }
     }
 
     /// The rows, one by one.

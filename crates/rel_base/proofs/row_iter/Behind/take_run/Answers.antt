@@ -1,0 +1,18 @@
+use Rattle.std.proofs.Common.{◌<◌, All, length}
+use Rattle.rel_base.proofs.PickLemmas.{rest_nonempty}
+use Rattle.rel_base.proofs.row_iter.Behind.take_run.Goals as goal
+use Rattle.rel_base.proofs.row_iter.Behind.take_run.Goals.{In-Some-split_first}
+
+-- each stretch behind the first has a row
+rest : (c : In-Some-split_first) → All (λ s. 0 < length s) c.in-Some-split_first.rest.now
+rest c =
+    let cases = rw c.in-Some-split_first.is at c.split_first.ensures.cases in
+    rest_nonempty _ _ (rw cases.0 at c.self.invariant)
+
+pub invariant_of-self-in-Some-run : goal.invariant_of-self-in-Some-run
+invariant_of-self-in-Some-run c =
+    rest (goal.at.invariant_of-self-in-Some-run c).In-Some-split_first
+
+pub invariant_of-self-in-Some-split_first : goal.invariant_of-self-in-Some-split_first
+invariant_of-self-in-Some-split_first c =
+    rest (goal.at.invariant_of-self-in-Some-split_first c).In-Some-split_first
