@@ -9,8 +9,8 @@ ghost use Rattle.aggregate_ops.specs.inner.Runs.{IsRun, IsBelow, begins};
 use crate::emits::Emits;
 use crate::forms::put;
 use crate::packed_columns::PackedColumn;
-use crate::packing::{packed_columns, sorted_words};
-use crate::spans::scanned_columns;
+use crate::packing::{packed_columns, words_of};
+use crate::spans::{ScannedColumn, guessed_columns, scanned_columns};
 use rel_base::{Memory, Row, Rows};
 use std::alloc::Global;
 use std::cmp::Ordering;
@@ -139,21 +139,40 @@ fn without(
     Ok(made)
 }
 
-/// Each row of the first list that the second doesn't have, once, in ascending order; none where the rows can't be packed.
-pub fn packed_difference(alloc: Global, a: &Rows, b: &Rows) -> Result<Option<Rows>, Memory>
+/// Each row of the first list that the second doesn't have, once, in ascending order; none where a
+/// row doesn't fit these columns.
+fn difference_by(
+    alloc: Global,
+    a: &Rows,
+    b: &Rows,
+    scanned: &[ScannedColumn],
+) -> Result<Option<Rows>, Memory>
     ensures { IfOk result (λ found. IfSome found (λ made. SameBag (difference a.now b.now) made)) }
 {
-    let scanned = scanned_columns(alloc, Emits::Whole, a, b)?;
-    let columns = packed_columns(alloc, &scanned, &[])?;
-    let Some(words) = sorted_words(alloc, Emits::Whole, a, &columns)? else {
+    let columns = packed_columns(alloc, scanned, &[])?;
+    let Some(mut words) = words_of(alloc, Emits::Whole, a, &columns)? else {
         return Ok(None);
     };
-    let Some(others) = sorted_words(alloc, Emits::Whole, b, &columns)? else {
+    let Some(mut others) = words_of(alloc, Emits::Whole, b, &columns)? else {
         return Ok(None);
     };
+    words.sort_unstable();
+    others.sort_unstable();
     if !are_in_order(&columns, &words) || !are_in_order(&columns, &others) {
         return Ok(None);
     }
     let made = without(alloc, &columns, &words, &others)?;
     Ok(Some(made))
+}
+
+/// Each row of the first list that the second doesn't have, once, in ascending order; none where the rows can't be packed.
+pub fn packed_difference(alloc: Global, a: &Rows, b: &Rows) -> Result<Option<Rows>, Memory>
+    ensures { IfOk result (λ found. IfSome found (λ made. SameBag (difference a.now b.now) made)) }
+{
+    let guessed = guessed_columns(alloc, Emits::Whole, a, b)?;
+    if let Some(made) = difference_by(alloc, a, b, &guessed)? {
+        return Ok(Some(made));
+    }
+    let scanned = scanned_columns(alloc, Emits::Whole, a, b)?;
+    difference_by(alloc, a, b, &scanned)
 }
