@@ -19,6 +19,9 @@ use std::cmp::Ordering;
 fn word_order(columns: &[PackedColumn], word: u64, other: u64) -> Ordering
     ensures { result ≡ row_order (unpacked_row columns.now word) (unpacked_row columns.now other) }
 {
+    if word == other {
+        return Ordering::Equal;
+    }
     match columns {
         [] => Ordering::Equal,
         [column, columns @ ..] => {
@@ -85,7 +88,8 @@ fn begins_with(columns: &[PackedColumn], words: &[u64], word: u64) -> bool
 fn row_of_word(alloc: Global, columns: &[PackedColumn], word: u64) -> Result<Row, Memory>
     ensures { IfOk result (λ row. row ≡ unpacked_row columns.now word) }
 {
-    let mut row = Row::new(alloc);
+    let room = columns.len().min(u32::MAX as usize) as u32;
+    let mut row = Row::with_capacity(alloc, room)?;
     for column in columns {
         put(&mut row, column.value(word))?;
     }
