@@ -2,15 +2,28 @@
 use Rattle.std.proofs.Common.{◌≡◌, ℕ, zero, suc, ◌+◌, ◌-◌, ◌<◌, ◌≤◌, ◌⊎◌, inl, inr, is_lt, Bool, true, false, not, List, [], ◌∷◌, length, map, take, drop, get_or, refl, sym, ◌∙◌, ap, arith}
 use Rattle.std.specs.Prelude.{IsPermutation, ◌&&◌, ◌||◌}
 use Rattle.std.specs.List.{list_all, list_any}
+use Rattle.std.specs.declared.cmp.Ordering.{Ordering}
+use Rattle.std.specs.declared.cmp.Ordering.TheVariants.{Less, Equal, Greater}
+use Rattle.std.specs.Ordering.{ordering_reverse}
 use Rattle.std.proofs.lemmas.List.Sorted.{list_any-IsPermutation}
 use Rattle.std.proofs.lemmas.List.{get_or-map, length-drop}
 use Rattle.std.proofs.lemmas.Bool.{cases_lt}
 use Rattle.std.specs.List.Sorted.{IsSortedWithin}
 use Rattle.rel_base.specs.Values.{row_order}
+use Rattle.rel_base.specs.ValueLaws.{row_order_total}
 use Rattle.myrial_ast.specs.Combinations.{Row, Rows}
 use Rattle.myrial_ast.specs.Bags.{same_row}
 use Rattle.bag_laws.proofs.PartialLemmas.{tied}
 use Rattle.aggregate_ops.specs.Columns.{key_at}
+
+-- a row comes neither before itself nor behind itself
+pub even : (row : Row) → Equal ≡ row_order row row
+even row = by (row_order row row) (row_order_total.antisymm row row)
+  where
+    by : (o : Ordering) → o ≡ ordering_reverse o → Equal ≡ o
+    by Less e = let never : true ≡ false = ap is_lt e in absurd (cc)
+    by Equal e = refl
+    by Greater e = let never : false ≡ true = ap is_lt e in absurd (cc)
 
 module _ {X : Type 0} (row : X → Row) (rows : List X) where
   -- a row at a place

@@ -24,7 +24,7 @@ use crate::packing::{key_columns, packed_columns, sorted_words};
 use crate::picking::picked_rows;
 use crate::reading::GroupedRows;
 use crate::runs::{are_in_order, run_length};
-use crate::spans::{ScannedColumn, scanned_columns};
+use crate::spans::{ScannedColumn, guessed_columns, scanned_columns};
 use algebra::{EmitKind, EmitKinds};
 use myrial_ast::{AggOp, Scalars};
 use rel_base::{Memory, Places, Rows};
@@ -204,6 +204,10 @@ pub fn grouped(alloc: Global, form: Form, rows: &Rows, kinds: &EmitKinds) -> Res
 {
     let places = places_for(alloc, form, kinds)?;
     let places = places.as_slice();
+    let guessed = guessed_columns(alloc, Emits::Whole, rows, &Rows::new(alloc))?;
+    if let Some(made) = grouped_words(alloc, form, Emits::Whole, rows, kinds, places, &guessed)? {
+        return Ok(made);
+    }
     let scanned = scanned_columns(alloc, Emits::Whole, rows, &Rows::new(alloc))?;
     match grouped_words(alloc, form, Emits::Whole, rows, kinds, places, &scanned)? {
         Some(made) => Ok(made),
@@ -233,6 +237,10 @@ pub fn grouped_picks(
     let places = places_for(alloc, form, kinds)?;
     let places = places.as_slice();
     let emits = Emits::Picked(picks.as_slice());
+    let guessed = guessed_columns(alloc, emits, rows, &Rows::new(alloc))?;
+    if let Some(made) = grouped_words(alloc, form, emits, rows, kinds, places, &guessed)? {
+        return Ok(made);
+    }
     let scanned = scanned_columns(alloc, emits, rows, &Rows::new(alloc))?;
     if let Some(made) = grouped_words(alloc, form, emits, rows, kinds, places, &scanned)? {
         return Ok(made);

@@ -9,8 +9,8 @@ ghost use Rattle.aggregate_ops.specs.inner.Runs.{IsRun, IsBelow, begins};
 use crate::emits::Emits;
 use crate::forms::put;
 use crate::packed_columns::PackedColumn;
-use crate::packing::{packed_columns, sorted_words};
-use crate::spans::scanned_columns;
+use crate::packing::{packed_columns, words_of};
+use crate::spans::{ScannedColumn, guessed_columns, scanned_columns};
 use rel_base::{Memory, Row, Rows};
 use std::alloc::Global;
 use std::cmp::Ordering;
@@ -19,6 +19,9 @@ use std::cmp::Ordering;
 fn word_order(columns: &[PackedColumn], word: u64, other: u64) -> Ordering
     ensures { result ≡ row_order (unpacked_row columns.now word) (unpacked_row columns.now other) }
 {
+    if word == other {
+        return Ordering::Equal;
+    }
     match columns {
         [] => Ordering::Equal,
         [column, columns @ ..] => {
@@ -85,7 +88,8 @@ fn begins_with(columns: &[PackedColumn], words: &[u64], word: u64) -> bool
 fn row_of_word(alloc: Global, columns: &[PackedColumn], word: u64) -> Result<Row, Memory>
     ensures { IfOk result (λ row. row ≡ unpacked_row columns.now word) }
 {
-    let mut row = Row::new(alloc);
+    let room = columns.len().min(u32::MAX as usize) as u32;
+    let mut row = Row::with_capacity(alloc, room)?;
     for column in columns {
         put(&mut row, column.value(word))?;
     }
@@ -139,21 +143,40 @@ fn without(
     Ok(made)
 }
 
-/// Each row of the first list that the second doesn't have, once, in ascending order; none where the rows can't be packed.
-pub fn packed_difference(alloc: Global, a: &Rows, b: &Rows) -> Result<Option<Rows>, Memory>
+/// Each row of the first list that the second doesn't have, once, in ascending order; none where a
+/// row doesn't fit these columns.
+fn difference_by(
+    alloc: Global,
+    a: &Rows,
+    b: &Rows,
+    scanned: &[ScannedColumn],
+) -> Result<Option<Rows>, Memory>
     ensures { IfOk result (λ found. IfSome found (λ made. SameBag (difference a.now b.now) made)) }
 {
-    let scanned = scanned_columns(alloc, Emits::Whole, a, b)?;
-    let columns = packed_columns(alloc, &scanned, &[])?;
-    let Some(words) = sorted_words(alloc, Emits::Whole, a, &columns)? else {
+    let columns = packed_columns(alloc, scanned, &[])?;
+    let Some(mut words) = words_of(alloc, Emits::Whole, a, &columns)? else {
         return Ok(None);
     };
-    let Some(others) = sorted_words(alloc, Emits::Whole, b, &columns)? else {
+    let Some(mut others) = words_of(alloc, Emits::Whole, b, &columns)? else {
         return Ok(None);
     };
+    words.sort_unstable();
+    others.sort_unstable();
     if !are_in_order(&columns, &words) || !are_in_order(&columns, &others) {
         return Ok(None);
     }
     let made = without(alloc, &columns, &words, &others)?;
     Ok(Some(made))
+}
+
+/// Each row of the first list that the second doesn't have, once, in ascending order; none where the rows can't be packed.
+pub fn packed_difference(alloc: Global, a: &Rows, b: &Rows) -> Result<Option<Rows>, Memory>
+    ensures { IfOk result (λ found. IfSome found (λ made. SameBag (difference a.now b.now) made)) }
+{
+    let guessed = guessed_columns(alloc, Emits::Whole, a, b)?;
+    if let Some(made) = difference_by(alloc, a, b, &guessed)? {
+        return Ok(Some(made));
+    }
+    let scanned = scanned_columns(alloc, Emits::Whole, a, b)?;
+    difference_by(alloc, a, b, &scanned)
 }

@@ -122,7 +122,7 @@ fn word_of(columns: &[PackedColumn], emits: Emits<'_>, values: &[Value]) -> Opti
 }
 
 /// The words of what the rows emit, where each gives that back.
-fn words_of(
+pub fn words_of(
     alloc: Global,
     emits: Emits<'_>,
     rows: &Rows,

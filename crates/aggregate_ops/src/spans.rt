@@ -5,6 +5,9 @@ use crate::packed_columns::PackedColumn;
 use rel_base::{Memory, Rows, Value};
 use std::alloc::Global;
 
+/// How many rows of a list are looked at where columns are guessed.
+const SAMPLED: u32 = 64;
+
 /// What the values of a column are.
 #[derive(Clone, Copy)]
 pub enum Span {
@@ -45,6 +48,33 @@ impl Span {
             Span::Truths => PackedColumn::below(left, 1, 0, true),
             Span::Others => None,
         }
+    }
+
+    /// How many bits the values take.
+    fn bits(self) -> u32 {
+        match self {
+            Span::Numbers(least, greatest) => 64 - greatest.abs_diff(least).leading_zeros(),
+            Span::Truths => 1,
+            Span::Nothing | Span::Others => 0,
+        }
+    }
+
+    /// These values and, where they are ints, as many more on both sides as so many further bits
+    /// tell apart; none below 0 where there was none.
+    fn widened(self, more: u32) -> Span {
+        let Span::Numbers(least, greatest) = self else {
+            return self;
+        };
+        let bits = self.bits().saturating_add(more).min(63);
+        let farthest = i64::MAX >> (63 - bits);
+        let room = farthest.saturating_sub(greatest.saturating_sub(least));
+        let below = if least < 0 {
+            room / 2
+        } else {
+            least.min(room / 2)
+        };
+        let above = room.saturating_sub(below);
+        Span::Numbers(least.saturating_sub(below), greatest.saturating_add(above))
     }
 }
 
@@ -104,8 +134,9 @@ fn scan(columns: &mut [ScannedColumn], emits: Emits<'_>, values: &[Value]) -> bo
     may_pack
 }
 
-/// The columns of what the rows of both lists emit; none where no column may be packed.
-pub fn scanned_columns(
+/// The columns of what the rows of both lists emit, as long as none is scanned; none where there is
+/// no row.
+fn unscanned_columns(
     alloc: Global,
     emits: Emits<'_>,
     rows: &Rows,
@@ -115,7 +146,17 @@ pub fn scanned_columns(
     if some.is_empty() {
         return Ok(Vec::new(alloc));
     }
-    let mut columns = columns_of(alloc, emits, some.get(0).as_slice())?;
+    columns_of(alloc, emits, some.get(0).as_slice())
+}
+
+/// The columns of what the rows of both lists emit; none where no column may be packed.
+pub fn scanned_columns(
+    alloc: Global,
+    emits: Emits<'_>,
+    rows: &Rows,
+    others: &Rows,
+) -> Result<Vec<ScannedColumn>, Memory> {
+    let mut columns = unscanned_columns(alloc, emits, rows, others)?;
     if scan_all(&mut columns, emits, rows) && scan_all(&mut columns, emits, others) {
         Ok(columns)
     } else {
@@ -131,4 +172,59 @@ fn scan_all(columns: &mut [ScannedColumn], emits: Emits<'_>, rows: &Rows) -> boo
         }
     }
     true
+}
+
+/// The columns of what the rows of both lists emit, guessed from some of the rows; none where these
+/// leave no bits of a word to widen columns by, or where no column may be packed.
+///
+/// A row that isn't looked at may have other values: the guess saves a pass where it is right.
+pub fn guessed_columns(
+    alloc: Global,
+    emits: Emits<'_>,
+    rows: &Rows,
+    others: &Rows,
+) -> Result<Vec<ScannedColumn>, Memory> {
+    let mut columns = unscanned_columns(alloc, emits, rows, others)?;
+    if scan_some(&mut columns, emits, rows)
+        && scan_some(&mut columns, emits, others)
+        && widen(&mut columns)
+    {
+        Ok(columns)
+    } else {
+        Ok(Vec::new(alloc))
+    }
+}
+
+/// Scans what the first row emits, the last and some evenly between them, and says whether a column
+/// may still be packed.
+fn scan_some(columns: &mut [ScannedColumn], emits: Emits<'_>, rows: &Rows) -> bool {
+    if rows.is_empty() {
+        return true;
+    }
+    let last = rows.len() - 1;
+    let step = last / (SAMPLED - 1) + 1;
+    for place in (0..last).step_by(step as usize) {
+        if !scan(columns, emits, rows.get(place).as_slice()) {
+            return false;
+        }
+    }
+    scan(columns, emits, rows.get(last).as_slice())
+}
+
+/// Widens each column of ints by an even share of the bits that are left in a word, and says
+/// whether there is one.
+fn widen(columns: &mut [ScannedColumn]) -> bool {
+    let mut left: u32 = 64;
+    let mut numbers: u32 = 0;
+    for (place, column) in columns.iter().enumerate() {
+        if column.twin == place {
+            left = left.saturating_sub(column.span.bits());
+            numbers = numbers.saturating_add(u32::from(matches!(column.span, Span::Numbers(..))));
+        }
+    }
+    let more = left / numbers.max(1);
+    for column in columns.iter_mut() {
+        column.span = column.span.widened(more);
+    }
+    more > 0
 }

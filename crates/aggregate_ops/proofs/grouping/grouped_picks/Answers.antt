@@ -25,3 +25,20 @@ returns-in-Some-clause-numbers c =
     all-picks-fit (map scalar_tree_of c.args.picks.now) c.args.rows.now c.requires.picks
     (subst (λ (picks : List code.Scalar). All (λ row. row_fits row ≡ true) (map (emitted (map scalar_tree_of picks)) c.args.rows.now))
     c.as_slice.ensures.value all)
+
+pub returns-in_err-made-2-clause-fault : goal.returns-in_err-made-2-clause-fault
+returns-in_err-made-2-clause-fault c =
+    let fits = results_fit c.args.form (map kind_of_emit c.args.kinds.now) in
+    let wrong = c.in_err-made-2.field-0.0 in
+    let answer : c.from_residual-in_err-made-2.result ≡ Err wrong = search rules in
+    subst (λ answer. IfErr answer (λ wrong. Overflows wrong (fits (map (emitted (map scalar_tree_of c.args.picks.now)) c.args.rows.now)))) (sym answer)
+    (subst (λ (picks : List code.Scalar). Overflows wrong (fits (map (emitted (map scalar_tree_of picks)) c.args.rows.now)))
+    c.as_slice.ensures.value c.in_err-made-2.ensures.fault)
+
+pub returns-in-Some-2-clause-numbers : goal.returns-in-Some-2-clause-numbers
+returns-in-Some-2-clause-numbers c =
+    let all : All (λ row. row_fits row ≡ true) (map (emitted (map scalar_tree_of c.as_slice.result.now)) c.args.rows.now) =
+    rw c.in-Some-2.is at c.in_ok-made-2.ensures.numbers in
+    all-picks-fit (map scalar_tree_of c.args.picks.now) c.args.rows.now c.requires.picks
+    (subst (λ (picks : List code.Scalar). All (λ row. row_fits row ≡ true) (map (emitted (map scalar_tree_of picks)) c.args.rows.now))
+    c.as_slice.ensures.value all)
