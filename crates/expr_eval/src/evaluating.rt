@@ -1,6 +1,7 @@
 //! The value of a scalar on a row.
 ghost use Rattle.std.specs.Prelude.{◌≡◌, IsTrue, IfOk, IfErr, OnOk, OnErr, true, false};
-ghost use Rattle.myrial_ast.specs.Scalars.{exact_value, fits, holds, is_plain};
+ghost use Rattle.rel_base.specs.Values.{number_of, in_64_bits};
+ghost use Rattle.myrial_ast.specs.Scalars.{exact_value, fits, holds, is_plain, value_at};
 ghost use Rattle.myrial_ast.specs.ScalarTrees.{scalar_tree_of};
 ghost use Rattle.expr_eval.specs.Lent.{value_of_lent};
 ghost use Rattle.expr_eval.specs.Results.{IsFault};
@@ -8,7 +9,7 @@ ghost use Rattle.expr_eval.specs.Results.{IsFault};
 use crate::operands::{applied, minus};
 use crate::{Lent, RowView};
 use myrial_ast::Scalar;
-use rel_base::{Memory, Text, Value};
+use rel_base::{Memory, Value};
 use std::alloc::Global;
 
 /// A number that a part of a scalar makes lies outside 64 bits.
@@ -46,6 +47,18 @@ impl From<Memory> for EvalFault {
     }
 }
 
+/// The value at a place of a row; past its end the number 0.
+#[inline(always)]
+fn at<R: RowView>(place: u32, row: &R) -> Lent<'_>
+    ensures value { value_of_lent result ≡ value_at (R.values row.entry.now) place }
+    ensures fits { IsTrue (in_64_bits (number_of (value_at (R.values row.entry.now) place))) }
+{
+    match row.column(place) {
+        Some(value) => value,
+        None => Lent::Int(0),
+    }
+}
+
 /// The value of a scalar on a row, its string lent by the row or by the scalar.
 fn lent<'a, R: RowView>(scalar: &'a Scalar, row: &'a R) -> Result<Lent<'a>, Overflow>
     ensures value { IfOk result (λ made. value_of_lent made ≡ exact_value (scalar_tree_of scalar.entry.now) (R.values row.entry.now)) }
@@ -55,10 +68,7 @@ fn lent<'a, R: RowView>(scalar: &'a Scalar, row: &'a R) -> Result<Lent<'a>, Over
 {
     match scalar {
         Scalar::Lit(value) => Ok(Lent::of(value)),
-        Scalar::At(place) => match row.column(*place) {
-            Some(value) => Ok(value),
-            None => Ok(Lent::Int(0)),
-        },
+        Scalar::At(place) => Ok(at(*place, row)),
         Scalar::Not(operand) => {
             let operand = lent(operand, row)?;
             Ok(Lent::Bool(!operand.truth()))
@@ -90,19 +100,12 @@ pub fn eval<R: RowView>(alloc: Global, scalar: &Scalar, row: &R) -> Result<Value
     ensures fits { OnOk result (fits (scalar_tree_of scalar.now) (R.values row.now) ≡ true) }
     ensures fault { IfErr result (λ fault. IsFault fault (scalar_tree_of scalar.now) (R.values row.now)) }
 {
-    // Most scalars are a column, and most values a number: these need no evaluation.
+    // Most scalars are a column, which needs no evaluation.
     if let Scalar::At(place) = scalar {
-        if let Some(Lent::Int(number)) = row.column(*place) {
-            return Ok(Value::Int(number));
-        }
+        return Ok(at(*place, row).owned(alloc)?);
     }
     match lent(scalar, row) {
         Err(Overflow) => Err(EvalFault::Overflow),
-        Ok(Lent::Int(number)) => Ok(Value::Int(number)),
-        Ok(Lent::Bool(truth)) => Ok(Value::Bool(truth)),
-        Ok(Lent::Str(text)) => match Text::of(alloc, text) {
-            Ok(text) => Ok(Value::Str(text)),
-            Err(Memory) => Err(EvalFault::Memory),
-        },
+        Ok(value) => Ok(value.owned(alloc)?),
     }
 }

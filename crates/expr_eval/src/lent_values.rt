@@ -1,9 +1,12 @@
 //! Values as rows lend them.
-ghost use Rattle.std.specs.Prelude.{◌≡◌, IsTrue};
+ghost use Rattle.std.specs.Prelude.{◌≡◌, IsTrue, IfOk, OnErr};
+ghost use Rattle.rel_base.specs.declared.values.ColType.TheVariants as kind;
+ghost use Rattle.rel_base.specs.Relations.{type_of};
 ghost use Rattle.rel_base.specs.Values.{value_order, number_of, truth_of, in_64_bits};
 ghost use Rattle.expr_eval.specs.Lent.{value_of_lent};
 
-use rel_base::Value;
+use rel_base::{Memory, Text, Value};
+use std::alloc::Global;
 use std::cmp::Ordering;
 
 /// A value, its string lent. So a row lends what it keeps as a machine word as well as what it keeps
@@ -29,6 +32,19 @@ impl<'a> Lent<'a> {
             Value::Int(number) => Lent::Int(*number),
             Value::Str(text) => Lent::Str(text.as_str()),
             Value::Bool(truth) => Lent::Bool(*truth),
+        }
+    }
+
+    /// The value itself. Memory is asked for where it is a string, which is copied, and nowhere else.
+    #[inline(always)]
+    pub(crate) fn owned(self, alloc: Global) -> Result<Value, Memory>
+        ensures value { IfOk result (λ value. value ≡ value_of_lent self.entry) }
+        ensures refused { OnErr result (type_of (value_of_lent self.entry) ≡ kind.Str) }
+    {
+        match self {
+            Lent::Int(number) => Ok(Value::Int(number)),
+            Lent::Str(text) => Ok(Value::Str(Text::of(alloc, text)?)),
+            Lent::Bool(truth) => Ok(Value::Bool(truth)),
         }
     }
 

@@ -44,6 +44,7 @@ pub fn all_hold<R: RowView>(scalars: &[Scalar], row: &R) -> Result<bool, Overflo
 }
 
 /// The values of these on a row. Memory is asked for strings, and once for a row of more than three values.
+#[inline]
 pub fn emitted<R: RowView>(alloc: Global, scalars: &Scalars, row: &R) -> Result<Row, EvalFault>
     ensures row { IfOk result (λ made. made ≡ emitted (map scalar_tree_of scalars.now) (R.values row.now)) }
     ensures fits { OnOk result (all_fit (map scalar_tree_of scalars.now) (R.values row.now) ≡ true) }

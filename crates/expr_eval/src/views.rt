@@ -20,6 +20,7 @@ pub trait RowView {
 impl RowView for Row {
     ghost values = { λ row. row };
 
+    #[inline]
     fn column(&self, place: u32) -> Option<Lent<'_>> {
         let value = self.as_slice().get(place as usize)?;
         Some(Lent::of(value))
