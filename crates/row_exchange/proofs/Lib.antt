@@ -1,6 +1,7 @@
 -- Laws of what the crate promises.
 pub mod ViewLemmas
 pub mod FillingLemmas
+pub mod OneCellLemmas
 pub mod ShippingLemmas
 pub mod ReceivingLemmas
 pub mod GatheringLemmas

@@ -222,6 +222,35 @@ fn empty_lists(alloc: Global, count: u32) -> Result<Vec<Vec<u32>>, Memory>
     Ok(lists)
 }
 
+/// Makes the rows of one atom, which all go to one cell, batches behind those that are there. Each
+/// batch is a view of as many rows as it may have: no row is looked at.
+fn fill_for_one(
+    alloc: Global,
+    cell: u32,
+    atom: u32,
+    atoms: u32,
+    rows: &Rows,
+    size: Size,
+    filled: Shipments,
+) -> Result<Shipments, Memory>
+    requires inside { 0 < length rows.now → cell < size.workers }
+    requires atom { atom < atoms }
+    requires size { IsSize size }
+    requires sized { All (IsShipment size.workers atoms size.batch) filled.items }
+    ensures { IfOk result (λ made. AddsAtom (λ _. cell ∷ [])
+        size.workers atoms size.batch atom rows.now filled.items made.items) }
+{
+    let mut filled = filled;
+    let mut from = 0;
+    while from < rows.len() {
+        let to = from + size.batch.min(rows.len() - from);
+        let rows = rows.slice(alloc, from, to)?;
+        filled.push((cell, Batch { atom, rows }))?;
+        from = to;
+    }
+    Ok(filled)
+}
+
 /// Fills the batches of the rows of one atom, behind those that are there.
 fn fill_atom<W: Route>(
     alloc: Global,
@@ -240,6 +269,9 @@ fn fill_atom<W: Route>(
     ensures { IfOk result (λ made. AddsAtom (W.cells route.now atom)
         size.workers atoms size.batch atom rows.now filled.items made.items) }
 {
+    if let Some(cell) = route.only_cell(atom) {
+        return fill_for_one(alloc, cell, atom, atoms, rows, size, filled);
+    }
     let mut filling = Filling::start(alloc, atom, atoms, rows, size, filled)?;
     let mut cells = Cells::new();
     let mut number = 0;

@@ -1,5 +1,5 @@
 //! Where rows go.
-ghost use Rattle.std.specs.Prelude.{◌≡◌, ℕ, List, []};
+ghost use Rattle.std.specs.Prelude.{◌≡◌, ℕ, List, [], ◌∷◌, IfSome};
 ghost use Rattle.rel_base.specs.declared.values.Value.{Value as Datum};
 
 use arrayvec::ArrayVec;
@@ -35,4 +35,13 @@ pub trait Route {
         requires accepted { accepts self.now atom row.now }
         requires empty { into.old.items ≡ [] }
         ensures { into.new.items ≡ cells self.now atom row.now };
+
+    /// The one cell that each row of an atom goes to, where the route knows without the rows that
+    /// there is one.
+    fn only_cell(&self, atom: u32) -> Option<u32>
+        ensures { IfSome result (λ cell. (row : List Datum) → accepts self.now atom row
+            → cells self.now atom row ≡ cell ∷ []) }
+    {
+        None
+    }
 }

@@ -1,11 +1,22 @@
-use Rattle.std.proofs.Common.{◌≡◌, ◌<◌, ◌∙◌, ◌∷◌, ℕ, [], List, All, length, drop, get_or, take, replicate, subst, sym, ap, arith, rules}
-use Rattle.std.specs.Prelude.{IfOk, Vec}
+use Rattle.std.proofs.Common.{◌≡◌, ◌<◌, ◌∙◌, ◌∷◌, ℕ, [], List, All, length, get_or, take, subst, sym, ap, arith}
 use Rattle.std.proofs.lemmas.List.{length-replicate}
-use Rattle.std.specs.declared.alloc.Global.{Global}
-use Rattle.row_exchange.specs.Routes.{Row, Rows, rows_to, pairs_of}
-use Rattle.row_exchange.specs.inner.Shipments.{FillingState, Shipment, filling_of, Gathers, no_more, AddsAtom, Finishes, row_at}
+use Rattle.row_exchange.specs.Routes.{rows_to, pairs_of}
+use Rattle.row_exchange.specs.inner.Shipments.{FillingState, filling_of, Gathers, no_more}
 use Rattle.row_exchange.proofs.FillingLemmas.{next-row, fill-step, Gathers-nothing, Gathers-same, fill-atom, took-all, pairs-few, IfOk-then}
+use Rattle.row_exchange.proofs.OneCellLemmas.{same-cells, cell-inside}
 use Rattle.row_exchange.proofs.filling.fill_atom.Goals as goal
+
+pub fill_for_one-requires-clause-inside : goal.fill_for_one-requires-clause-inside
+fill_for_one-requires-clause-inside g c =
+    cell-inside (g.W.Route.accepts c.args.route.now c.args.atom) (g.W.Route.cells c.args.route.now c.args.atom) c.in-Some.cell c.args.size.workers c.args.rows.now
+    c.requires.routed c.in-Some.ensures
+
+pub returns-in-Some : goal.returns-in-Some
+returns-in-Some g c =
+    let goes = g.W.Route.cells c.args.route.now c.args.atom in
+    IfOk-then c.fill_for_one.result c.fill_for_one.ensures
+    (λ made a. same-cells goes (λ _. c.in-Some.cell ∷ []) c.args.size.workers c.args.atoms c.args.size.batch c.args.atom c.args.rows.now c.args.filled.items made.items
+    (λ k d below. c.in-Some.ensures (get_or c.args.rows.now k d) (c.requires.routed.accepted k d below)) a)
 
 pub loop-row-init : goal.loop-row-init
 loop-row-init g c =
@@ -20,7 +31,7 @@ pub put_row-requires-clause-inside : goal.put_row-requires-clause-inside
 put_row-requires-clause-inside g c =
     let inv = c.loop-row.invariant in
     let rows = c.args.rows.now in
-    let n = next-row rows c.loop-row.number c.in-Some.row.now c.next.new.self (inv.2 ∙ c.in-Some.ensures.steps) in
+    let n = next-row rows c.loop-row.number c.in-Some-row.row.now c.next.new.self (inv.2 ∙ c.in-Some-row.ensures.steps) in
     let goes = g.W.Route.cells c.args.route.now c.args.atom in
     let all = subst (All (λ (cell : ℕ). cell < c.args.size.workers)) (ap goes n.1.0 ∙ sym (c.as_slice.ensures.value ∙ c.cells.ensures))
     (c.requires.routed.inside c.loop-row.number [] n.0).inside in
@@ -29,19 +40,19 @@ put_row-requires-clause-inside g c =
 pub put_row-requires-clause-row : goal.put_row-requires-clause-row
 put_row-requires-clause-row g c =
     let inv = c.loop-row.invariant in
-    let n = next-row c.args.rows.now c.loop-row.number c.in-Some.row.now c.next.new.self (inv.2 ∙ c.in-Some.ensures.steps) in
+    let n = next-row c.args.rows.now c.loop-row.number c.in-Some-row.row.now c.next.new.self (inv.2 ∙ c.in-Some-row.ensures.steps) in
     omega (arith, n.0, ap length inv.3.same_work.rows)
 
 pub overflow_add-number : goal.overflow_add-number
 overflow_add-number g c =
-    let n = next-row c.args.rows.now c.loop-row.number c.in-Some.row.now c.next.new.self (c.loop-row.invariant.2 ∙ c.in-Some.ensures.steps) in
+    let n = next-row c.args.rows.now c.loop-row.number c.in-Some-row.row.now c.next.new.self (c.loop-row.invariant.2 ∙ c.in-Some-row.ensures.steps) in
     omega (arith, n.0, c.iter-row-items.ensures.bound)
 
 pub loop-row-preserved : goal.loop-row-preserved
 loop-row-preserved g c =
     let inv = c.loop-row.invariant in
     let rows = c.args.rows.now in
-    let n = next-row rows c.loop-row.number c.in-Some.row.now c.next.new.self (inv.2 ∙ c.in-Some.ensures.steps) in
+    let n = next-row rows c.loop-row.number c.in-Some-row.row.now c.next.new.self (inv.2 ∙ c.in-Some-row.ensures.steps) in
     let goes = g.W.Route.cells c.args.route.now c.args.atom in
     let start = filling_of c.args.atom c.args.atoms rows c.args.size.batch c.args.size.workers c.args.filled.items in (
       tt,
