@@ -35,7 +35,7 @@ impl<'a> Lent<'a> {
         }
     }
 
-    /// The value itself. Memory is asked for where it is a string, which is copied, and nowhere else.
+    /// The value itself. Memory is asked for where it is a string, which is copied.
     #[inline(always)]
     pub(crate) fn owned(self, alloc: Global) -> Result<Value, Memory>
         ensures value { IfOk result (λ value. value ≡ value_of_lent self.entry) }
