@@ -1,9 +1,9 @@
 //! Rows in the order of their keys.
-ghost use Rattle.std.specs.Prelude.{◌≡◌, map, All, IfOk, IsPermutation, IsSorted};
+ghost use Rattle.std.specs.Prelude.{◌≡◌, ◌<◌, [], map, length, slice_index_or, All, IfOk, IsPermutation, IsSorted};
 ghost use Rattle.rel_base.specs.Values.{value_order, row_order};
 ghost use Rattle.myrial_ast.specs.Scalars.{value_at};
 ghost use Rattle.aggregate_ops.specs.Columns.{rows_in, key_at};
-ghost use Rattle.aggregate_ops.specs.inner.Reading.{row_of};
+ghost use Rattle.aggregate_ops.specs.inner.Reading.{row_of, rows_of, unpacked_row};
 
 use crate::packed_columns::PackedColumn;
 use crate::reading::{GroupedRow, GroupedRows};
@@ -46,10 +46,6 @@ fn order_in(row: &GroupedRow<'_>, place: u32, other: &GroupedRow<'_>, other_plac
 {
     let (place, other_place) = (place as usize, other_place as usize);
     match (row, other) {
-        (GroupedRow::Packed(word, columns), GroupedRow::Packed(other_word, others))
-            if place < columns.len() && other_place < others.len() => {
-            columns[place].order(*word, others[other_place], *other_word)
-        }
         (GroupedRow::Lent(row), GroupedRow::Lent(other))
             if place < row.as_slice().len() && other_place < other.as_slice().len() => {
             order_of(&row.as_slice()[place], &other.as_slice()[other_place])
@@ -59,6 +55,49 @@ fn order_in(row: &GroupedRow<'_>, place: u32, other: &GroupedRow<'_>, other_plac
             order_of(value.value(), other.read(other_place).value())
         }
     }
+}
+
+/// How two of the rows compare, each by its values at the same places.
+pub fn order_between(places: &[u32], rows: GroupedRows<'_>, i: usize, j: usize) -> Ordering
+    requires one { i < length (rows_of rows) }
+    requires other { j < length (rows_of rows) }
+    ensures { result ≡ row_order (key_at places.now (slice_index_or (rows_of rows.entry) i []))
+        (key_at places.now (slice_index_or (rows_of rows.entry) j [])) }
+{
+    match rows.as_words() {
+        Some((words, columns)) => order_of_words(columns, places, words[i], words[j]),
+        None => order_at(&rows.get(i), places, &rows.get(j), places),
+    }
+}
+
+/// How the rows of two words compare, each by its values at the same places.
+fn order_of_words(columns: &[PackedColumn], places: &[u32], word: u64, other: u64) -> Ordering
+    ensures { result ≡ row_order (key_at places.now (unpacked_row columns.now word))
+        (key_at places.now (unpacked_row columns.now other)) }
+{
+    if word == other {
+        return Ordering::Equal;
+    }
+    let [place, places @ ..] = places else {
+        return Ordering::Equal;
+    };
+    let order = order_in_words(columns, *place, word, other);
+    if order.is_ne() {
+        return order;
+    }
+    order_of_words(columns, places, word, other)
+}
+
+/// How the values of the rows of two words at a place compare.
+fn order_in_words(columns: &[PackedColumn], place: u32, word: u64, other: u64) -> Ordering
+    ensures { result ≡ value_order (value_at (unpacked_row columns.now word) place)
+        (value_at (unpacked_row columns.now other) place) }
+{
+    let place = place as usize;
+    if place >= columns.len() {
+        return Ordering::Equal;
+    }
+    columns[place].order(word, columns[place], other)
 }
 
 /// How two values compare. Ints, which most of them are, are compared without a call.

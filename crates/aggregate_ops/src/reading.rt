@@ -1,5 +1,5 @@
 //! The rows of groups as they are read: lent, or packed in words.
-ghost use Rattle.std.specs.Prelude.{◌≡◌, ◌<◌, ◌≤◌, [], map, length, take, drop, slice_index_or, IfOk};
+ghost use Rattle.std.specs.Prelude.{◌≡◌, ◌<◌, ◌≤◌, [], map, length, take, drop, slice_index_or, IfOk, IfSome};
 ghost use Rattle.myrial_ast.specs.Scalars.{value_at};
 ghost use Rattle.aggregate_ops.specs.Columns.{rows_in};
 ghost use Rattle.aggregate_ops.specs.inner.Reading.{row_of, rows_of, unpacked_row, value_of};
@@ -94,6 +94,18 @@ impl<'a> GroupedRows<'a> {
             lent: &[],
             words,
             columns,
+        }
+    }
+
+    /// The words and their columns, where no row is lent.
+    pub fn as_words(self) -> Option<(&'a [u64], &'a [PackedColumn])>
+        ensures { IfSome result (λ packed. rows_of self.entry
+            ≡ map (unpacked_row packed.1.now) packed.0.now) }
+    {
+        if self.lent.is_empty() {
+            Some((self.words, self.columns))
+        } else {
+            None
         }
     }
 

@@ -5,7 +5,7 @@ ghost use Rattle.aggregate_ops.specs.Columns.{key_at};
 ghost use Rattle.aggregate_ops.specs.inner.Reading.{rows_of};
 ghost use Rattle.aggregate_ops.specs.inner.Runs.{IsRun};
 
-use crate::keys::order_at;
+use crate::keys::order_between;
 use crate::reading::GroupedRows;
 
 /// How many rows at the front have the key of the first.
@@ -13,9 +13,8 @@ pub fn run_length(places: &[u32], rows: GroupedRows<'_>) -> usize
     requires { 0 < length (rows_of rows) }
     ensures { IsRun (map (key_at places.now) (rows_of rows.entry)) result }
 {
-    let first = rows.get(0);
     let mut count = 1;
-    while count < rows.len() && order_at(&first, places, &rows.get(count), places).is_eq() {
+    while count < rows.len() && order_between(places, rows, 0, count).is_eq() {
         count += 1;
     }
     count
@@ -27,7 +26,7 @@ pub fn are_in_order(places: &[u32], rows: GroupedRows<'_>) -> bool
 {
     let mut count = 1;
     while count < rows.len() {
-        if order_at(&rows.get(count), places, &rows.get(count - 1), places).is_lt() {
+        if order_between(places, rows, count, count - 1).is_lt() {
             return false;
         }
         count += 1;
