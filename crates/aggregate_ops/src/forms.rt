@@ -30,6 +30,7 @@ pub enum Form {
 }
 
 /// Adds a value at the end; there is no memory where the row has no room.
+#[inline(always)]
 pub fn put(row: &mut Row, value: Value) -> Result<(), Memory>
     ensures { OnOk result (row.new ≡ row.old ++ value ∷ []) }
 {

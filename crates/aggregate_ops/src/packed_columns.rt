@@ -48,6 +48,7 @@ impl PackedColumn {
     }
 
     /// The bits of a value, where they stand in a word.
+    #[inline(always)]
     pub fn bits_of(self, value: &Value) -> u64 {
         let distance = match value {
             Value::Int(number) => number.abs_diff(self.least),
@@ -58,6 +59,7 @@ impl PackedColumn {
     }
 
     /// The value of a word in this column.
+    #[inline(always)]
     pub fn value(self, word: u64) -> Value
         ensures { result ≡ unpacked self.shift self.mask self.least self.is_truth word }
     {
@@ -70,6 +72,7 @@ impl PackedColumn {
     }
 
     /// Whether a word has this value in this column.
+    #[inline(always)]
     pub fn holds(self, word: u64, value: &Value) -> bool
         ensures { IsTrue result
             → unpacked self.shift self.mask self.least self.is_truth word ≡ value.now }
@@ -84,6 +87,7 @@ impl PackedColumn {
     }
 
     /// The number of a word in a column of numbers.
+    #[inline(always)]
     fn number(self, word: u64) -> i64
         ensures { result
             ≡ int_wrapping_add w64 self.least (pos (bit_and (word / 2 ^ self.shift) self.mask)) }
@@ -93,6 +97,7 @@ impl PackedColumn {
     }
 
     /// How the values of two words compare, of which each stands in its column.
+    #[inline(always)]
     pub fn order(self, word: u64, column: PackedColumn, other: u64) -> Ordering
         ensures { result ≡ value_order (unpacked self.shift self.mask self.least self.is_truth word)
             (unpacked column.shift column.mask column.least column.is_truth other) }

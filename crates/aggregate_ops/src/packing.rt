@@ -103,11 +103,44 @@ fn gives_back(word: u64, columns: &[PackedColumn], emits: Emits<'_>, values: &[V
     true
 }
 
+/// Whether a word has these values in the columns.
+fn has_values(word: u64, columns: &[PackedColumn], values: &[Value]) -> bool
+    ensures { IsTrue result → unpacked_row columns.now word ≡ values.now }
+{
+    let [column, columns @ ..] = columns else {
+        return values.is_empty();
+    };
+    let [value, values @ ..] = values else {
+        return false;
+    };
+    column.holds(word, value) && has_values(word, columns, values)
+}
+
+/// The word of these values, where it gives them back.
+#[inline(always)]
+fn word_of_values(columns: &[PackedColumn], values: &[Value]) -> Option<u64>
+    ensures { IfSome result (λ word. unpacked_row columns.now word ≡ values.now) }
+{
+    let mut word = 0;
+    for (column, value) in columns.iter().zip(values) {
+        word |= column.bits_of(value);
+    }
+    if has_values(word, columns, values) {
+        Some(word)
+    } else {
+        None
+    }
+}
+
 /// The word of what a row emits, where it gives that back.
+#[inline(always)]
 fn word_of(columns: &[PackedColumn], emits: Emits<'_>, values: &[Value]) -> Option<u64>
     ensures { IfSome result (λ word. unpacked_row columns.now word
         ≡ emitted_by emits.entry values.now) }
 {
+    if matches!(emits, Emits::Whole) {
+        return word_of_values(columns, values);
+    }
     let mut word = 0;
     for (place, column) in columns.iter().enumerate() {
         if let Some(value) = emits.value(values, place) {
