@@ -2,7 +2,7 @@
 --
 --   IsLine text                              a record that begins with a field begins with the text, if the text has a byte
 --   BeginsWithField text field more rest     a text begins with this field, where a field may begin
---   BeginsWithValue n c t text v more rest   a text begins with a field that writes this value of type t
+--   BeginsWithValue n c t text v more rest   a text begins with a field that writes this value
 --   BeginsWithRow schema n text row rest     a text begins with a record, number n, that writes this row
 --   AddsRow schema text rows more rest       a text begins with the record behind these rows, and its row is added to them
 use Rattle.std.specs.Prelude.{◌≡◌, ℕ, ◌<◌, Bool, true, false, Option, Some, Ok, List, [], ◌∷◌, ◌++◌, ◌+◌, length}
@@ -37,7 +37,8 @@ BeginsWithField text field more rest =
 -- the text begins with a field of text, in this record and column, that writes this value
 abbrev pub BeginsWithValue : ℕ → ℕ → ColType → List ℕ → Value → Bool → List ℕ → Type 0
 BeginsWithValue nth column kind text value more rest =
-    (field : List ℕ) × IsUtf8 field × BeginsWithField text field more rest × (value_of_field nth column kind field ≡ Ok value)
+    (field : List ℕ) × IsUtf8 field × BeginsWithField text field more rest
+    × (value_of_field nth column kind field ≡ Ok value)
 
 -- the text begins with the fields of a record, which writes this row
 abbrev pub BeginsWithRow : List Column → ℕ → List ℕ → List Value → List ℕ → Type 0
