@@ -169,8 +169,8 @@ fn difference_by(
     Ok(Some(made))
 }
 
-/// Each row of the first list that the second doesn't have, once, in ascending order; none where the
-/// rows can't be packed.
+/// Each row of the first list that the second doesn't have, once, in ascending order; none where
+/// the rows can't be packed.
 pub fn packed_difference(alloc: Global, a: &Rows, b: &Rows) -> Result<Option<Rows>, Memory>
     ensures { IfOk result (λ found. IfSome found (λ made. SameBag (difference a.now b.now) made)) }
 {

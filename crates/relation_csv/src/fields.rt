@@ -142,8 +142,8 @@ fn short_number(digits: &[u8]) -> Option<i64>
     Some(number as i64)
 }
 
-/// The number that the digits at the front write, and how many they are; `None` where there is none,
-/// where they are more than 18, and where nothing stands behind them.
+/// The number that the digits at the front write, and how many they are; `None` where there is
+/// none, where they are more than 18, and where nothing stands behind them.
 #[inline(always)]
 pub(crate) fn leading_number(bytes: &[u8]) -> Option<(i64, usize)>
     ensures bound { IfSome result (λ (_, count). count < length bytes.now) }

@@ -242,9 +242,9 @@ fn first_value<'a>(
     }
 }
 
-/// The first field of a text with its number, whether another one follows it in its record, and what
-/// stands behind it; none unless it is a number without a sign, of 18 digits at most, and something
-/// stands behind it. Its end is where its digits end, so that nothing is searched for.
+/// The first field of a text with its number, whether another one follows it in its record, and
+/// what stands behind it; none unless it is a number without a sign, of 18 digits at most, and
+/// something stands behind it. Its end is where its digits end, so that nothing is searched for.
 #[inline(always)]
 fn first_number(text: &str) -> Option<(&str, i64, bool, &str)>
     ensures begins { IfSome result (λ (field, _, more, rest).
