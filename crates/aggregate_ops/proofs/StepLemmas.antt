@@ -4,12 +4,13 @@ use Rattle.std.specs.Prelude.{IsPermutation, ◌&&◌, ◌||◌}
 use Rattle.std.specs.List.{list_all, list_any}
 use Rattle.std.specs.declared.cmp.Ordering.{Ordering}
 use Rattle.std.specs.declared.cmp.Ordering.TheVariants.{Less, Equal, Greater}
-use Rattle.std.specs.Ordering.{ordering_reverse}
+use Rattle.std.specs.Ordering.{ordering_reverse, eq_by_cmp}
+use Rattle.std.specs.Cmp.Lexicographic.{pointwise, lists_ties}
 use Rattle.std.proofs.lemmas.List.Sorted.{list_any-IsPermutation}
 use Rattle.std.proofs.lemmas.List.{get_or-map, length-drop}
 use Rattle.std.proofs.lemmas.Bool.{cases_lt}
 use Rattle.std.specs.List.Sorted.{IsSortedWithin}
-use Rattle.rel_base.specs.Values.{row_order}
+use Rattle.rel_base.specs.Values.{value_order, row_order}
 use Rattle.rel_base.specs.ValueLaws.{row_order_total}
 use Rattle.myrial_ast.specs.Combinations.{Row, Rows}
 use Rattle.myrial_ast.specs.Bags.{same_row}
@@ -24,6 +25,10 @@ even row = by (row_order row row) (row_order_total.antisymm row row)
     by Less e = let never : true ≡ false = ap is_lt e in absurd (cc)
     by Equal e = refl
     by Greater e = let never : false ≡ true = ap is_lt e in absurd (cc)
+
+-- rows are equal value by value where they are one row
+pub same-values : (row other : Row) → pointwise (eq_by_cmp value_order) row other ≡ same_row row other
+same-values = lists_ties value_order (λ r s. refl)
 
 module _ {X : Type 0} (row : X → Row) (rows : List X) where
   -- a row at a place

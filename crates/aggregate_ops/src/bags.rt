@@ -9,57 +9,57 @@ ghost use Rattle.aggregate_ops.specs.inner.Runs.{IsRun, IsBelow, begins};
 
 use crate::ordering::rows_in_order;
 use crate::packed_bags::packed_difference;
-use rel_base::{Duplicate, Memory, Row, Rows};
+use rel_base::{Duplicate, Memory, Row, Rows, Value};
 use std::alloc::Global;
 
 /// How many rows at the front are the first one.
-fn repeats(rows: &[&Row]) -> usize
+fn repeats(rows: &[&[Value]]) -> usize
     requires { 0 < length rows.now }
     ensures { IsRun (rows_in rows.now) result }
 {
     let first = rows[0];
     let mut count = 1;
-    while count < rows.len() && *first == *rows[count] {
+    while count < rows.len() && first == rows[count] {
         count += 1;
     }
     count
 }
 
 /// How many rows at the front come before a row.
-fn rows_below(rows: &[&Row], row: &Row) -> usize
+fn rows_below(rows: &[&[Value]], row: &[Value]) -> usize
     ensures { IsBelow (rows_in rows.now) row.now result }
 {
     let mut count = 0;
-    while count < rows.len() && rows[count].cmp(row).is_lt() {
+    while count < rows.len() && rows[count].cmp(&row).is_lt() {
         count += 1;
     }
     count
 }
 
 /// Whether the first of the rows is this one.
-fn begins_with(rows: &[&Row], row: &Row) -> bool
+fn begins_with(rows: &[&[Value]], row: &[Value]) -> bool
     ensures { result ≡ begins (rows_in rows.now) row.now }
 {
     match rows {
         [] => false,
-        [first, ..] => *row == **first,
+        [first, ..] => row == *first,
     }
 }
 
 /// Adds a copy of a row, unless it was found.
-fn put_unless(alloc: Global, found: bool, row: &Row, into: &mut Rows) -> Result<(), Memory>
+fn put_unless(alloc: Global, found: bool, row: &[Value], into: &mut Rows) -> Result<(), Memory>
     requires { length into.old < 2 ^ 32 - 1 }
     ensures { OnOk result (into.new ≡ into.old ++ (if found then [] else row.now ∷ [])) }
 {
     if found {
         return Ok(());
     }
-    let copy = row.copy(alloc)?;
+    let copy = Row::from_slice(alloc, row)?;
     into.push(copy)
 }
 
 /// Each of the rows that the others don't have, once; both stand in ascending order.
-fn without(alloc: Global, rows: &[&Row], others: &[&Row]) -> Result<Rows, Memory>
+fn without(alloc: Global, rows: &[&[Value]], others: &[&[Value]]) -> Result<Rows, Memory>
     requires rows { IsSorted row_order (rows_in rows.now) }
     requires others { IsSorted row_order (rows_in others.now) }
     requires few { length rows.now < 2 ^ 32 }

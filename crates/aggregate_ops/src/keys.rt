@@ -8,7 +8,7 @@ ghost use Rattle.aggregate_ops.specs.inner.Reading.{row_of, rows_of, unpacked_ro
 use crate::packed_columns::PackedColumn;
 use crate::reading::{GroupedRow, GroupedRows};
 use crate::runs::are_in_order;
-use rel_base::{Memory, Row, Rows, Value};
+use rel_base::{Memory, Rows, Value};
 use std::alloc::Global;
 use std::cmp::Ordering;
 
@@ -47,8 +47,8 @@ fn order_in(row: &GroupedRow<'_>, place: u32, other: &GroupedRow<'_>, other_plac
     let (place, other_place) = (place as usize, other_place as usize);
     match (row, other) {
         (GroupedRow::Lent(row), GroupedRow::Lent(other))
-            if place < row.as_slice().len() && other_place < other.as_slice().len() => {
-            order_of(&row.as_slice()[place], &other.as_slice()[other_place])
+            if place < row.len() && other_place < other.len() => {
+            order_of(&row[place], &other[other_place])
         }
         _ => {
             let value = row.read(place);
@@ -113,7 +113,7 @@ pub fn order_of(value: &Value, other: &Value) -> Ordering
 /// A row with the places by which it is compared.
 #[derive(Drop)]
 pub struct KeyedRow<'a> {
-    row: &'a Row,
+    row: &'a [Value],
     places: &'a [u32],
 }
 
@@ -192,7 +192,7 @@ fn keyed_rows<'a>(
 }
 
 /// The rows without the places.
-fn bare_rows<'a>(alloc: Global, keyed: &[KeyedRow<'a>]) -> Result<Vec<&'a Row>, Memory>
+fn bare_rows<'a>(alloc: Global, keyed: &[KeyedRow<'a>]) -> Result<Vec<&'a [Value]>, Memory>
     ensures { IfOk result (λ made. rows_in made.items ≡ map (λ e. e.row.now) keyed.entry.now) }
 {
     let mut rows = Vec::with_capacity(alloc, keyed.len())?;
@@ -203,7 +203,11 @@ fn bare_rows<'a>(alloc: Global, keyed: &[KeyedRow<'a>]) -> Result<Vec<&'a Row>, 
 }
 
 /// The rows in the order of their values at these places, by a sort of the rows.
-fn rows_by_row<'a>(alloc: Global, rows: &'a Rows, places: &'a [u32]) -> Result<Vec<&'a Row>, Memory>
+fn rows_by_row<'a>(
+    alloc: Global,
+    rows: &'a Rows,
+    places: &'a [u32],
+) -> Result<Vec<&'a [Value]>, Memory>
     ensures same { IfOk result (λ made. IsPermutation rows.entry.now (rows_in made.items)) }
     ensures ascending { IfOk result (λ made. IsSorted row_order
         (map (key_at places.entry.now) (rows_in made.items))) }
@@ -215,8 +219,7 @@ fn rows_by_row<'a>(alloc: Global, rows: &'a Rows, places: &'a [u32]) -> Result<V
 }
 
 /// The bits of a row's values at these places, each in its column.
-fn word_at(columns: &[PackedColumn], places: &[u32], row: &Row) -> u64 {
-    let values = row.as_slice();
+fn word_at(columns: &[PackedColumn], places: &[u32], values: &[Value]) -> u64 {
     let mut word = 0;
     for (column, place) in columns.iter().zip(places) {
         if let Some(value) = values.get(*place as usize) {
@@ -232,7 +235,7 @@ fn rows_with_words<'a>(
     rows: &'a Rows,
     places: &[u32],
     columns: &[PackedColumn],
-) -> Result<Vec<(u64, &'a Row)>, Memory>
+) -> Result<Vec<(u64, &'a [Value])>, Memory>
     ensures { IfOk result (λ made. map (λ e. e.1.now) made.items ≡ rows.entry.now) }
 {
     let mut worded = Vec::with_capacity(alloc, rows.len() as usize)?;
@@ -243,7 +246,10 @@ fn rows_with_words<'a>(
 }
 
 /// The rows without the words.
-fn without_words<'a>(alloc: Global, worded: &[(u64, &'a Row)]) -> Result<Vec<&'a Row>, Memory>
+fn without_words<'a>(
+    alloc: Global,
+    worded: &[(u64, &'a [Value])],
+) -> Result<Vec<&'a [Value]>, Memory>
     ensures { IfOk result (λ made. rows_in made.items ≡ map (λ e. e.1.now) worded.entry.now) }
 {
     let mut rows = Vec::with_capacity(alloc, worded.len())?;
@@ -259,7 +265,7 @@ fn rows_by_word<'a>(
     rows: &'a Rows,
     places: &[u32],
     columns: &[PackedColumn],
-) -> Result<Vec<&'a Row>, Memory>
+) -> Result<Vec<&'a [Value]>, Memory>
     ensures { IfOk result (λ made. IsPermutation rows.entry.now (rows_in made.items)) }
 {
     let mut worded = rows_with_words(alloc, rows, places, columns)?;
@@ -276,7 +282,7 @@ pub fn rows_by_key<'a>(
     rows: &'a Rows,
     places: &'a [u32],
     columns: &[PackedColumn],
-) -> Result<Vec<&'a Row>, Memory>
+) -> Result<Vec<&'a [Value]>, Memory>
     ensures same { IfOk result (λ made. IsPermutation rows.entry.now (rows_in made.items)) }
     ensures ascending { IfOk result (λ made. IsSorted row_order
         (map (key_at places.entry.now) (rows_in made.items))) }

@@ -4,7 +4,7 @@ ghost use Rattle.rel_base.specs.Bags.{IsSortedPermutation};
 ghost use Rattle.rel_base.specs.Beginnings.{BeginsWith};
 ghost use Rattle.aggregate_ops.specs.Columns.{rows_in};
 
-use rel_base::{LedRow, Memory, Row, Rows, led_row};
+use rel_base::{LedRow, Memory, Rows, Value, led_row};
 use std::alloc::Global;
 
 /// Each row behind what it begins with.
@@ -21,7 +21,7 @@ fn led_rows(alloc: Global, rows: &Rows) -> Result<Vec<LedRow<'_>>, Memory>
 }
 
 /// The rows alone.
-fn bare_rows<'a>(alloc: Global, led: &[LedRow<'a>]) -> Result<Vec<&'a Row>, Memory>
+fn bare_rows<'a>(alloc: Global, led: &[LedRow<'a>]) -> Result<Vec<&'a [Value]>, Memory>
     ensures { IfOk result (λ made. rows_in made.items ≡ map (λ e. e.2.now) led.entry.now) }
 {
     let mut rows = Vec::with_capacity(alloc, led.len())?;
@@ -32,7 +32,7 @@ fn bare_rows<'a>(alloc: Global, led: &[LedRow<'a>]) -> Result<Vec<&'a Row>, Memo
 }
 
 /// The rows in ascending order. None is copied or moved.
-pub fn rows_in_order(alloc: Global, rows: &Rows) -> Result<Vec<&Row>, Memory>
+pub fn rows_in_order(alloc: Global, rows: &Rows) -> Result<Vec<&[Value]>, Memory>
     ensures order { IfOk result (λ made. IsSortedPermutation rows.now (rows_in made.items)) }
     ensures few { OnOk result (length rows.now < 2 ^ 32) }
 {

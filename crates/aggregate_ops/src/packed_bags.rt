@@ -1,5 +1,5 @@
 //! The operators on bags, over rows that are packed in words.
-ghost use Rattle.std.specs.Prelude.{◌≡◌, ◌+◌, ◌-◌, ◌<◌, ◌≤◌, ◌^◌, ◌++◌, ◌∷◌, [], if◌then◌else◌, IsTrue, map, length, OnOk, IfOk, IfSome, IsSorted};
+ghost use Rattle.std.specs.Prelude.{◌≡◌, ◌+◌, ◌-◌, ◌<◌, ◌≤◌, ◌^◌, ◌++◌, ◌∷◌, [], if◌then◌else◌, IsTrue, map, length, OnOk, IfOk, IfSome, IsSorted, ⊤};
 ghost use Rattle.rel_base.specs.Bags.{SameBag};
 ghost use Rattle.rel_base.specs.Values.{row_order};
 ghost use Rattle.myrial_ast.specs.Bags.{difference};
@@ -7,13 +7,13 @@ ghost use Rattle.aggregate_ops.specs.inner.Reading.{unpacked_row};
 ghost use Rattle.aggregate_ops.specs.inner.Runs.{IsRun, IsBelow, begins};
 
 use crate::emits::Emits;
-use crate::forms::put;
 use crate::packed_columns::PackedColumn;
 use crate::packing::{packed_columns, words_of};
 use crate::spans::{ScannedColumn, guessed_columns, scanned_columns};
-use rel_base::{Memory, Row, Rows};
+use rel_base::{MOST_COLUMNS, Memory, RowSource, Rows, Value};
 use std::alloc::Global;
 use std::cmp::Ordering;
+use std::marker::Model;
 
 /// How the rows of two words compare.
 fn word_order(columns: &[PackedColumn], word: u64, other: u64) -> Ordering
@@ -84,16 +84,58 @@ fn begins_with(columns: &[PackedColumn], words: &[u64], word: u64) -> bool
     }
 }
 
-/// The row of a word.
-fn row_of_word(alloc: Global, columns: &[PackedColumn], word: u64) -> Result<Row, Memory>
-    ensures { IfOk result (λ row. row ≡ unpacked_row columns.now word) }
-{
-    let room = columns.len().min(u32::MAX as usize) as u32;
-    let mut row = Row::with_capacity(alloc, room)?;
-    for column in columns {
-        put(&mut row, column.value(word))?;
+/// A word, as the row that it tells.
+#[derive(Drop)]
+struct WordRow<'a> {
+    columns: &'a [PackedColumn],
+    word: u64,
+}
+
+impl<'a> Model for WordRow<'a> {
+    ghost use Rattle.std.specs.Prelude.{List, ◌^◌, ◌<◌, length};
+    ghost use Rattle.rel_base.specs.declared.values.Value.{Value as Datum};
+    ghost use Rattle.aggregate_ops.specs.inner.Reading.{unpacked_row};
+
+    ghost Value = { List Datum };
+
+    ghost view = { λ w. unpacked_row w.columns.now w.word };
+
+    ghost invariant = { λ w. length w.columns.now < 2 ^ 32 };
+}
+
+impl<'a> WordRow<'a> {
+    /// The row that a word tells in these columns.
+    fn of(columns: &'a [PackedColumn], word: u64) -> WordRow<'a>
+        requires { length columns.now < 2 ^ 32 }
+        ensures { result ≡ unpacked_row columns.entry.now word }
+    {
+        WordRow { columns, word }
     }
-    Ok(row)
+}
+
+impl<'a> RowSource for WordRow<'a> {
+    type Fault = Memory;
+
+    ghost values = { λ row. row };
+
+    ghost is_made = { λ _. ⊤ };
+
+    ghost is_fault = { λ _ _. ⊤ };
+
+    fn width(&self) -> u32 {
+        self.columns.len() as u32
+    }
+
+    fn put_values(&self, into: &mut Vec<Value>) -> Result<(), Memory> {
+        for column in self.columns {
+            into.push(column.value(self.word))?;
+        }
+        Ok(())
+    }
+
+    fn refused(&self) -> Memory {
+        Memory
+    }
 }
 
 /// Adds the row of a word, unless it was found.
@@ -104,15 +146,15 @@ fn put_unless(
     word: u64,
     into: &mut Rows,
 ) -> Result<(), Memory>
-    requires { length into.old < 2 ^ 32 - 1 }
+    requires columns { length columns.now < 2 ^ 32 }
+    requires room { length into.old < 2 ^ 32 - 1 }
     ensures { OnOk result (into.new
         ≡ into.old ++ (if found then [] else unpacked_row columns.now word ∷ [])) }
 {
     if found {
         return Ok(());
     }
-    let row = row_of_word(alloc, columns, word)?;
-    into.push(row)
+    into.push_made(alloc, &WordRow::of(columns, word))
 }
 
 /// Each row of the words that the others don't have, once; both stand in ascending order.
@@ -124,6 +166,7 @@ fn without(
 ) -> Result<Rows, Memory>
     requires words { IsSorted row_order (map (unpacked_row columns.now) words.now) }
     requires others { IsSorted row_order (map (unpacked_row columns.now) others.now) }
+    requires columns { length columns.now < 2 ^ 32 }
     requires few { length words.now < 2 ^ 32 }
     ensures { IfOk result (λ made. made ≡ difference (map (unpacked_row columns.now) words.now)
         (map (unpacked_row columns.now) others.now)) }
@@ -154,6 +197,9 @@ fn difference_by(
     ensures { IfOk result (λ found. IfSome found (λ made. SameBag (difference a.now b.now) made)) }
 {
     let columns = packed_columns(alloc, scanned, &[])?;
+    if columns.len() > MOST_COLUMNS as usize {
+        return Ok(None);
+    }
     let Some(mut words) = words_of(alloc, Emits::Whole, a, &columns)? else {
         return Ok(None);
     };

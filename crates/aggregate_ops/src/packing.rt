@@ -167,7 +167,7 @@ pub fn words_of(
 {
     let mut words = Vec::with_capacity(alloc, rows.len() as usize)?;
     for row in rows {
-        match word_of(columns, emits, row.as_slice()) {
+        match word_of(columns, emits, row) {
             Some(word) => words.push(word)?,
             None => return Ok(None),
         }

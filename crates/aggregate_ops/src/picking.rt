@@ -61,15 +61,14 @@ fn picked_value(alloc: Global, pick: &Scalar, values: &[Value]) -> Result<Value,
 }
 
 /// What a row emits by these picks.
-fn picked_row(alloc: Global, picks: &Scalars, row: &Row) -> Result<Row, Memory>
+fn picked_row(alloc: Global, picks: &Scalars, row: &[Value]) -> Result<Row, Memory>
     requires { IsTrue (are_picks (map scalar_tree_of picks.now)) }
     ensures row { IfOk result (λ made. made ≡ emitted (map scalar_tree_of picks.now) row.now) }
     ensures fits { OnOk result (all_fit (map scalar_tree_of picks.now) row.now ≡ true) }
 {
-    let values = row.as_slice();
     let mut made = Row::with_capacity(alloc, picks.len())?;
     for pick in picks.as_slice() {
-        let value = picked_value(alloc, pick, values)?;
+        let value = picked_value(alloc, pick, row)?;
         put(&mut made, value)?;
     }
     Ok(made)
@@ -82,7 +81,7 @@ pub fn picked_rows(alloc: Global, picks: &Scalars, rows: &Rows) -> Result<Rows, 
         ≡ map (emitted (map scalar_tree_of picks.now)) rows.now) }
     ensures fits { OnOk result (list_all (all_fit (map scalar_tree_of picks.now)) rows.now ≡ true) }
 {
-    let mut made = Rows::with_capacity(alloc, rows.len())?;
+    let mut made = Rows::with_capacity(alloc, rows.len(), picks.len())?;
     for row in rows {
         let row = picked_row(alloc, picks, row)?;
         made.push(row)?;

@@ -5,14 +5,14 @@ ghost use Rattle.aggregate_ops.specs.Columns.{rows_in};
 ghost use Rattle.aggregate_ops.specs.inner.Reading.{row_of, rows_of, unpacked_row, value_of};
 
 use crate::packed_columns::PackedColumn;
-use rel_base::{Duplicate, Memory, Row, Value};
+use rel_base::{Duplicate, Memory, Value};
 use std::alloc::Global;
 
 /// A row that is grouped.
 #[derive(Clone, Copy)]
 pub enum GroupedRow<'a> {
     /// A row that is lent.
-    Lent(&'a Row),
+    Lent(&'a [Value]),
     /// A word that has all values of a row, in these columns.
     Packed(u64, &'a [PackedColumn]),
 }
@@ -54,7 +54,7 @@ impl<'a> GroupedRow<'a> {
         ensures { value_of result ≡ value_at (row_of self.entry) place }
     {
         match self {
-            GroupedRow::Lent(row) => match row.as_slice().get(place) {
+            GroupedRow::Lent(row) => match row.get(place) {
                 Some(value) => ReadValue::Lent(value),
                 None => ReadValue::Made(Value::Int(0)),
             },
@@ -69,14 +69,14 @@ impl<'a> GroupedRow<'a> {
 /// Rows that are grouped: some that are lent, and behind them some that are packed in words.
 #[derive(Clone, Copy)]
 pub struct GroupedRows<'a> {
-    lent: &'a [&'a Row],
+    lent: &'a [&'a [Value]],
     words: &'a [u64],
     columns: &'a [PackedColumn],
 }
 
 impl<'a> GroupedRows<'a> {
     /// Rows that are lent.
-    pub fn lent(rows: &'a [&'a Row]) -> GroupedRows<'a>
+    pub fn lent(rows: &'a [&'a [Value]]) -> GroupedRows<'a>
         ensures { rows_of result ≡ rows_in rows.entry.now }
     {
         GroupedRows {

@@ -146,7 +146,7 @@ fn unscanned_columns(
     if some.is_empty() {
         return Ok(Vec::new(alloc));
     }
-    columns_of(alloc, emits, some.get(0).as_slice())
+    columns_of(alloc, emits, some.get(0))
 }
 
 /// The columns of what the rows of both lists emit; none where no column may be packed.
@@ -167,7 +167,7 @@ pub fn scanned_columns(
 /// Scans what more rows emit, and says whether a column may still be packed.
 fn scan_all(columns: &mut [ScannedColumn], emits: Emits<'_>, rows: &Rows) -> bool {
     for row in rows {
-        if !scan(columns, emits, row.as_slice()) {
+        if !scan(columns, emits, row) {
             return false;
         }
     }
@@ -204,11 +204,11 @@ fn scan_some(columns: &mut [ScannedColumn], emits: Emits<'_>, rows: &Rows) -> bo
     let last = rows.len() - 1;
     let step = last / (SAMPLED - 1) + 1;
     for place in (0..last).step_by(step as usize) {
-        if !scan(columns, emits, rows.get(place).as_slice()) {
+        if !scan(columns, emits, rows.get(place)) {
             return false;
         }
     }
-    scan(columns, emits, rows.get(last).as_slice())
+    scan(columns, emits, rows.get(last))
 }
 
 /// Widens each column of ints by an even share of the bits that are left in a word, and says

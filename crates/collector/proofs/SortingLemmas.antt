@@ -1,15 +1,16 @@
 -- What compares by keys of rows, and what was compared each with the next.
-use Rattle.std.proofs.Common.{◌≡◌, ◌∙◌, ◌+◌, ◌<◌, List, length, All, true, false, refl, ap, arith, is_lt}
+use Rattle.std.proofs.Common.{◌≡◌, ◌∙◌, ◌+◌, ◌<◌, List, length, All, Some, true, false, refl, ap, arith, is_lt}
 use Rattle.std.specs.Borrow.{Bor}
 use Rattle.std.specs.List.{AllAdjacentBelow}
 use Rattle.std.proofs.lemmas.List.{get_or-map, length-map}
 use Rattle.std.specs.Prelude.{IsSorted}
 use Rattle.std.specs.declared.cmp.Ordering.{Ordering}
 use Rattle.std.specs.declared.cmp.Ordering.TheVariants.{Less, Equal, Greater}
-use Rattle.std.specs.Ordering.{is_le, ordering_then, ordering_reverse, nat_cmp, int_cmp}
+use Rattle.std.specs.Ordering.{as_partial_cmp, is_le, is_some_and, ordering_then, ordering_reverse, nat_cmp, int_cmp}
 use Rattle.std.specs.Cmp.{IsTotalOrder, on_total}
+use Rattle.std.specs.Cmp.Lexicographic.{slice_partial_cmp, lists_agrees}
 use Rattle.rel_base.specs.declared.values.Value.{Value}
-use Rattle.rel_base.specs.Values.{row_order}
+use Rattle.rel_base.specs.Values.{value_order, row_order}
 use Rattle.rel_base.specs.ValueLaws.{row_order_total}
 use Rattle.rel_base.specs.Beginnings.{leading_rank, leading_number, leading_bytes}
 use Rattle.rel_base.proofs.SortLemmas.{not_less-row}
@@ -35,6 +36,14 @@ reversed : (first : Ordering) → is_le first ≡ true → is_lt (ordering_rever
 reversed Less e = refl
 reversed Equal e = refl
 reversed Greater e = cc
+
+-- whether a row is at most another, by `<=` at their values, is so by the order of rows
+pub at_most_as_rows : (row other : List Value)
+    → is_some_and is_le (slice_partial_cmp (as_partial_cmp value_order) row other) ≡ is_le (row_order row other)
+at_most_as_rows row other =
+    let agree : slice_partial_cmp (as_partial_cmp value_order) row other ≡ Some (row_order row other) =
+    lists_agrees {R = value_order} (λ x y. refl) row other in
+    ap (is_some_and is_le) agree
 
 -- a list of which each item is at most the next is in order
 pub in_order_by_neighbours : {T : Type 0} (order : T → T → Ordering) → IsTotalOrder order → (xs : List T)

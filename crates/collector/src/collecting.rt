@@ -8,7 +8,7 @@ ghost use Rattle.collector.specs.inner.Sorted.{HasSorted};
 use crate::merging::merge;
 use crate::sorting::Sorting;
 use crew::run_all;
-use rel_base::{Memory, Row, Rows, Spread};
+use rel_base::{Memory, Rows, Spread, Value};
 use std::alloc::Global;
 use std::sync::Wait;
 use std::thread::Threads;
@@ -20,7 +20,7 @@ pub fn collect<'a, R: Threads + Wait + Sync>(
     rt: &R,
     alloc: Global,
     parts: &'a Spread,
-) -> Result<Vec<&'a Row>, Memory>
+) -> Result<Vec<&'a [Value]>, Memory>
     ensures { IfOk result (λ rows. map (λ row. row.now) rows.items ≡ sorted (joined parts.now)) }
 {
     let mut jobs = jobs_of(alloc, parts.as_slice())?;
@@ -54,7 +54,7 @@ fn run_jobs<R: Threads + Wait + Sync>(rt: &R, jobs: &mut Vec<Sorting<'_>>)
 }
 
 /// What the jobs sorted, where there was memory for each.
-fn sorted_lists<'a>(alloc: Global, jobs: Vec<Sorting<'a>>) -> Result<Vec<Vec<&'a Row>>, Memory>
+fn sorted_lists<'a>(alloc: Global, jobs: Vec<Sorting<'a>>) -> Result<Vec<Vec<&'a [Value]>>, Memory>
     ensures { IfOk result (λ lists. map Ok lists.items ≡ map (λ job. job.sorted) jobs.entry.items) }
 {
     let mut lists = Vec::with_capacity(alloc, jobs.len())?;

@@ -3,11 +3,11 @@ ghost use Rattle.std.specs.Prelude.{◌≡◌, All, map, IfOk};
 ghost use Rattle.rel_base.specs.Beginnings.{BeginsWith};
 ghost use Rattle.collector.specs.inner.Sorted.{IsSortedPart};
 
-use rel_base::{LedRow, Memory, Row, Rows, led_row};
+use rel_base::{LedRow, Memory, Rows, Value, led_row};
 use std::alloc::Global;
 
 /// The rows of a part in ascending order, each where it stands.
-pub(crate) fn sorted_by_keys<'a>(alloc: Global, part: &'a Rows) -> Result<Vec<&'a Row>, Memory>
+pub(crate) fn sorted_by_keys<'a>(alloc: Global, part: &'a Rows) -> Result<Vec<&'a [Value]>, Memory>
     ensures { IfOk result (IsSortedPart part.now) }
 {
     let mut keyed = keyed_rows(alloc, part)?;
@@ -29,7 +29,7 @@ fn keyed_rows<'a>(alloc: Global, part: &'a Rows) -> Result<Vec<LedRow<'a>>, Memo
 }
 
 /// The rows without what they begin with.
-fn rows_behind<'a>(alloc: Global, keyed: &[LedRow<'a>]) -> Result<Vec<&'a Row>, Memory>
+fn rows_behind<'a>(alloc: Global, keyed: &[LedRow<'a>]) -> Result<Vec<&'a [Value]>, Memory>
     ensures { IfOk result (λ rows. map (λ row. row.now) rows.items
         ≡ map (λ e. e.2.now) keyed.entry.now) }
 {

@@ -4,7 +4,7 @@ ghost use Rattle.collector.specs.inner.Sorted.{IsSortedPart};
 
 use crate::keys::sorted_by_keys;
 use crew::Job;
-use rel_base::{Memory, Row, Rows};
+use rel_base::{Memory, Rows, Value};
 use std::alloc::Global;
 use std::sync::Wait;
 use std::thread::Threads;
@@ -14,7 +14,7 @@ use std::thread::Threads;
 pub(crate) struct Sorting<'a> {
     pub(crate) alloc: Global,
     pub(crate) part: &'a Rows,
-    pub(crate) sorted: Result<Vec<&'a Row>, Memory>,
+    pub(crate) sorted: Result<Vec<&'a [Value]>, Memory>,
 }
 
 impl<'a> Job for Sorting<'a> {
@@ -31,7 +31,7 @@ impl<'a> Job for Sorting<'a> {
 
 /// The rows of a part in ascending order. Where they stand so already, they are only compared, each
 /// with the next.
-fn sorted_rows<'a>(alloc: Global, part: &'a Rows) -> Result<Vec<&'a Row>, Memory>
+fn sorted_rows<'a>(alloc: Global, part: &'a Rows) -> Result<Vec<&'a [Value]>, Memory>
     ensures { IfOk result (IsSortedPart part.now) }
 {
     let rows = rows_of(alloc, part)?;
@@ -45,7 +45,7 @@ fn sorted_rows<'a>(alloc: Global, part: &'a Rows) -> Result<Vec<&'a Row>, Memory
 }
 
 /// The rows of a part, as they stand.
-fn rows_of<'a>(alloc: Global, part: &'a Rows) -> Result<Vec<&'a Row>, Memory>
+fn rows_of<'a>(alloc: Global, part: &'a Rows) -> Result<Vec<&'a [Value]>, Memory>
     ensures { IfOk result (λ rows. map (λ row. row.now) rows.items ≡ part.now) }
 {
     let mut rows = Vec::with_capacity(alloc, part.len() as usize)?;

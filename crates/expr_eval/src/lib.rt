@@ -9,8 +9,8 @@
 //! the value is of another type, and so does a column past the end of the row, as their definition says.
 //! Not promised: that memory is there.
 //!
-//! The row may be anything that lends values by place, a `RowView`, as one `Row`, rows side by side, none of which is copied, or
-//! machine words that stand for values.
+//! The row may be anything that lends values by place, a `RowView`, as one row, rows side by side,
+//! none of which is copied, or machine words that stand for values.
 //!
 //! Read `specs/Lent.antt`, then `lent_values.rt`, `views.rt` and `evaluating.rt`.
 #![tactic(auto)]
@@ -23,5 +23,5 @@ mod views;
 
 pub use evaluating::{EvalFault, Overflow, eval, holds};
 pub use lent_values::Lent;
-pub use lists::{all_hold, emitted, plain_hold};
+pub use lists::{all_hold, emit, plain_hold};
 pub use views::{RowView, SideBySide};

@@ -6,7 +6,7 @@ ghost use Rattle.expr_eval.specs.Lent.{value_of_lent};
 ghost use Rattle.expr_eval.specs.SideBySide.{values_of};
 
 use crate::Lent;
-use rel_base::Row;
+use rel_base::Value;
 
 /// What has a value at each place, as a row has in its columns.
 pub trait RowView {
@@ -17,12 +17,12 @@ pub trait RowView {
         ensures { option_map value_of_lent result ≡ slice_get (values self.now) place };
 }
 
-impl RowView for Row {
-    ghost values = { λ row. row };
+impl<'a> RowView for &'a [Value] {
+    ghost values = { λ row. row.now };
 
     #[inline]
     fn column(&self, place: u32) -> Option<Lent<'_>> {
-        let value = self.as_slice().get(place as usize)?;
+        let value = self.get(place as usize)?;
         Some(Lent::of(value))
     }
 }
@@ -31,7 +31,7 @@ impl RowView for Row {
 #[derive(Clone, Copy)]
 pub struct SideBySide<'a> {
     /// The rows, from left to right.
-    pub rows: &'a [&'a Row],
+    pub rows: &'a [&'a [Value]],
 }
 
 impl<'a> RowView for SideBySide<'a> {
@@ -43,16 +43,16 @@ impl<'a> RowView for SideBySide<'a> {
 }
 
 /// The value at a place of rows side by side.
-fn column_of<'a>(rows: &'a [&'a Row], place: u32) -> Option<Lent<'a>>
+fn column_of<'a>(rows: &'a [&'a [Value]], place: u32) -> Option<Lent<'a>>
     ensures { option_map value_of_lent result ≡ slice_get (values_of rows.entry.now) place }
 {
     match rows {
         [] => None,
         [row, rest @ ..] => {
-            if place < row.len() {
-                Some(Lent::of(row.get(place)))
+            if (place as usize) < row.len() {
+                Some(Lent::of(&row[place as usize]))
             } else {
-                column_of(rest, place - row.len())
+                column_of(rest, place - row.len() as u32)
             }
         }
     }

@@ -6,7 +6,7 @@ ghost use Rattle.std.specs.Prelude.{◌≡◌, ◌%◌, ◌^◌, ◌<◌, ◌≤
 ghost use Rattle.hash_partition.specs.Hashing.{coordinate_of, key_of, key_code_of, home_of};
 ghost use Rattle.rel_base.specs.Codes.{modulus};
 
-use rel_base::{Places, Row, Value, mixed_with};
+use rel_base::{Places, Value, mixed_with};
 
 /// What the seed of a dimension is multiplied by for the multiplier of its hash.
 const MULTIPLIER_FACTOR: u64 = 6_364_136_223_846_793_005;
@@ -43,14 +43,14 @@ fn remainder(number: u128) -> u64
 }
 
 /// The code of the key that a row has in these columns, which is 0 for no columns.
-pub fn key_code(row: &Row, columns: &Places) -> u64
+pub fn key_code(row: &[Value], columns: &Places) -> u64
     requires columns { All (λ column. column < length row.now) columns.now }
     ensures value { result ≡ key_code_of (key_of row.now columns.now) }
     ensures range { result < modulus }
 {
     let mut mixed = 0;
     for column in columns.as_slice() {
-        mixed = mixed_with(mixed, row.get(*column).code());
+        mixed = mixed_with(mixed, row[*column as usize].code());
     }
     mixed % Value::CODES
 }
@@ -58,7 +58,7 @@ pub fn key_code(row: &Row, columns: &Places) -> u64
 /// The worker at which the rows with one key meet: the key that a row has in these columns, over so many workers.
 ///
 /// A key of no columns has its home at worker 0. Where there is one worker, no key is hashed.
-pub fn home_of_key(seed: u64, row: &Row, columns: &Places, workers: u32) -> u32
+pub fn home_of_key(seed: u64, row: &[Value], columns: &Places, workers: u32) -> u32
     requires columns { All (λ column. column < length row.now) columns.now }
     requires workers { 1 ≤ workers }
     ensures value { result ≡ home_of seed (key_of row.now columns.now) workers }

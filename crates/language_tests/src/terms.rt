@@ -1,7 +1,7 @@
 //! Terms, evaluated with ample memory, and rows side by side, which are one row.
-use expr_eval::{EvalFault, Overflow, SideBySide, all_hold, emitted, eval, holds, plain_hold};
+use expr_eval::{EvalFault, Overflow, SideBySide, all_hold, emit, eval, holds, plain_hold};
 use myrial_ast::{BinOp, Scalar, Scalars};
-use rel_base::{Memory, Row, Text, Value};
+use rel_base::{Memory, Row, Rows, Text, Value};
 use std::alloc::Global;
 use std::process::Abort;
 
@@ -20,18 +20,25 @@ fn second(alloc: Global) -> Result<Scalars, Memory> {
 }
 
 /// The row that is emitted of the second column where this one follows a row of one column.
-fn emitted_behind(alloc: Global, right: &Row) -> Result<Row, EvalFault> {
+fn emitted_behind(alloc: Global, right: &[Value]) -> Result<Rows, EvalFault> {
     let left = row_of(alloc, Value::Int(7))?;
-    let rows = [&left, right];
-    emitted(alloc, &second(alloc)?, &SideBySide { rows: &rows })
+    let rows = [left.as_slice(), right];
+    let mut made = Rows::new(alloc);
+    emit(
+        alloc,
+        &second(alloc)?,
+        &SideBySide { rows: &rows },
+        &mut made,
+    )?;
+    Ok(made)
 }
 
 #[test]
 fn emits_of_rows_side_by_side(rt: HostRuntime) -> Result<(), Memory> {
     let text = Value::Str(Text::of(rt.alloc(), "seven")?);
     let right = row_of(rt.alloc(), text)?;
-    let made = emitted_behind(rt.alloc(), &right);
-    assert!(rt; made.is_ok_and(|row| row == right));
+    let made = emitted_behind(rt.alloc(), right.as_slice());
+    assert!(rt; made.is_ok_and(|rows| rows.len() == 1 && rows.get(0) == right.as_slice()));
     Ok(())
 }
 
@@ -44,19 +51,19 @@ fn one_more(alloc: Global) -> Result<Scalars, Memory> {
 }
 
 /// Sees that each term overflows on a row, and that all of them do as tests.
-fn compare_overflows(rt: &impl Abort, alloc: Global, terms: &Scalars, row: &Row) {
+fn compare_overflows(rt: &impl Abort, alloc: Global, terms: &Scalars, row: &[Value]) {
     for term in terms.as_slice() {
-        assert_eq!(rt; eval(alloc, term, row).err(), Some(EvalFault::Overflow));
-        assert_eq!(rt; holds(term, row), Err(Overflow));
+        assert_eq!(rt; eval(alloc, term, &row).err(), Some(EvalFault::Overflow));
+        assert_eq!(rt; holds(term, &row), Err(Overflow));
     }
-    assert_eq!(rt; all_hold(terms.as_slice(), row), Err(Overflow));
-    assert_eq!(rt; plain_hold(&[], row), true);
+    assert_eq!(rt; all_hold(terms.as_slice(), &row), Err(Overflow));
+    assert_eq!(rt; plain_hold(&[], &row), true);
 }
 
 #[test]
 fn sums_past_64_bits_overflow(rt: HostRuntime) -> Result<(), Memory> {
     let terms = one_more(rt.alloc())?;
     let row = row_of(rt.alloc(), Value::Int(i64::MAX))?;
-    compare_overflows(&rt, rt.alloc(), &terms, &row);
+    compare_overflows(&rt, rt.alloc(), &terms, row.as_slice());
     Ok(())
 }

@@ -11,6 +11,7 @@ use Rattle.std.specs.Ordering.{is_eq, eq_by_cmp}
 use Rattle.std.specs.declared.cmp.Ordering.{Ordering}
 use Rattle.std.specs.declared.cmp.Ordering.TheVariants.{Less}
 use Rattle.std.specs.Cmp.{IsTotalOrder, on_total}
+use Rattle.std.specs.Cmp.Lexicographic.{pointwise, lists_ties}
 use Rattle.std.proofs.lemmas.List.{length-map, append-nil, map-append}
 use Rattle.std.proofs.lemmas.List.Concat.{flat_map-append}
 use Rattle.std.proofs.lemmas.List.Filters.{dedup_is}
@@ -21,7 +22,7 @@ use Rattle.rel_base.specs.Bags.{SameBag, sorted}
 use Rattle.rel_base.specs.Keys.{File}
 use Rattle.rel_base.specs.Picks.{joined}
 use Rattle.rel_base.specs.ValueLaws.{row_order_total}
-use Rattle.rel_base.specs.Values.{row_order}
+use Rattle.rel_base.specs.Values.{value_order, row_order}
 use Rattle.rel_base.proofs.SortedLemmas.{IsPermutation-sorted_by}
 use Rattle.myrial_ast.specs.Bags.{distinct}
 use Rattle.myrial_ast.specs.Combinations.{Row, Rows}
@@ -72,6 +73,10 @@ dedup-distinct : (same : Bor Row → Bor Row → Bool) → ((r s : Bor Row) → 
     → (rows : List (Bor Row)) → distinct (rows_of (dedup same rows)) ≡ distinct (rows_of rows)
 dedup-distinct same one [] = refl
 dedup-distinct same one (row ∷ rows) = kept-distinct same one row rows
+
+-- rows are equal value by value where they tie
+pub same-values : (row other : Row) → pointwise (eq_by_cmp value_order) row other ≡ eq_by_cmp row_order row other
+same-values = lists_ties value_order (λ r s. refl)
 
 -- ---- rows that ascend strictly are all different
 

@@ -5,7 +5,7 @@ ghost use Rattle.rel_io.specs.Sinks.{Offers, written_of};
 
 use algebra::{PlanNotes, TrafficNotes};
 use plan_printer::{print_plan, print_traffic};
-use rel_base::{Key, Memory, Relation, Row, Schema};
+use rel_base::{Key, Memory, Relation, Schema, Value};
 use rel_io::{Sink, SinkFault, offer};
 use relation_csv::{header_text, row_text};
 use std::alloc::Global;
@@ -47,7 +47,7 @@ impl Block {
     }
 
     /// The text of rows as they stand, each a piece.
-    pub(crate) fn of_rows(alloc: Global, rows: &[&Row]) -> Result<Block, Memory>
+    pub(crate) fn of_rows(alloc: Global, rows: &[&[Value]]) -> Result<Block, Memory>
         ensures { IfOk result (λ block. block ≡ flat_map (λ row. row_record row.now) rows.now) }
     {
         let mut block = Block::new(alloc);
@@ -143,7 +143,7 @@ impl Block {
     }
 
     /// Adds rows as they stand, each a piece.
-    pub(crate) fn add_rows(&mut self, rows: &[&Row]) -> Result<(), Memory>
+    pub(crate) fn add_rows(&mut self, rows: &[&[Value]]) -> Result<(), Memory>
         ensures { OnOk result
             (self.new ≡ self.old ++ flat_map (λ row. row_record row.now) rows.now) }
     {
@@ -163,7 +163,7 @@ impl Block {
     }
 
     /// Adds a row, as a piece.
-    fn add_row(&mut self, row: &Row) -> Result<(), Memory>
+    fn add_row(&mut self, row: &[Value]) -> Result<(), Memory>
         ensures { OnOk result (self.new ≡ self.old ++ row_record row.now) }
     {
         let start = self.text.len();

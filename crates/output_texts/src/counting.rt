@@ -6,7 +6,7 @@ ghost use Rattle.output_texts.specs.Stores.{all_rows, whole_store};
 
 use collector::collect;
 use engine::SpreadStores;
-use rel_base::{Memory, Row};
+use rel_base::{Memory, Value};
 use std::alloc::Global;
 use std::sync::Wait;
 use std::thread::Threads;
@@ -17,7 +17,7 @@ pub(crate) fn rows_of_all<'a, R: Threads + Wait + Sync>(
     rt: &R,
     alloc: Global,
     stored: &'a SpreadStores,
-) -> Result<Vec<&'a Row>, Memory>
+) -> Result<Vec<&'a [Value]>, Memory>
     ensures { IfOk result (λ rows. SameBag (all_rows (map whole_store stored.now))
         (map (λ row. row.now) rows.items)) }
 {
@@ -30,7 +30,7 @@ pub(crate) fn rows_of_all<'a, R: Threads + Wait + Sync>(
 }
 
 /// The number of different rows.
-pub(crate) fn number_of_different(rows: Vec<&Row>) -> usize
+pub(crate) fn number_of_different(rows: Vec<&[Value]>) -> usize
     ensures { result ≡ length (distinct (map (λ row. row.now) rows.entry.items)) }
 {
     let mut rows = rows;

@@ -7,7 +7,7 @@ ghost use Rattle.relation_csv.specs.RecordTexts.{row_record};
 ghost use Rattle.output_texts.specs.inner.Ranges.{IsTextOf};
 
 use crate::blocks::Block;
-use rel_base::{Memory, Row};
+use rel_base::{Memory, Value};
 use std::alloc::Global;
 use std::thread::{Threads, map_chunks};
 
@@ -26,7 +26,7 @@ pub(crate) fn jobs_for(rows: usize, most: usize) -> usize
 pub(crate) fn blocks_of_rows<R: Threads + Sync>(
     rt: &R,
     alloc: Global,
-    rows: &[&Row],
+    rows: &[&[Value]],
     jobs: usize,
 ) -> Result<Vec<Block>, Memory>
     requires { 0 < jobs }
@@ -42,7 +42,7 @@ pub(crate) fn blocks_of_rows<R: Threads + Sync>(
 fn blocks_of_ranges<R: Threads + Sync>(
     rt: &R,
     alloc: Global,
-    rows: &[&Row],
+    rows: &[&[Value]],
     size: usize,
 ) -> Result<Vec<Result<Block, Memory>>, Memory>
     requires { 0 < size }
@@ -55,7 +55,7 @@ fn blocks_of_ranges<R: Threads + Sync>(
         alloc,
         rows,
         size,
-        &|_, range: &[&Row]| Block::of_rows(alloc, range),
+        &|_, range: &[&[Value]]| Block::of_rows(alloc, range),
     )?;
     Ok(parts)
 }

@@ -10,7 +10,7 @@ use crate::jobs::{blocks_of_rows, jobs_for};
 use algebra::{PlanNotes, TrafficNotes};
 use collector::collect;
 use engine::{SpreadStore, SpreadStores};
-use rel_base::{Key, Memory, Relation, Row, Schema, Stored};
+use rel_base::{Key, Memory, Relation, Schema, Stored, Value};
 use rel_io::{Sink, SinkFault};
 use std::alloc::Global;
 use std::marker::Model;
@@ -175,7 +175,7 @@ impl Pieces {
         &mut self,
         rt: &R,
         alloc: Global,
-        rows: &[&Row],
+        rows: &[&[Value]],
         jobs: usize,
     ) -> Result<(), Memory>
         ensures { OnOk result

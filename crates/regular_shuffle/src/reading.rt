@@ -3,7 +3,7 @@ ghost use Rattle.std.specs.Prelude.{◌≡◌, ◌^◌, ◌<◌, true, length, A
 ghost use Rattle.rel_base.specs.Values.{number_of, in_64_bits};
 ghost use Rattle.myrial_ast.specs.Groups.{row_fits};
 
-use rel_base::{Row, Rows, Spread, Value};
+use rel_base::{Rows, Spread, Value};
 use row_exchange::Spreads;
 
 /// Reads each value of some rows, so that each number among them is known to fit 64 bits.
@@ -34,10 +34,10 @@ fn read_rows(rows: &Rows)
 }
 
 /// Reads each value of a row.
-fn read_row(row: &Row)
+fn read_row(row: &[Value])
     ensures { row_fits row.now ≡ true }
 {
-    for value in row.as_slice() {
+    for value in row {
         let _read = number_in(value);
     }
 }

@@ -5,6 +5,7 @@ pub mod SortKeyLemmas
 pub mod WorkedRows
 pub mod PickLemmas
 pub mod RangeLemmas
+pub mod FlatLemmas
 pub mod SortLemmas
 pub mod StartLemmas
 pub mod StrideLemmas

@@ -1,5 +1,5 @@
 -- Items at places.
-use Rattle.std.proofs.Common.{◌≡◌, ◌∙◌, ℕ, zero, suc, ◌+◌, ◌-◌, ◌*◌, ◌/◌, ◌<◌, ◌≤◌, List, [], ◌∷◌, ◌++◌, length, get_or, take, drop, map, All, refl, sym, ap, arith}
+use Rattle.std.proofs.Common.{◌≡◌, ◌∙◌, ℕ, zero, suc, ◌+◌, ◌-◌, ◌*◌, ◌/◌, ◌<◌, ◌≤◌, List, [], ◌∷◌, ◌++◌, length, get_or, take, drop, map, All, refl, sym, ap, subst, arith}
 use Rattle.std.proofs.lemmas.List.{drop_more, same_lists}
 use Rattle.std.proofs.Math.Nat.{div-mul-le_self, mul-le-mul_left, mul-le-mul_right}
 use Rattle.rel_base.specs.Picks.{items_at}
@@ -81,6 +81,12 @@ module _ {X : Type 0} where
   get_or-items_at xs (p ∷ ps) zero d e within low = rw (one_item xs p d (within 0 0 (omega arith))) refl
   get_or-items_at xs (p ∷ ps) (suc i) d e within low =
       rw (one_item xs p d (within 0 0 (omega arith))) (get_or-items_at xs ps i d e (rest_within xs p ps within) (omega arith))
+
+  -- what holds of all items holds of those at places
+  pub All-items_at : (P : X → Type 0) (xs : List X) (ps : List ℕ) → All P xs → All (λ p. p < length xs) ps → All P (items_at xs ps)
+  All-items_at P xs ps all within k d low =
+      let inside : k < length ps = omega (arith, low, length-items_at xs ps within) in
+      subst P (sym (get_or-items_at xs ps k d 0 within inside)) (all (get_or ps k 0) d (within k 0 inside))
 
   pub items_at-every_length : (xs : List X) (s t n : ℕ) (shown : List X) → All (λ p. p < length xs) (stepped s t n)
       → items_at xs (stepped s t n) ≡ shown → n ≡ length shown

@@ -1,5 +1,5 @@
 -- Items that stand one after another, as items at places.
-use Rattle.std.proofs.Common.{◌≡◌, ◌∙◌, ℕ, zero, suc, ◌+◌, ◌-◌, ◌*◌, ◌%◌, ◌^◌, ◌<◌, ◌≤◌, List, ◌∷◌, ◌++◌, length, get_or, take, drop, map, All, refl, sym, ap, arith}
+use Rattle.std.proofs.Common.{◌≡◌, ◌∙◌, ℕ, zero, suc, ◌+◌, ◌-◌, ◌*◌, ◌%◌, ◌<◌, ◌≤◌, List, ◌∷◌, ◌++◌, length, get_or, take, drop, map, All, refl, sym, ap, arith}
 use Rattle.std.proofs.Math.Nat.{mod-eq_of_lt}
 use Rattle.std.proofs.lemmas.List.{drop_more}
 use Rattle.std.proofs.lemmas.List.Concat.{flat_map-append}
@@ -70,11 +70,11 @@ module _ {X : Type 0} where
       ∙ ap (items_at xs) (stepped-append from n m)
 
 -- the first of places a step apart, and those behind it, whose first may be reduced
-pub stepped-first : (next step len : ℕ) → 0 < len → All (λ p. p < 2 ^ 32) (stepped next step len)
-    → stepped next step len ≡ next ∷ stepped ((next + step) % 2 ^ 32) step (len - 1)
-stepped-first next step zero some within = absurd (omega arith)
-stepped-first next step (suc zero) some within = refl
-stepped-first next step (suc (suc n)) some within =
+pub stepped-first : (m next step len : ℕ) → 0 < len → All (λ p. p < m) (stepped next step len)
+    → stepped next step len ≡ next ∷ stepped ((next + step) % m) step (len - 1)
+stepped-first m next step zero some within = absurd (omega arith)
+stepped-first m next step (suc zero) some within = refl
+stepped-first m next step (suc (suc n)) some within =
     let rest : suc (suc n) - 1 ≡ suc n = omega arith in
-    let low : next + step < 2 ^ 32 = within 1 0 (omega arith) in
+    let low : next + step < m = within 1 0 (omega arith) in
     rw (rest, mod-eq_of_lt low) refl

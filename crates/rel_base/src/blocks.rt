@@ -1,15 +1,18 @@
 //! Rows behind one shared pointer.
-ghost use Rattle.std.specs.Prelude.{◌≡◌, ◌^◌, ◌<◌, length, IfOk, IfErr};
+ghost use Rattle.std.specs.Prelude.{◌≡◌, ◌^◌, ◌<◌, length, slice_index_or, IfOk, IfErr, All};
+ghost use Rattle.rel_base.specs.Picks.{items_at};
+ghost use Rattle.rel_base.specs.inner.Strides.{stepped};
 
-use crate::{Duplicate, Memory, Row};
+use crate::flat_rows::{FlatRows, RowRun};
+use crate::{Duplicate, Memory, Value};
 use std::alloc::{AllocFailed, Global};
 use std::marker::Model;
 use std::sync::Arc;
 
-/// Rows that several lists share. They are let go with the last of them.
+/// Rows of one width that several lists share. They are let go with the last of them.
 #[derive(Drop)]
 pub struct Block {
-    rows: Arc<Vec<Row>, Global>,
+    rows: Arc<FlatRows, Global>,
 }
 
 impl Model for Block {
@@ -19,35 +22,44 @@ impl Model for Block {
 
     ghost Value = { List (List Datum) };
 
-    ghost view = { λ b. (arc_value b.rows).items };
+    ghost view = { λ b. arc_value b.rows };
 
-    ghost invariant = { λ b. length (arc_value b.rows).items < 2 ^ 32 };
+    ghost invariant = { λ b. length (arc_value b.rows) < 2 ^ 32 };
 }
 
 impl Block {
     /// These rows, shared from now on. No row is copied; after a refusal they come back.
-    pub fn of(alloc: Global, rows: Vec<Row>) -> Result<Block, AllocFailed<Vec<Row>>>
-        requires { length rows.items < 2 ^ 32 }
-        ensures ok { IfOk result (λ made. made ≡ rows.items) }
+    pub fn of(alloc: Global, rows: FlatRows) -> Result<Block, AllocFailed<FlatRows>>
+        ensures ok { IfOk result (λ made. made ≡ rows) }
         ensures err { IfErr result (λ refused. refused.value ≡ rows) }
     {
+        let _few = rows.len();
         let rows = Arc::new(alloc, rows)?;
         Ok(Block { rows })
     }
 
     /// The number of rows.
     pub fn len(&self) -> u32
-        ensures { result ≡ length self.now }
-    {
-        self.rows.len() as u32
-    }
-
-    /// The rows, in order.
-    pub fn as_slice(&self) -> &[Row]
-        ensures value { result.now ≡ self.now }
+        ensures value { result ≡ length self.now }
         ensures bound { length self.now < 2 ^ 32 }
     {
-        self.rows.as_slice()
+        self.rows.len()
+    }
+
+    /// Row number `i`, from 0.
+    pub fn get(&self, i: u32) -> &[Value]
+        requires { i < length self.now }
+        ensures { result.now ≡ slice_index_or self.now i result.now }
+    {
+        self.rows.get(i)
+    }
+
+    /// So many rows from number `start` on, each `step` behind the one before it.
+    pub fn run(&self, start: u32, step: u32, len: u32) -> RowRun<'_>
+        requires { All (λ i. i < length self.now) (stepped start step len) }
+        ensures { result ≡ items_at self.now (stepped start step len) }
+    {
+        self.rows.run(start, step, len)
     }
 }
 

@@ -5,7 +5,7 @@
 //! Promises: values and rows are ordered by `value_order` and `row_order`; a copy equals its original; a relation's
 //! rows always have its columns' types. A list is seen by contracts as the list of its items, and `Steps` as the number
 //! of steps that were counted in its ledger. Lists of rows share blocks of rows: what copies, views, sorts and puts
-//! together copies no row that is shared.
+//! together copies no row that is shared. Rows of a block stand value after value, and a row is lent as a slice of its values.
 //! Not promised: that memory is there. `Memory` is the one error of this crate, and no clause says when it comes; what
 //! the faults of a run mean is said where scripts are run.
 //!
@@ -19,11 +19,13 @@ mod copying;
 mod counting;
 mod failure;
 mod faults;
+mod flat_rows;
 mod limits;
 mod list;
 mod names;
 mod relations;
 mod row_iter;
+mod row_sources;
 mod row_values;
 mod rows;
 mod shared_rows;
@@ -50,6 +52,7 @@ pub use list::{Items, Places};
 pub use names::{Files, Key, Keys, Stored};
 pub use relations::{Column, Parts, Relation, Schema, Spread, sorted_permutation_is_unique};
 pub use row_iter::RowIter;
+pub use row_sources::RowSource;
 pub use rows::Rows;
 pub use sort_keys::sort_key;
 pub use texts::Text;

@@ -100,6 +100,31 @@ impl Values {
         }
     }
 
+    /// Moves all values to the end of a list, so that none is left. Memory of their own is kept.
+    /// After `Memory` all is as it was.
+    #[inline(always)]
+    pub fn move_to(&mut self, into: &mut Vec<Value>) -> Result<(), Memory>
+        requires { HasPlaces self.old }
+        ensures ok { OnOk result (into.new.items ≡ into.old.items ++ values_in self.old) }
+        ensures none { OnOk result (values_in self.new ≡ []) }
+        ensures err { OnErr result (into.new.items ≡ into.old.items) }
+        ensures kept { OnErr result (values_in self.new ≡ values_in self.old) }
+        ensures places { HasPlaces self.new }
+    {
+        let len = self.as_slice().len();
+        match self {
+            Values::Few { values, .. } => {
+                move_few(&mut values[..len], into)?;
+                *self = Values::new();
+                Ok(())
+            }
+            Values::Many(values) => {
+                into.append(values)?;
+                Ok(())
+            }
+        }
+    }
+
     /// Puts a value into one of the row's own places, and gives what stood there. A row that has none gives it back.
     #[inline(always)]
     fn replace(&mut self, place: u8, value: Value) -> Value
@@ -127,4 +152,19 @@ fn with_one_more(alloc: Global, own: &mut [Value; 3], value: Value) -> Result<Ve
     many.push_reserved(mem::take(&mut own[2]));
     many.push_reserved(value);
     Ok(many)
+}
+
+/// Moves values to the end of a list. After `Memory` the list is as it was.
+#[inline(always)]
+fn move_few(values: &mut [Value], into: &mut Vec<Value>) -> Result<(), Memory>
+    ensures ok { OnOk result (into.new.items ≡ into.old.items ++ values.old) }
+    ensures err { OnErr result (into.new.items ≡ into.old.items) }
+    ensures kept { OnErr result (values.new ≡ values.old) }
+    ensures as_many { length values.new ≡ length values.old }
+{
+    into.reserve(values.len())?;
+    for value in values {
+        into.push_reserved(mem::take(value));
+    }
+    Ok(())
 }

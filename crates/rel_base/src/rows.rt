@@ -1,5 +1,5 @@
 //! Rows that are shared, not copied.
-ghost use Rattle.std.specs.Prelude.{◌≡◌, ◌+◌, ◌-◌, ◌^◌, ◌<◌, ◌≤◌, ◌==◌, ◌↔◌, [], ◌∷◌, ◌++◌, length, take, map, IsSome, IfOk, IfSome, OnOk, OnErr, All, slice_index_or, slice_range};
+ghost use Rattle.std.specs.Prelude.{◌≡◌, ◌+◌, ◌-◌, ◌^◌, ◌<◌, ◌≤◌, ◌==◌, ◌↔◌, [], ◌∷◌, ◌++◌, length, take, map, IsSome, IfOk, IfErr, IfSome, OnOk, OnErr, All, slice_index_or, slice_range};
 ghost use Rattle.std.specs.Option.{option_to_list};
 ghost use Rattle.rel_base.specs.Bags.{IsSortedPermutation};
 ghost use Rattle.rel_base.specs.Beginnings.{BeginsWith};
@@ -8,12 +8,12 @@ ghost use Rattle.rel_base.specs.inner.Strides.{stepped};
 
 use crate::beginnings::led_row;
 use crate::blocks::Block;
-use crate::list::copies_of;
+use crate::flat_rows::FlatRows;
 use crate::row_iter::RowIter;
 use crate::shared_rows::{SharedRows, run_length};
 use crate::stretches::Stretch;
-use crate::strides::{copies_apart, start_behind};
-use crate::{Duplicate, Memory, Row};
+use crate::strides::start_behind;
+use crate::{Duplicate, Memory, Row, RowSource, Value};
 use std::alloc::Global;
 use std::cmp::Ordering;
 use std::marker::Model;
@@ -22,11 +22,12 @@ use std::{fmt, mem};
 /// Rows, in the order in which they stand; the same row may stand more than once. Contracts see the list of the rows.
 ///
 /// A list shares most of its rows with others: behind the rows of shared blocks stand rows of its own, as they were pushed.
-/// What copies, views and puts together copies no row that is shared; `freeze` shares the list's own rows by a move.
+/// What copies, views and puts together copies no row that is shared; `freeze` shares the list's own rows by a move. Rows of
+/// one width stand value after value, and each is lent as a slice of values.
 #[derive(Drop)]
 pub struct Rows {
     shared: SharedRows,
-    own: Vec<Row>,
+    own: FlatRows,
 }
 
 impl Model for Rows {
@@ -35,9 +36,9 @@ impl Model for Rows {
 
     ghost Value = { List (List Datum) };
 
-    ghost view = { λ r. r.shared ++ r.own.items };
+    ghost view = { λ r. r.shared ++ r.own };
 
-    ghost invariant = { λ r. length (r.shared ++ r.own.items) < 2 ^ 32 };
+    ghost invariant = { λ r. length (r.shared ++ r.own) < 2 ^ 32 };
 }
 
 impl Rows {
@@ -50,15 +51,15 @@ impl Rows {
     {
         Rows {
             shared: SharedRows::new(alloc),
-            own: Vec::new(alloc),
+            own: FlatRows::new(alloc),
         }
     }
 
-    /// No rows, with room for so many.
-    pub fn with_capacity(alloc: Global, room: u32) -> Result<Rows, Memory>
+    /// No rows, with room for so many of so many values.
+    pub fn with_capacity(alloc: Global, room: u32, width: u32) -> Result<Rows, Memory>
         ensures { IfOk result (λ made. made ≡ []) }
     {
-        let own = Vec::with_capacity(alloc, room as usize)?;
+        let own = FlatRows::with_capacity(alloc, room, width)?;
         Ok(Rows {
             shared: SharedRows::new(alloc),
             own,
@@ -79,7 +80,7 @@ impl Rows {
     pub fn len(&self) -> u32
         ensures { result ≡ length self.now }
     {
-        self.shared.len() + self.own.len() as u32
+        self.shared.len() + self.own.len()
     }
 
     /// Whether there is no row.
@@ -90,13 +91,13 @@ impl Rows {
     }
 
     /// Row number `i`, from 0. To go over all rows take `iter`, which searches none.
-    pub fn get(&self, i: u32) -> &Row
+    pub fn get(&self, i: u32) -> &[Value]
         requires { i < length self.now }
         ensures { result.now ≡ slice_index_or self.now i result.now }
     {
         let shared = self.shared.len();
         if i >= shared {
-            return &self.own[(i - shared) as usize];
+            return self.own.get(i - shared);
         }
         self.shared.get(i)
     }
@@ -106,7 +107,7 @@ impl Rows {
         ensures value { result ≡ self.now }
         ensures bound { length self.now < 2 ^ 32 }
     {
-        RowIter::of(self.shared.as_slice(), self.own.as_slice())
+        RowIter::of(self.shared.as_slice(), self.own.all())
     }
 
     /// Adds a row at the end. After `Memory` the list is as it was, and the row is let go.
@@ -116,35 +117,70 @@ impl Rows {
         ensures ok { OnOk result (self.new ≡ self.old ++ row ∷ []) }
         ensures err { OnErr result (self.new ≡ self.old) }
     {
-        self.own.push(row)?;
-        Ok(())
+        let mut row = row;
+        self.push_from(&mut row)
     }
 
-    /// Puts the rows in ascending order. No value is copied: rows of the list's own change their places, and of shared rows
-    /// their order is kept. After `Memory` the list is as it was.
+    /// Moves the values of a row to the end, as a row, so that none is left there; memory that it
+    /// has is kept for the next one. After `Memory` all is as it was.
+    #[inline(always)]
+    pub fn push_from(&mut self, row: &mut Row) -> Result<(), Memory>
+        requires { length self.old < 2 ^ 32 - 1 }
+        ensures ok { OnOk result (self.new ≡ self.old ++ row.old ∷ []) }
+        ensures none { OnOk result (row.new ≡ []) }
+        ensures err { OnErr result (self.new ≡ self.old) }
+        ensures kept { OnErr result (row.new ≡ row.old) }
+    {
+        if !self.own.takes(row.len()) {
+            share(row.alloc(), &mut self.shared, &mut self.own)?;
+        }
+        self.own.push(row)
+    }
+
+    /// Adds the row that a source makes at the end, where it is to stand. After a fault the list is
+    /// as it was.
+    #[inline(always)]
+    pub fn push_made<S: RowSource>(&mut self, alloc: Global, source: &S) -> Result<(), S::Fault>
+        requires { length self.old < 2 ^ 32 - 1 }
+        ensures ok { OnOk result (self.new ≡ self.old ++ S.values source.now ∷ []) }
+        ensures made { OnOk result (S.is_made source.now) }
+        ensures err { OnErr result (self.new ≡ self.old) }
+        ensures fault { IfErr result (λ fault. S.is_fault source.now fault) }
+    {
+        if !self.own.takes(source.width()) {
+            let shared = share(alloc, &mut self.shared, &mut self.own);
+            if shared.is_err() {
+                return Err(source.refused());
+            }
+        }
+        self.own.push_made(source)
+    }
+
+    /// Puts the rows in ascending order. No value is copied or moved: the rows are shared, and their
+    /// order is kept. After `Memory` the list is as it was.
     pub fn sort(&mut self, alloc: Global) -> Result<(), Memory>
         ensures ok { OnOk result (IsSortedPermutation self.old self.new) }
         ensures err { OnErr result (self.new ≡ self.old) }
     {
-        if self.shared.len() == 0 {
-            self.own.sort_unstable();
-            return Ok(());
-        }
+        self.freeze(alloc)?;
         *self = sorted_view(alloc, self)?;
         Ok(())
     }
 
-    /// Takes the last row; `None` where the list is empty. Where the last row is shared, its stretch is copied first.
-    /// After `Memory` the list is as it was.
+    /// Takes the last row, of which it makes a copy; `None` where the list is empty. The rows before
+    /// it are shared from then on. After `Memory` the list is as it was.
     pub fn pop(&mut self, alloc: Global) -> Result<Option<Row>, Memory>
         ensures items { IfOk result (λ last. self.old ≡ self.new ++ option_to_list last) }
         ensures some { IfOk result (λ last. IsSome last ↔ (0 < length self.old)) }
         ensures err { OnErr result (self.new ≡ self.old) }
     {
-        if self.own.is_empty() {
-            self.own = self.shared.take_last(alloc)?;
-        }
-        Ok(self.own.pop())
+        let Some(last) = self.len().checked_sub(1) else {
+            return Ok(None);
+        };
+        let row = Row::from_slice(alloc, self.get(last))?;
+        self.freeze(alloc)?;
+        *self = self.slice(alloc, 0, last)?;
+        Ok(Some(row))
     }
 
     /// Makes all rows shared: none is copied. After `Memory` too the list is as it was.
@@ -173,7 +209,7 @@ impl Rows {
         }
         Ok(Rows {
             shared: picked,
-            own: Vec::new(alloc),
+            own: FlatRows::new(alloc),
         })
     }
 
@@ -193,7 +229,7 @@ impl Rows {
         }
         Ok(Rows {
             shared: picked,
-            own: Vec::new(alloc),
+            own: FlatRows::new(alloc),
         })
     }
 
@@ -205,7 +241,7 @@ impl Rows {
     {
         let mut shared = self.shared.every_nth(alloc, step, start)?;
         let next = start_behind(self.shared.len(), step, start);
-        let mut own = copies_apart(alloc, self.own.as_slice(), step, next)?;
+        let mut own = self.own.copies_apart(alloc, step, next)?;
         share(alloc, &mut shared, &mut own)?;
         Ok(Rows { shared, own })
     }
@@ -214,7 +250,7 @@ impl Rows {
     fn only_stretch(&self) -> Option<&Stretch>
         ensures { IfSome result (λ stretch. stretch.now ≡ self.now) }
     {
-        if !self.own.is_empty() {
+        if self.own.len() > 0 {
             return None;
         }
         match self.shared.as_slice() {
@@ -237,8 +273,8 @@ impl Rows {
             let run = self.shared.run_at(alloc, places)?;
             return Ok(run);
         }
-        let count = run_length(places, first, self.own.len() as u32);
-        let copies = copies_at(alloc, self.own.as_slice(), first, &places[..count])?;
+        let count = run_length(places, first, self.own.len());
+        let copies = self.own.copies_at(alloc, first, &places[..count])?;
         let block = Block::of(alloc, copies)?;
         Ok(Stretch::whole(block))
     }
@@ -256,8 +292,7 @@ impl Rows {
             let run = self.shared.run_between(alloc, from, to)?;
             return Ok(run);
         }
-        let own = &self.own[(from - first) as usize..(to - first) as usize];
-        let copies = copies_of(alloc, own)?;
+        let copies = self.own.copies_between(alloc, from - first, to - first)?;
         let block = Block::of(alloc, copies)?;
         Ok(Stretch::whole(block))
     }
@@ -280,13 +315,13 @@ impl Rows {
 impl Duplicate for Rows {
     fn copy(&self, alloc: Global) -> Result<Rows, Memory> {
         let shared = self.shared.copy(alloc)?;
-        let own = copies_of(alloc, self.own.as_slice())?;
+        let own = self.own.copies_between(alloc, 0, self.own.len())?;
         Ok(Rows { shared, own })
     }
 }
 
 impl<'a> IntoIterator for &'a Rows {
-    type Item = &'a Row;
+    type Item = &'a [Value];
 
     type IntoIter = RowIter<'a>;
 
@@ -309,7 +344,7 @@ fn sorted_view(alloc: Global, rows: &Rows) -> Result<Rows, Memory>
 }
 
 /// A row behind what it begins with, and its number. Most of them compare without a look at the row.
-type NumberedRow<'a> = (u8, i64, &'a Row, u32);
+type NumberedRow<'a> = (u8, i64, &'a [Value], u32);
 
 /// Each row, with what it begins with and its number.
 fn numbered_rows(alloc: Global, rows: &Rows) -> Result<Vec<NumberedRow<'_>>, Memory>
@@ -327,7 +362,7 @@ fn numbered_rows(alloc: Global, rows: &Rows) -> Result<Vec<NumberedRow<'_>>, Mem
 }
 
 /// A row with its number, behind what it begins with.
-fn numbered_row(row: &Row, number: u32) -> NumberedRow<'_>
+fn numbered_row(row: &[Value], number: u32) -> NumberedRow<'_>
     ensures leading { BeginsWith row.now result.0 result.1 }
     ensures row { result.2.now ≡ row.now }
     ensures number { result.3 ≡ number }
@@ -348,12 +383,12 @@ fn numbers_of(alloc: Global, numbered: &[NumberedRow<'_>]) -> Result<Vec<u32>, M
 }
 
 /// Shares the own rows, behind the others. After `Memory` all is as it was.
-fn share(alloc: Global, shared: &mut SharedRows, own: &mut Vec<Row>) -> Result<(), Memory>
-    requires { length shared.old + length own.old.items < 2 ^ 32 }
-    ensures ok { OnOk result ((shared.new ≡ shared.old ++ own.old.items) × (own.new.items ≡ [])) }
-    ensures err { OnErr result ((shared.new ≡ shared.old) × (own.new.items ≡ own.old.items)) }
+fn share(alloc: Global, shared: &mut SharedRows, own: &mut FlatRows) -> Result<(), Memory>
+    requires { length shared.old + length own.old < 2 ^ 32 }
+    ensures ok { OnOk result ((shared.new ≡ shared.old ++ own.old) × (own.new ≡ [])) }
+    ensures err { OnErr result ((shared.new ≡ shared.old) × (own.new ≡ own.old)) }
 {
-    let rows = mem::replace(own, Vec::new(alloc));
+    let rows = mem::replace(own, FlatRows::new(alloc));
     match shared.push_rows(alloc, rows) {
         Ok(()) => Ok(()),
         Err(rows) => {
@@ -361,20 +396,6 @@ fn share(alloc: Global, shared: &mut SharedRows, own: &mut Vec<Row>) -> Result<(
             Err(Memory)
         }
     }
-}
-
-/// Copies of the rows with these numbers, where the first row has the number `first`.
-fn copies_at(alloc: Global, rows: &[Row], first: u32, numbers: &[u32]) -> Result<Vec<Row>, Memory>
-    requires low { All (λ n. first ≤ n) numbers.now }
-    requires high { All (λ n. n < first + length rows.now) numbers.now }
-    ensures { IfOk result (λ made. made.items ≡ items_at rows.now (map (λ n. n - first) numbers.now)) }
-{
-    let mut copies = Vec::with_capacity(alloc, numbers.len())?;
-    for number in numbers {
-        let copy = rows[(*number - first) as usize].copy(alloc)?;
-        copies.push(copy)?;
-    }
-    Ok(copies)
 }
 
 impl Rows {
@@ -389,7 +410,7 @@ impl Rows {
             let Some(other) = others.next() else {
                 return Ordering::Greater;
             };
-            let order = row.cmp(other);
+            let order = row.cmp(&other);
             if order.is_ne() {
                 return order;
             }

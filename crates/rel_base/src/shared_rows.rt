@@ -5,10 +5,11 @@ ghost use Rattle.rel_base.specs.inner.Starts.{AreStarts};
 ghost use Rattle.rel_base.specs.inner.Strides.{stepped};
 
 use crate::blocks::Block;
+use crate::flat_rows::FlatRows;
 use crate::list::copies_of;
 use crate::stretches::Stretch;
 use crate::strides::start_behind;
-use crate::{Duplicate, Memory, Row};
+use crate::{Duplicate, Memory, Value};
 use std::alloc::Global;
 use std::marker::Model;
 
@@ -61,7 +62,7 @@ impl SharedRows {
     }
 
     /// Row number `i`, from 0.
-    pub fn get(&self, i: u32) -> &Row
+    pub fn get(&self, i: u32) -> &[Value]
         requires { i < length self.now }
         ensures { result.now ≡ slice_index_or self.now i result.now }
     {
@@ -89,20 +90,20 @@ impl SharedRows {
     }
 
     /// Shares rows, behind the others. None is copied; after a refusal they come back and all is as it was.
-    pub fn push_rows(&mut self, alloc: Global, rows: Vec<Row>) -> Result<(), Vec<Row>>
-        requires { length self.old + length rows.items < 2 ^ 32 }
-        ensures ok { OnOk result (self.new ≡ self.old ++ rows.items) }
+    pub fn push_rows(&mut self, alloc: Global, rows: FlatRows) -> Result<(), FlatRows>
+        requires { length self.old + length rows < 2 ^ 32 }
+        ensures ok { OnOk result (self.new ≡ self.old ++ rows) }
         ensures err { OnErr result (self.new ≡ self.old) }
-        ensures back { IfErr result (λ back. back.items ≡ rows.items) }
+        ensures back { IfErr result (λ back. back ≡ rows) }
     {
-        if rows.is_empty() {
+        let more = rows.len();
+        if more == 0 {
             return Ok(());
         }
         self.starts.truncate(self.stretches.len());
         if self.starts.push(self.len).is_err() || self.stretches.reserve(1).is_err() {
             return Err(rows);
         }
-        let more = rows.len() as u32;
         match Block::of(alloc, rows) {
             Ok(block) => {
                 if self.stretches.push(Stretch::whole(block)).is_err() {
@@ -188,17 +189,6 @@ impl SharedRows {
         }
         Ok(picked)
     }
-
-    /// Takes the rows of the last stretch, each copied. After `Memory` all is as it was.
-    pub fn take_last(&mut self, alloc: Global) -> Result<Vec<Row>, Memory>
-        ensures ok { IfOk result (λ rows. self.old ≡ self.new ++ rows.items) }
-        ensures some { IfOk result (λ rows. 0 < length self.old → 0 < length rows.items) }
-        ensures err { OnErr result (self.new ≡ self.old) }
-    {
-        let rows = take_last_of(alloc, &mut self.stretches)?;
-        self.len -= rows.len() as u32;
-        Ok(rows)
-    }
 }
 
 /// The same rows: none is copied.
@@ -245,22 +235,6 @@ fn push_later(starts: &mut Vec<u32>, more: &[u32], by: u32) -> Result<(), Memory
         starts.push(by + *start)?;
     }
     Ok(())
-}
-
-/// Takes the rows of the last stretch, each copied. After `Memory` all is as it was.
-fn take_last_of(alloc: Global, stretches: &mut Vec<Stretch>) -> Result<Vec<Row>, Memory>
-    ensures ok { IfOk result (λ rows. joined stretches.old.items ≡ joined stretches.new.items ++ rows.items) }
-    ensures some { All (λ rows. 0 < length rows) stretches.old.items
-        → IfOk result (λ rows. 0 < length (joined stretches.old.items) → 0 < length rows.items) }
-    ensures rest { IfOk result (λ rows. stretches.new.items ≡ take (length stretches.old.items - 1) stretches.old.items) }
-    ensures err { OnErr result (stretches.new.items ≡ stretches.old.items) }
-{
-    let Some(last) = stretches.last() else {
-        return Ok(Vec::new(alloc));
-    };
-    let rows = last.copied_rows(alloc)?;
-    drop(stretches.pop());
-    Ok(rows)
 }
 
 /// How many places at the front are among so many from a start on.

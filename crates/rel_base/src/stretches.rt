@@ -1,12 +1,13 @@
 //! Rows of one shared block, by their places in it.
-ghost use Rattle.std.specs.Prelude.{◌≡◌, ◌+◌, ◌-◌, ◌*◌, ◌^◌, ◌<◌, ◌≤◌, length, map, IfOk, IfSome, All, slice_index_or};
+ghost use Rattle.std.specs.Prelude.{◌≡◌, ◌+◌, ◌-◌, ◌*◌, ◌^◌, ◌<◌, ◌≤◌, length, map, IfOk, All, slice_index_or};
 ghost use Rattle.rel_base.specs.Picks.{items_at, every_nth};
+ghost use Rattle.rel_base.specs.inner.RowsLeft.{rows_left};
 ghost use Rattle.rel_base.specs.inner.Strides.{stepped};
 
 use crate::blocks::Block;
-use crate::row_iter::{PlaceIter, StretchIter};
+use crate::row_iter::{PlacedRows, StretchIter};
 use crate::strides::{copies_apart, steps_below};
-use crate::{Duplicate, Memory, Row};
+use crate::{Duplicate, Memory, Value};
 use std::alloc::Global;
 use std::marker::Model;
 
@@ -66,14 +67,14 @@ impl Stretch {
     }
 
     /// Row number `i`, from 0.
-    pub fn get(&self, i: u32) -> &Row
+    pub fn get(&self, i: u32) -> &[Value]
         requires { i < length self.now }
         ensures { result.now ≡ slice_index_or self.now i result.now }
     {
-        let rows = self.block.as_slice();
+        let _few = self.block.len();
         match &self.selection {
-            Selection::Every { start, step, .. } => &rows[(*start + *step * i) as usize],
-            Selection::At { places } => &rows[places[i as usize] as usize],
+            Selection::Every { start, step, .. } => self.block.get(*start + *step * i),
+            Selection::At { places } => self.block.get(places[i as usize]),
         }
     }
 
@@ -114,46 +115,19 @@ impl Stretch {
         Ok(Stretch { block, selection })
     }
 
-    /// A copy of each row.
-    pub fn copied_rows(&self, alloc: Global) -> Result<Vec<Row>, Memory>
-        ensures { IfOk result (λ made. made.items ≡ self.now) }
-    {
-        let mut copies = Vec::with_capacity(alloc, self.len() as usize)?;
-        for row in self.iter() {
-            let copy = row.copy(alloc)?;
-            copies.push(copy)?;
-        }
-        Ok(copies)
-    }
-
-    /// All rows, in order, where they stand side by side in their block.
-    pub fn run(&self) -> Option<&[Row]>
-        ensures { IfSome result (λ rows. rows.now ≡ self.now) }
-    {
-        match &self.selection {
-            Selection::Every { start, step, len } if *step == 1 => {
-                let start = *start as usize;
-                self.block.as_slice().get(start..start + *len as usize)
-            }
-            _ => None,
-        }
-    }
-
     /// The rows, one by one.
     pub fn iter(&self) -> StretchIter<'_>
-        ensures { result ≡ self.now }
+        ensures { rows_left result ≡ self.now }
     {
-        let places = match &self.selection {
-            Selection::Every { start, step, len } => PlaceIter::Every {
-                next: *start,
-                step: *step,
-                len: *len,
-            },
-            Selection::At { places } => PlaceIter::At {
-                places: places.as_slice(),
-            },
-        };
-        StretchIter::of(self.block.as_slice(), places)
+        match &self.selection {
+            Selection::Every { start, step, len } => {
+                StretchIter::Apart(self.block.run(*start, *step, *len))
+            }
+            Selection::At { places } => StretchIter::At(PlacedRows::of(
+                &self.block,
+                places.as_slice(),
+            )),
+        }
     }
 }
 

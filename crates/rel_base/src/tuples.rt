@@ -1,4 +1,4 @@
-//! Rows: lists of values that keep up to three values inline.
+//! Rows as they are made: lists of values that keep up to three values inline.
 ghost use Rattle.std.specs.Prelude.{◌≡◌, ℕ, ◌+◌, ◌-◌, ◌^◌, ◌<◌, ◌≤◌, ◌↔◌, ◌==◌, [], ◌∷◌, ◌++◌, length, IsSome, IfOk, OnOk, OnErr, slice_index_or};
 ghost use Rattle.std.specs.Option.{option_to_list};
 
@@ -10,9 +10,11 @@ use std::fmt;
 use std::marker::Model;
 use std::mem::size_of;
 
-/// A row of a relation: a list of at most 4,294,967,295 values, ordered column by column as std compares lists.
+/// A row as it is made, before it goes into a list: at most 4,294,967,295 values, ordered column by
+/// column as std compares lists.
 ///
-/// Up to three values stand in the row itself, so that such a row has 56 bytes and takes no memory of its own.
+/// Up to three values stand in the row itself, so that such a row has 56 bytes and takes no memory of
+/// its own. In a list a row is a slice of values.
 #[derive(Drop)]
 pub struct Row {
     values: Values,
@@ -52,6 +54,27 @@ impl Row {
     {
         let values = Values::with_capacity(alloc, room)?;
         Ok(Row { values, alloc })
+    }
+
+    /// A row of copies of these values. It answers `Memory` too where they are more than a row may
+    /// have.
+    pub fn from_slice(alloc: Global, values: &[Value]) -> Result<Row, Memory>
+        ensures { IfOk result (λ made. made ≡ values.now) }
+    {
+        let Ok(room) = u32::try_from(values.len()) else {
+            return Err(Memory);
+        };
+        let mut row = Row::with_capacity(alloc, room)?;
+        for value in values {
+            let copy = value.copy(alloc)?;
+            row.push(copy)?;
+        }
+        Ok(row)
+    }
+
+    /// What gives the row its memory.
+    pub(crate) fn alloc(&self) -> Global {
+        self.alloc
     }
 
     /// The number of values.
@@ -94,6 +117,18 @@ impl Row {
         self.values.push(self.alloc, value)
     }
 
+    /// Moves all values to the end of a list, so that none is left. After `Memory` all is as it
+    /// was.
+    #[inline(always)]
+    pub(crate) fn move_to(&mut self, into: &mut Vec<Value>) -> Result<(), Memory>
+        ensures ok { OnOk result (into.new.items ≡ into.old.items ++ self.old) }
+        ensures none { OnOk result (self.new ≡ []) }
+        ensures err { OnErr result (into.new.items ≡ into.old.items) }
+        ensures kept { OnErr result (self.new ≡ self.old) }
+    {
+        self.values.move_to(into)
+    }
+
     /// Takes the last value; `None` where the row is empty.
     pub fn pop(&mut self) -> Option<Value>
         ensures items { self.old ≡ self.new ++ option_to_list result }
@@ -105,12 +140,7 @@ impl Row {
 
 impl Duplicate for Row {
     fn copy(&self, alloc: Global) -> Result<Row, Memory> {
-        let mut row = Row::with_capacity(alloc, self.len())?;
-        for value in self.as_slice() {
-            let copy = value.copy(alloc)?;
-            row.push(copy)?;
-        }
-        Ok(row)
+        Row::from_slice(alloc, self.as_slice())
     }
 }
 

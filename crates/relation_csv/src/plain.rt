@@ -3,7 +3,7 @@
 //! Where a file has no quote and no carriage return its records are its lines, and their fields lie between commas. There a
 //! value is made of the file's own bytes, and no record is copied first. A call here answers `None` where it can't tell: at
 //! a quote or a carriage return, at bytes that are not UTF-8, and at every fault, which the reader of records then finds.
-ghost use Rattle.std.specs.Prelude.{◌≡◌, ◌<◌, ◌≤◌, false, true, IfOk, IfSome, Ok, Some, drop, length, take};
+ghost use Rattle.std.specs.Prelude.{◌≡◌, ◌<◌, ◌≤◌, [], false, true, IfOk, IfSome, Ok, Some, drop, length, take};
 ghost use Rattle.std.specs.List.{list_any};
 ghost use Rattle.rel_base.specs.Limits.{most_rows};
 ghost use Rattle.csv.specs.Reading.{is_bom, strip_bom};
@@ -137,6 +137,7 @@ pub(crate) fn rows_of_lines(
         rows_of_records schema.now (records_after state.StartRecord text.now) ≡ Ok rows)) }
 {
     let mut rows = Rows::new(alloc);
+    let mut row = Row::with_capacity(alloc, schema.len())?;
     let mut left = text;
     'rows: loop {
         let Some(line) = line_of(left) else {
@@ -149,7 +150,7 @@ pub(crate) fn rows_of_lines(
         if rows.len() >= MOST_ROWS {
             return Ok(None);
         }
-        let Some(rest) = push_row_of(alloc, schema, line, &mut rows)? else {
+        let Some(rest) = push_row_of(alloc, schema, line, &mut row, &mut rows)? else {
             return Ok(None);
         };
         left = rest;
@@ -178,21 +179,22 @@ fn line_of(text: &str) -> Option<&str>
 }
 
 /// Adds the row of the record with which a text begins, the next one behind these rows, and gives what stands behind the
-/// record.
+/// record. The row is made in one that is empty before and behind.
 #[inline(always)]
 fn push_row_of<'a>(
     alloc: Global,
     schema: &Schema,
     line: &'a str,
+    row: &mut Row,
     rows: &mut Rows,
 ) -> Result<Option<&'a str>, Memory>
-    requires { length rows.old < most_rows }
-    ensures { IfOk result (λ found. IfSome found (λ rest.
+    requires empty { row.old ≡ [] }
+    requires few { length rows.old < most_rows }
+    ensures row { IfOk result (λ found. IfSome found (λ rest.
         AddsRow schema.now line.now rows.old rows.new rest.now)) }
+    ensures empty { IfOk result (λ found. IfSome found (λ _. row.new ≡ [])) }
 {
     let nth = rows.len() + 1;
-    let width = schema.len();
-    let mut row = Row::with_capacity(alloc, width)?;
     let mut left = line;
     let mut more = true;
     for column in schema.as_slice() {
@@ -210,7 +212,7 @@ fn push_row_of<'a>(
     if more {
         return Ok(None);
     }
-    rows.push(row)?;
+    rows.push_from(row)?;
     Ok(Some(left))
 }
 

@@ -8,7 +8,7 @@ ghost use Rattle.csv.specs.Writing.{default_writer, field_text, needs_quotes, ro
 ghost use Rattle.relation_csv.specs.RecordTexts.{Extends, header_field, header_record, row_record, type_name, value_field};
 
 use itoa::Buffer;
-use rel_base::{ColType, Column, Memory, Row, Schema, Value};
+use rel_base::{ColType, Column, Memory, Schema, Value};
 use std::alloc::Global;
 
 /// Appends the record of a header, ended by a line feed. After `Memory` the bytes are as they were.
@@ -20,11 +20,11 @@ pub fn header_text(schema: &Schema, into: &mut Vec<u8>) -> Result<(), Memory>
 }
 
 /// Appends the record of a row, ended by a line feed. After `Memory` the bytes are as they were.
-pub fn row_text(row: &Row, into: &mut Vec<u8>) -> Result<(), Memory>
+pub fn row_text(row: &[Value], into: &mut Vec<u8>) -> Result<(), Memory>
     ensures ok { OnOk result (into.new.items ≡ into.old.items ++ row_record row.now) }
     ensures err { OnErr result (into.new.items ≡ into.old.items) }
 {
-    append_record(row.as_slice(), into)
+    append_record(row, into)
 }
 
 /// What is written as one field of a record.

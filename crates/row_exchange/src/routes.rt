@@ -3,7 +3,7 @@ ghost use Rattle.std.specs.Prelude.{◌≡◌, ℕ, List, [], ◌∷◌, IfSome}
 ghost use Rattle.rel_base.specs.declared.values.Value.{Value as Datum};
 
 use arrayvec::ArrayVec;
-use rel_base::{Items, Row, Spread};
+use rel_base::{Items, Spread, Value};
 
 /// The rows of some atoms: for each atom a list of rows for each worker, at which they lie.
 pub type Spreads = Items<Spread>;
@@ -31,7 +31,7 @@ pub trait Route {
     ghost cells: { Self → ℕ → List Datum → List ℕ };
 
     /// The cells that a row of an atom goes to, put into a list that is empty.
-    fn cells(&self, atom: u32, row: &Row, into: &mut Cells)
+    fn cells(&self, atom: u32, row: &[Value], into: &mut Cells)
         requires accepted { accepts self.now atom row.now }
         requires empty { into.old.items ≡ [] }
         ensures { into.new.items ≡ cells self.now atom row.now };

@@ -74,7 +74,7 @@ impl LocalJoin for Refusing {
 /// Whether one of these rows begins with the number 3.
 fn has_three(rows: &Rows) -> bool {
     for row in rows {
-        if let [Value::Int(3), ..] = row.as_slice() {
+        if let [Value::Int(3), ..] = row {
             return true;
         }
     }

@@ -30,8 +30,8 @@ fn three_parts(alloc: Global) -> Result<Spread, Memory> {
 }
 
 /// The number of a row.
-fn number_of(row: &Row) -> Option<i64> {
-    match row.as_slice().last()? {
+fn number_of(row: &[Value]) -> Option<i64> {
+    match row.last()? {
         Value::Int(number) => Some(*number),
         _ => None,
     }

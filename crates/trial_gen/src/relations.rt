@@ -76,7 +76,7 @@ fn rows_of(alloc: Global, size: u32, number: u32) -> Result<Rows, Memory>
 {
     let bound = size / 8 + 1;
     let mut state = u64::from(4 * size + number);
-    let mut rows = Rows::with_capacity(alloc, size)?;
+    let mut rows = Rows::with_capacity(alloc, size, 2)?;
     for _place in 0..size {
         let row = row_behind(alloc, bound, state)?;
         rows.push(row)?;

@@ -16,11 +16,12 @@ fn values_have_their_coordinates(rt: HostRuntime) -> Result<(), Memory> {
 fn keys_have_their_homes(rt: HostRuntime) -> Result<(), Memory> {
     let mut row = Row::new(rt.alloc());
     row.push(Value::Int(3))?;
+    let row = row.as_slice();
     let mut columns = Places::new(rt.alloc());
-    assert_eq!(rt; home_of_key(0, &row, &columns, 2), 0);
+    assert_eq!(rt; home_of_key(0, row, &columns, 2), 0);
     columns.push(0)?;
-    assert_eq!(rt; key_code(&row, &columns), 4);
-    assert_eq!(rt; home_of_key(0, &row, &columns, 2), 0);
+    assert_eq!(rt; key_code(row, &columns), 4);
+    assert_eq!(rt; home_of_key(0, row, &columns, 2), 0);
     Ok(())
 }
 

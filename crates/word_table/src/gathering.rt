@@ -3,7 +3,7 @@ ghost use Rattle.std.specs.Prelude.{◌≡◌, ◌++◌, IfOk, OnOk};
 ghost use Rattle.word_table.specs.Words.{strings_of_row, strings_of_rows, strings_in};
 
 use crate::keyed::Keyed;
-use rel_base::{Memory, Parts, Row, Rows, Value};
+use rel_base::{Memory, Parts, Rows, Value};
 use std::alloc::Global;
 
 /// The strings of all parts, as often and in the order in which they stand.
@@ -31,10 +31,10 @@ fn add_strings_of_rows<'a>(strings: &mut Vec<Keyed<'a>>, rows: &'a Rows) -> Resu
 }
 
 /// Adds the strings of the row at the end.
-fn add_strings_of_row<'a>(strings: &mut Vec<Keyed<'a>>, row: &'a Row) -> Result<(), Memory>
+fn add_strings_of_row<'a>(strings: &mut Vec<Keyed<'a>>, row: &'a [Value]) -> Result<(), Memory>
     ensures { OnOk result (strings.new.items ≡ strings.old.items ++ strings_of_row row.now) }
 {
-    for value in row.as_slice() {
+    for value in row {
         if let Value::Str(text) = value {
             strings.push(Keyed::of(text.as_str()))?;
         }

@@ -7,7 +7,7 @@ ghost use Rattle.word_table.specs.inner.Unlike.{parts_in};
 
 use crate::dictionary::word_of_int;
 use crate::numbering::Numbering;
-use rel_base::{Memory, Row, Rows, Value};
+use rel_base::{Memory, Rows, Value};
 use std::alloc::Global;
 
 /// Words of values, where the word of a string is still the number of an occurrence of it.
@@ -51,14 +51,14 @@ impl<'a> Gathered<'a> {
     }
 
     /// Adds the values of the row.
-    fn add_row(&mut self, row: &'a Row) -> Result<(), Memory>
+    fn add_row(&mut self, row: &'a [Value]) -> Result<(), Memory>
         ensures { OnOk result ((done : List Datum)
             → IsGathered done
             self.old.words.items self.old.places.items self.old.strings.found.items
             → IsGathered (done ++ row.now)
             self.new.words.items self.new.places.items self.new.strings.found.items) }
     {
-        for value in row.as_slice() {
+        for value in row {
             self.add(value)?;
         }
         Ok(())

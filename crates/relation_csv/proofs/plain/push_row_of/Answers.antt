@@ -5,7 +5,7 @@ use Rattle.relation_csv.proofs.plain.push_row_of.Goals as goal
 pub loop-column-init : goal.loop-column-init
 loop-column-init c = record {
   text = c.utf8.line;
-  read = rw c.in_ok-row.ensures (HasFields-none c.args.schema.now (c.len-nth.result + 1) c.args.line.now);
+  read = rw c.requires.empty (HasFields-none c.args.schema.now (c.len-nth.result + 1) c.args.line.now);
 }
 
 pub overflow_add-len : goal.overflow_add-len
@@ -41,11 +41,11 @@ loop-column-preserved c =
           c.in-Some.value (c.len.result + 1) low at (omega arith) text begins value);
     }
 
-pub returns : goal.returns
-returns c =
+pub returns-clause-row : goal.returns-clause-row
+returns-clause-row c =
     let schema = c.args.schema.now in
     let items = ap length c.as_slice-column-items.ensures.value in
     let read = rw c.if-more.false at c.loop-column.invariant.read in
     let whole = BeginsWithRow-all schema (c.len-nth.result + 1) c.args.line.now c.loop-column.left.now c.loop-column.row
-    c.loop-column.column-index read (omega arith) (omega (arith, c.requires, c.len-nth.ensures)) in
-    (c.loop-column.row, c.in_ok-push-2.ensures.ok, rw c.len-nth.ensures at whole)
+    c.loop-column.column-index read (omega arith) (omega (arith, c.requires.few, c.len-nth.ensures)) in
+    (c.loop-column.row, c.in_ok-push_from.ensures.ok, rw c.len-nth.ensures at whole)

@@ -15,7 +15,7 @@ returns-then-is_empty c =
 pub rows-smaller : goal.rows-smaller
 rows-smaller c =
     let some : 0 < length c.in-Some.line.now = grind (arith, nat_tests) in
-    let (row, added, (fields, reads, made)) = rw c.in-Some-2.is at c.in_ok-rest.ensures in
+    let (row, added, (fields, reads, made)) = rw c.in-Some-2.is at c.in_ok-rest.ensures.row in
     let shorter = length-behind_line c.in-Some.line.now fields c.in-Some-2.rest.now some reads in
     let bound = c.in-Some.ensures.bound in
     omega arith
@@ -24,10 +24,11 @@ pub rows-preserved : goal.rows-preserved
 rows-preserved c =
     let some : 0 < length c.in-Some.line.now = grind (arith, nat_tests) in
     let nth = length c.rows.rows + 1 in
-    let (row, added, (fields, reads, made)) = rw c.in-Some-2.is at c.in_ok-rest.ensures in
+    let (row, added, (fields, reads, made)) = rw c.in-Some-2.is at c.in_ok-rest.ensures.row in
     let next = records_after-line c.in-Some.line.now fields c.in-Some-2.rest.now c.in-Some.ensures.line some reads in
     record {
       text = search rules;
+      empty = search rules;
       read = rw added (HasRows-push c.args.schema.now _ (records_after state.StartRecord c.rows.left.now)
           c.rows.rows c.rows.invariant.read fields _ row nth (c.in-Some.ensures.same ∙ next) refl (omega (arith, c.len.ensures)) made);
     }

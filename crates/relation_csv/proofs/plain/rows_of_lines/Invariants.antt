@@ -1,5 +1,5 @@
 -- the rows so far are those of the records that are no longer left
-use Rattle.std.proofs.Common.{length}
+use Rattle.std.proofs.Common.{◌≡◌, [], length}
 use denote.Shadow.{shadow}
 use denote.Text.{Utf8}
 use Rattle.csv.specs.declared.parser.State.TheVariants as state
@@ -10,6 +10,7 @@ use Rattle.relation_csv.proofs.plain.rows_of_lines.Given as goal
 abbrev pub invariant-rows : goal.invariant-rows
 invariant-rows l = record {
   text : shadow (Utf8 l.left);
+  empty : l.row ≡ [];
   read : HasRows l.schema (records_after state.StartRecord l.text) (records_after state.StartRecord l.left) l.rows;
 }
 

@@ -9,10 +9,8 @@ rest c =
     let cases = rw c.in-Some-split_first.is at c.split_first.ensures.cases in
     rest_nonempty _ _ (rw cases.0 at c.self.invariant)
 
-pub invariant_of-self-in-Some-run : goal.invariant_of-self-in-Some-run
-invariant_of-self-in-Some-run c =
-    rest (goal.at.invariant_of-self-in-Some-run c).In-Some-split_first
+pub invariant_of-self-in-Apart : goal.invariant_of-self-in-Apart
+invariant_of-self-in-Apart c = rest (goal.at.invariant_of-self-in-Apart c).In-Some-split_first
 
-pub invariant_of-self-in-Some-split_first : goal.invariant_of-self-in-Some-split_first
-invariant_of-self-in-Some-split_first c =
-    rest (goal.at.invariant_of-self-in-Some-split_first c).In-Some-split_first
+pub invariant_of-self-in-At : goal.invariant_of-self-in-At
+invariant_of-self-in-At c = rest (goal.at.invariant_of-self-in-At c).In-Some-split_first

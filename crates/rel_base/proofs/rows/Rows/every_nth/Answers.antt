@@ -5,25 +5,23 @@ use Rattle.rel_base.proofs.rows.Rows.every_nth.Goals as goal
 use Rattle.rel_base.proofs.rows.Rows.every_nth.Goals.{In_ok-own}
 
 -- what is picked of the shared rows, and behind it what is picked of the own ones
-both : (c : In_ok-own) → c.in_ok-shared.shared ++ c.in_ok-own.own.items ≡ every_nth c.args.self.now c.args.step c.args.start
+both : (c : In_ok-own) → c.in_ok-shared.shared ++ c.in_ok-own.own ≡ every_nth c.args.self.now c.args.step c.args.start
 both c =
     let step = c.args.step in
     let start = c.args.start in
     let next = c.start_behind-next.result in
     let shared = c.self.inside.shared in
-    let own = c.self.inside.own.items in
+    let own = c.self.inside.own in
     let counted : (length shared + next) % step ≡ start = rw c.len.ensures at c.start_behind-next.ensures.next in
     let apart = every_nth-append shared own step start next c.requires c.start_behind-next.ensures.low counted in
-    let copies : c.in_ok-own.own.items ≡ every_nth own step next =
-    c.in_ok-own.ensures ∙ ap (λ xs. every_nth xs step next) c.as_slice.ensures.value in
-    ap (λ xs. xs ++ c.in_ok-own.own.items) c.in_ok-shared.ensures ∙ ap (λ xs. every_nth shared step start ++ xs) copies
+    ap (λ xs. xs ++ c.in_ok-own.own) c.in_ok-shared.ensures ∙ ap (λ xs. every_nth shared step start ++ xs) c.in_ok-own.ensures
     ∙ sym apart ∙ ap (λ xs. every_nth xs step start) c.self.view_is
 
 pub share-requires : goal.share-requires
 share-requires c = omega (
   arith,
   ap length (both (goal.at.share-requires c).In_ok-own),
-  length-append c.in_ok-shared.shared c.in_ok-own.own.items,
+  length-append c.in_ok-shared.shared c.in_ok-own.own,
   length-every_nth c.args.self.now c.args.step c.args.start,
   ap length c.self.view_is,
   c.self.invariant,

@@ -1,4 +1,4 @@
-use Rattle.std.proofs.Common.{◌≡◌, ◌∙◌, ◌+◌, ◌-◌, ◌<◌, All, sym, ap, length, length-append, take, map, arith, rules}
+use Rattle.std.proofs.Common.{◌≡◌, ◌∙◌, ◌+◌, ◌<◌, All, sym, ap, length, length-append, take, arith, rules}
 use Rattle.std.proofs.lemmas.List.{length-take-le}
 use Rattle.rel_base.specs.Picks.{items_at}
 use Rattle.rel_base.proofs.PickLemmas.{length-items_at}
@@ -10,15 +10,15 @@ pub returns-then-places-first-clause-run : goal.returns-then-places-first-clause
 returns-then-places-first-clause-run c =
     let ns = take (length c.in_ok-run.run') c.args.places.now in
     c.in_ok-run.ensures.run
-    ∙ sym (items_at-front c.self.inside.shared c.self.inside.own.items ns c.in_ok-run.ensures.within)
+    ∙ sym (items_at-front c.self.inside.shared c.self.inside.own ns c.in_ok-run.ensures.within)
     ∙ ap (λ xs. items_at xs ns) c.self.view_is
 
 -- as many as were counted, at the places that were counted
-copied : (c : In_ok-copies) → (length c.in_ok-copies.copies.items ≡ c.run_length-count.result)
-    × (c.in_ok-copies.copies.items ≡ items_at c.args.self.now (take c.run_length-count.result c.args.places.now))
+copied : (c : In_ok-copies) → (length c.in_ok-copies.copies ≡ c.run_length-count.result)
+    × (c.in_ok-copies.copies ≡ items_at c.args.self.now (take c.run_length-count.result c.args.places.now))
 copied c =
     let shared = c.self.inside.shared in
-    let own = c.self.inside.own.items in
+    let own = c.self.inside.own in
     let count = c.run_length-count.result in
     let ns = take count c.args.places.now in
     let first = c.len-first.result in
@@ -26,9 +26,7 @@ copied c =
     let len : c.len.result ≡ length own = search rules in
     let high : All (λ n. n < first + length own) ns = λ k d low. omega (arith, taken.high k d low, len) in
     let back = items_at-back shared own first ns c.len-first.ensures taken.low high in
-    let copies : c.in_ok-copies.copies.items ≡ items_at own (map (λ n. n - first) ns) =
-    c.in_ok-copies.ensures ∙ ap (λ xs. items_at xs (map (λ n. n - first) ns)) c.as_slice.ensures.value in
-    let whole = copies ∙ sym back ∙ ap (λ xs. items_at xs ns) c.self.view_is in (
+    let whole = c.in_ok-copies.ensures ∙ sym back ∙ ap (λ xs. items_at xs ns) c.self.view_is in (
       ap length whole ∙ length-items_at c.args.self.now ns (λ k d low. omega (arith, high k d low, length-append shared own, ap length c.self.view_is, c.len-first.ensures)) ∙ length-take-le count c.args.places.now taken.bound,
       whole,
     )

@@ -12,13 +12,13 @@ returns-then-from-first-clause-run c =
     let run = c.in_ok-run.run' in
     let ns = stepped c.args.from 1 (length run) in
     c.in_ok-run.ensures.run
-    ∙ sym (items_at-front shared c.self.inside.own.items ns (stepped-below c.args.from (length run) (length shared) c.in_ok-run.ensures.within))
+    ∙ sym (items_at-front shared c.self.inside.own ns (stepped-below c.args.from (length run) (length shared) c.in_ok-run.ensures.within))
     ∙ ap (λ xs. items_at xs ns) c.self.view_is
 
 pub returns-clause-run : goal.returns-clause-run
 returns-clause-run c =
     let shared = c.self.inside.shared in
-    let own = c.self.inside.own.items in
+    let own = c.self.inside.own in
     let first = c.len-first.result in
     let from = c.args.from in
     let n = c.args.to - from in
@@ -27,8 +27,7 @@ returns-clause-run c =
     let low : first ≤ from = omega (arith, c.if-from-first.false) in
     let room : from + n ≤ first + length own =
     omega (arith, c.requires.within, c.requires.order, length-append shared own, sizes, c.len-first.ensures) in
-    let copies = c.in_ok-copies.ensures
-    ∙ ap (λ xs. take (c.args.to - first - (from - first)) (drop (from - first) xs)) c.deref.ensures.value in
+    let copies = c.in_ok-copies.ensures in
     let taken : take (c.args.to - first - (from - first)) (drop (from - first) own) ≡ items_at own (stepped (from - first) 1 n) =
     ap (λ m. take m (drop (from - first) own)) (omega (arith, low, c.requires.order))
     ∙ sym (items_at-range own (from - first) n (omega (arith, room, low))) in

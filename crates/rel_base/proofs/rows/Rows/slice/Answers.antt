@@ -1,4 +1,4 @@
-use Rattle.std.proofs.Common.{◌≡◌, ◌∙◌, ◌++◌, ◌+◌, ◌-◌, [], ap, append-nil, length, length-append, arith, rules}
+use Rattle.std.proofs.Common.{◌≡◌, ◌∙◌, ◌++◌, ◌+◌, ◌-◌, ap, append-nil, length, length-append, arith}
 use Rattle.rel_base.specs.Picks.{items_at}
 use Rattle.rel_base.specs.inner.Strides.{stepped}
 use Rattle.rel_base.proofs.RangeLemmas.{items_at-next, items_at-range}
@@ -29,6 +29,5 @@ returns c =
     let from = c.args.from in
     let inv = c.loop-reached.invariant in
     let n : c.loop-reached.reached - from ≡ c.args.to - from = omega (arith, inv.1, inv.2, c.loop-reached-test.false) in
-    let none : c.new.result.items ≡ [] = search rules in
-    ap (λ ys. c.loop-reached.picked ++ ys) none ∙ append-nil c.loop-reached.picked ∙ inv.0 ∙ ap (λ k. items_at self (stepped from 1 k)) n
+    ap (λ ys. c.loop-reached.picked ++ ys) c.new.ensures ∙ append-nil c.loop-reached.picked ∙ inv.0 ∙ ap (λ k. items_at self (stepped from 1 k)) n
     ∙ items_at-range self from (c.args.to - from) (omega (arith, c.requires.within, c.requires.order))
