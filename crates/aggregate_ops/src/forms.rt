@@ -193,17 +193,18 @@ pub fn added(kind: EmitKind) -> EmitKind
 }
 
 impl Form {
-    /// What is made of the rows of a group.
+    /// Adds what is made of the rows of a group. After a fault some of the values may be there.
     #[tactic(auto, using(crate::proofs::CellLemmas::cells_row))]
-    pub fn row(
+    pub fn put_row(
         self,
         alloc: Global,
         kinds: &EmitKinds,
         run: GroupedRows<'_>,
-    ) -> Result<Row, AggFault>
+        into: &mut Row,
+    ) -> Result<(), AggFault>
         requires { length (rows_of run) < 2 ^ 32 }
-        ensures row { IfOk result (λ row. row
-            ≡ formed self (map kind_of_emit kinds.now)
+        ensures row { OnOk result (into.new
+            ≡ into.old ++ formed self (map kind_of_emit kinds.now)
             (group_row (grouped_kinds self (map kind_of_emit kinds.now)) (rows_of run.entry))) }
         ensures fits { OnOk result
             (form_fits self (map kind_of_emit kinds.now)
@@ -213,20 +214,13 @@ impl Form {
             (form_fits self (map kind_of_emit kinds.now)
             (group_row (grouped_kinds self (map kind_of_emit kinds.now)) (rows_of run.entry)))) }
     {
-        let mut row = Row::new(alloc);
         match self {
-            Form::Whole => match put_cells(alloc, kinds.as_slice(), 0, run, &mut row) {
-                Ok(()) => Ok(row),
-                Err(fault) => Err(fault),
-            },
-            Form::Split => match put_partials(alloc, kinds.as_slice(), 0, run, &mut row) {
-                Ok(()) => Ok(row),
+            Form::Whole => put_cells(alloc, kinds.as_slice(), 0, run, into),
+            Form::Split => match put_partials(alloc, kinds.as_slice(), 0, run, into) {
+                Ok(()) => Ok(()),
                 Err(Memory) => Err(AggFault::Memory),
             },
-            Form::Merged => match put_merged(alloc, kinds.as_slice(), 0, run, &mut row) {
-                Ok(()) => Ok(row),
-                Err(fault) => Err(fault),
-            },
+            Form::Merged => put_merged(alloc, kinds.as_slice(), 0, run, into),
         }
     }
 }

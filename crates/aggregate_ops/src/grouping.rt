@@ -27,7 +27,7 @@ use crate::runs::{are_in_order, run_length};
 use crate::spans::{ScannedColumn, guessed_columns, scanned_columns};
 use algebra::{EmitKind, EmitKinds};
 use myrial_ast::{AggOp, Scalars};
-use rel_base::{Memory, Places, Rows};
+use rel_base::{Memory, Places, Row, Rows};
 use std::alloc::Global;
 
 /// Adds how the columns of partial rows are grouped again: counts are added, and a sum is two columns.
@@ -96,7 +96,8 @@ fn places_for(alloc: Global, form: Form, kinds: &EmitKinds) -> Result<Places, Me
     }
 }
 
-/// What is made of each run of equal keys.
+/// What is made of each run of equal keys. One row is filled again and again, and keeps its memory
+/// from run to run.
 fn rows_of_runs(
     alloc: Global,
     form: Form,
@@ -117,12 +118,13 @@ fn rows_of_runs(
         (results_fit form (map kind_of_emit kinds.now) (rows_of ordered.entry))) }
 {
     let mut made = Rows::new(alloc);
+    let mut row = Row::with_capacity(alloc, kinds.len())?;
     let mut done = 0;
     while done < ordered.len() {
         let left = ordered.behind(done);
         let count = run_length(places, left);
-        match form.row(alloc, kinds, left.front(count)) {
-            Ok(row) => made.push(row)?,
+        match form.put_row(alloc, kinds, left.front(count), &mut row) {
+            Ok(()) => made.push_from(&mut row)?,
             Err(fault) => return Err(fault),
         }
         done += count;

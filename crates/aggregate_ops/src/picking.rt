@@ -1,5 +1,5 @@
 //! The rows of the values that rows emit by picks, which are columns and literals.
-ghost use Rattle.std.specs.Prelude.{◌≡◌, ◌<◌, ◌^◌, IsTrue, IfOk, OnOk, map, length, true};
+ghost use Rattle.std.specs.Prelude.{◌≡◌, ◌<◌, ◌^◌, ◌++◌, IsTrue, IfOk, OnOk, map, length, true};
 ghost use Rattle.std.specs.List.{list_all};
 ghost use Rattle.rel_base.specs.Values.{number_of, in_64_bits};
 ghost use Rattle.myrial_ast.specs.Scalars.{exact_value, fits};
@@ -60,21 +60,21 @@ fn picked_value(alloc: Global, pick: &Scalar, values: &[Value]) -> Result<Value,
     }
 }
 
-/// What a row emits by these picks.
-fn picked_row(alloc: Global, picks: &Scalars, row: &[Value]) -> Result<Row, Memory>
+/// Adds what a row emits by these picks. After `Memory` some of the values may be there.
+fn put_picked(alloc: Global, picks: &Scalars, row: &[Value], into: &mut Row) -> Result<(), Memory>
     requires { IsTrue (are_picks (map scalar_tree_of picks.now)) }
-    ensures row { IfOk result (λ made. made ≡ emitted (map scalar_tree_of picks.now) row.now) }
+    ensures row { OnOk result (into.new
+        ≡ into.old ++ emitted (map scalar_tree_of picks.now) row.now) }
     ensures fits { OnOk result (all_fit (map scalar_tree_of picks.now) row.now ≡ true) }
 {
-    let mut made = Row::with_capacity(alloc, picks.len())?;
     for pick in picks.as_slice() {
         let value = picked_value(alloc, pick, row)?;
-        put(&mut made, value)?;
+        put(into, value)?;
     }
-    Ok(made)
+    Ok(())
 }
 
-/// What each row emits by these picks, in order.
+/// What each row emits by these picks, in order. One row is filled again and again.
 pub fn picked_rows(alloc: Global, picks: &Scalars, rows: &Rows) -> Result<Rows, Memory>
     requires { IsTrue (are_picks (map scalar_tree_of picks.now)) }
     ensures rows { IfOk result (λ made. made
@@ -82,9 +82,10 @@ pub fn picked_rows(alloc: Global, picks: &Scalars, rows: &Rows) -> Result<Rows, 
     ensures fits { OnOk result (list_all (all_fit (map scalar_tree_of picks.now)) rows.now ≡ true) }
 {
     let mut made = Rows::with_capacity(alloc, rows.len(), picks.len())?;
+    let mut picked = Row::with_capacity(alloc, picks.len())?;
     for row in rows {
-        let row = picked_row(alloc, picks, row)?;
-        made.push(row)?;
+        put_picked(alloc, picks, row, &mut picked)?;
+        made.push_from(&mut picked)?;
     }
     Ok(made)
 }

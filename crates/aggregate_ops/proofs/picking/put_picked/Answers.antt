@@ -3,7 +3,7 @@ use Rattle.myrial_ast.specs.declared.scalars.Scalar as code
 use Rattle.myrial_ast.specs.ScalarTrees.{scalar_tree_of}
 use Rattle.aggregate_ops.specs.Picks.{are_picks}
 use Rattle.aggregate_ops.proofs.EmitLemmas.{pick-at}
-use Rattle.aggregate_ops.proofs.picking.picked_row.Goals as goal
+use Rattle.aggregate_ops.proofs.picking.put_picked.Goals as goal
 
 pub picked_value-requires : goal.picked_value-requires
 picked_value-requires c =
