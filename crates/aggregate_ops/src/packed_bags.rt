@@ -8,7 +8,7 @@ ghost use Rattle.aggregate_ops.specs.inner.Runs.{IsRun, IsBelow, begins};
 
 use crate::emits::Emits;
 use crate::packed_columns::PackedColumn;
-use crate::packing::{packed_columns, words_of};
+use crate::packing::{in_order, packed_columns, words_of};
 use crate::spans::{ScannedColumn, guessed_columns, scanned_columns};
 use rel_base::{MOST_COLUMNS, Memory, RowSource, Rows, Value};
 use std::alloc::Global;
@@ -200,14 +200,14 @@ fn difference_by(
     if columns.len() > MOST_COLUMNS as usize {
         return Ok(None);
     }
-    let Some(mut words) = words_of(alloc, Emits::Whole, a, &columns)? else {
+    let Some(words) = words_of(alloc, Emits::Whole, a, &columns)? else {
         return Ok(None);
     };
-    let Some(mut others) = words_of(alloc, Emits::Whole, b, &columns)? else {
+    let Some(others) = words_of(alloc, Emits::Whole, b, &columns)? else {
         return Ok(None);
     };
-    words.sort_unstable();
-    others.sort_unstable();
+    let words = in_order(words, &columns);
+    let others = in_order(others, &columns);
     if !are_in_order(&columns, &words) || !are_in_order(&columns, &others) {
         return Ok(None);
     }

@@ -2,7 +2,7 @@
 //! that the words in order are mostly the rows in the order of their keys.
 //!
 //! How columns are chosen decides about speed alone: a word is taken only where it gives the values of its row back.
-ghost use Rattle.std.specs.Prelude.{◌≡◌, ◌<◌, ◌^◌, IsTrue, IfOk, OnOk, IfSome, IsPermutation, map, length};
+ghost use Rattle.std.specs.Prelude.{◌≡◌, ◌<◌, ◌≤◌, ◌^◌, IsTrue, IfOk, OnOk, IfSome, IsPermutation, map, length};
 ghost use Rattle.aggregate_ops.specs.inner.Emitted.{emitted_by, all_emitted};
 ghost use Rattle.aggregate_ops.specs.inner.Reading.{unpacked_row};
 
@@ -103,44 +103,31 @@ fn gives_back(word: u64, columns: &[PackedColumn], emits: Emits<'_>, values: &[V
     true
 }
 
-/// Whether a word has these values in the columns.
-fn has_values(word: u64, columns: &[PackedColumn], values: &[Value]) -> bool
-    ensures { IsTrue result → unpacked_row columns.now word ≡ values.now }
-{
-    let [column, columns @ ..] = columns else {
-        return values.is_empty();
-    };
-    let [value, values @ ..] = values else {
-        return false;
-    };
-    column.holds(word, value) && has_values(word, columns, values)
-}
-
 /// The word of these values, where it gives them back.
 #[inline(always)]
 fn word_of_values(columns: &[PackedColumn], values: &[Value]) -> Option<u64>
     ensures { IfSome result (λ word. unpacked_row columns.now word ≡ values.now) }
 {
+    if values.len() != columns.len() {
+        return None;
+    }
     let mut word = 0;
-    for (column, value) in columns.iter().zip(values) {
-        word |= column.bits_of(value);
+    for place in 0..columns.len() {
+        word |= columns[place].bits_of(&values[place]);
     }
-    if has_values(word, columns, values) {
-        Some(word)
-    } else {
-        None
+    for place in 0..columns.len() {
+        if !columns[place].holds(word, &values[place]) {
+            return None;
+        }
     }
+    Some(word)
 }
 
 /// The word of what a row emits, where it gives that back.
-#[inline(always)]
 fn word_of(columns: &[PackedColumn], emits: Emits<'_>, values: &[Value]) -> Option<u64>
     ensures { IfSome result (λ word. unpacked_row columns.now word
         ≡ emitted_by emits.entry values.now) }
 {
-    if matches!(emits, Emits::Whole) {
-        return word_of_values(columns, values);
-    }
     let mut word = 0;
     for (place, column) in columns.iter().enumerate() {
         if let Some(value) = emits.value(values, place) {
@@ -154,8 +141,49 @@ fn word_of(columns: &[PackedColumn], emits: Emits<'_>, values: &[Value]) -> Opti
     }
 }
 
+/// The words of whole rows, where each gives its row back.
+///
+/// Inlined, so that there is code of its own for each number of columns that its caller knows.
+#[inline(always)]
+fn words_of_rows(
+    alloc: Global,
+    rows: &Rows,
+    columns: &[PackedColumn],
+) -> Result<Option<Vec<u64>>, Memory>
+    ensures words { IfOk result (λ found. IfSome found (λ words. map
+        (unpacked_row columns.now) words.items ≡ rows.now)) }
+    ensures few { OnOk result (length rows.now < 2 ^ 32) }
+{
+    let mut words = Vec::with_capacity(alloc, rows.len() as usize)?;
+    for row in rows {
+        match word_of_values(columns, row) {
+            Some(word) => words.push(word)?,
+            None => return Ok(None),
+        }
+    }
+    Ok(Some(words))
+}
+
+/// The words of whole rows, where each gives its row back.
+fn words_of_whole(
+    alloc: Global,
+    rows: &Rows,
+    columns: &[PackedColumn],
+) -> Result<Option<Vec<u64>>, Memory>
+    ensures words { IfOk result (λ found. IfSome found (λ words. map
+        (unpacked_row columns.now) words.items ≡ rows.now)) }
+    ensures few { OnOk result (length rows.now < 2 ^ 32) }
+{
+    match columns {
+        [a] => words_of_rows(alloc, rows, &[*a]),
+        [a, b] => words_of_rows(alloc, rows, &[*a, *b]),
+        [a, b, c] => words_of_rows(alloc, rows, &[*a, *b, *c]),
+        _ => words_of_rows(alloc, rows, columns),
+    }
+}
+
 /// The words of what the rows emit, where each gives that back.
-pub fn words_of(
+fn words_of_picks(
     alloc: Global,
     emits: Emits<'_>,
     rows: &Rows,
@@ -175,6 +203,86 @@ pub fn words_of(
     Ok(Some(words))
 }
 
+/// The words of what the rows emit, where each gives that back.
+pub fn words_of(
+    alloc: Global,
+    emits: Emits<'_>,
+    rows: &Rows,
+    columns: &[PackedColumn],
+) -> Result<Option<Vec<u64>>, Memory>
+    ensures words { IfOk result (λ found. IfSome found (λ words. map
+        (unpacked_row columns.now) words.items ≡ all_emitted emits.entry rows.now)) }
+    ensures few { OnOk result (length rows.now < 2 ^ 32) }
+{
+    match emits {
+        Emits::Whole => words_of_whole(alloc, rows, columns),
+        Emits::Picked(_) => words_of_picks(alloc, emits, rows, columns),
+    }
+}
+
+/// How many words at the front agree in the digits from number `shift` on.
+fn group_length(words: &[u64], shift: u32) -> usize
+    requires some { 0 < length words.now }
+    requires shift { shift < 64 }
+    ensures some { 0 < result }
+    ensures bound { result ≤ length words.now }
+{
+    let group = words[0] >> shift;
+    let mut count = 1;
+    while count < words.len() && words[count] >> shift == group {
+        count += 1;
+    }
+    count
+}
+
+/// Sorts words whose digits from number `shift` on ascend already, each group with the same ones by itself.
+fn sort_groups(words: &mut [u64], shift: u32)
+    requires { shift < 64 }
+    ensures { IsPermutation words.old words.new }
+{
+    let mut done = 0;
+    while done < words.len() {
+        let end = done + group_length(&words[done..], shift);
+        words[done..end].sort_unstable();
+        done = end;
+    }
+}
+
+/// Puts words in ascending order. Where those of lesser digits from number `shift` on stand first already, as where a join lists
+/// its rows variable by variable, the words that agree in these digits are sorted by themselves.
+fn sort_words(words: &mut [u64], shift: u32)
+    requires { shift < 64 }
+    ensures { IsPermutation words.old words.new }
+{
+    if words.is_sorted_by_key(|word| *word >> shift) {
+        sort_groups(words, shift);
+    } else {
+        words.sort_unstable();
+    }
+}
+
+/// Where the digits of the first column begin that is told by some.
+fn first_shift(columns: &[PackedColumn]) -> u32
+    ensures { result < 64 }
+{
+    let mut shift = 0;
+    for column in columns {
+        if column.mask > 0 && column.shift > shift {
+            shift = column.shift;
+        }
+    }
+    shift
+}
+
+/// These words in ascending order, by which the order of their first column serves where it is there already.
+pub fn in_order(mut words: Vec<u64>, columns: &[PackedColumn]) -> Vec<u64>
+    ensures same { IsPermutation words.items result.items }
+    ensures len { length result.items ≡ length words.items }
+{
+    sort_words(&mut words, first_shift(columns));
+    words
+}
+
 /// The words of what the rows emit, in ascending order, where each gives that back.
 pub fn sorted_words(
     alloc: Global,
@@ -187,10 +295,7 @@ pub fn sorted_words(
     ensures few { OnOk result (length rows.now < 2 ^ 32) }
 {
     match words_of(alloc, emits, rows, columns)? {
-        Some(mut words) => {
-            words.sort_unstable();
-            Ok(Some(words))
-        }
+        Some(words) => Ok(Some(in_order(words, columns))),
         None => Ok(None),
     }
 }

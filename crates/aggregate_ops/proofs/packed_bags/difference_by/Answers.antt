@@ -13,15 +13,15 @@ use Rattle.aggregate_ops.proofs.packed_bags.difference_by.Goals as goal
 pub returns : goal.returns
 returns c =
     let row = unpacked_row c.in_ok-columns.columns.items in
-    let words = c.sort_unstable.new.self.items in
-    let others = c.sort_unstable-2.new.self.items in
+    let words = c.in_order-words.result.items in
+    let others = c.in_order-others.result.items in
     let first : map row c.in-Some.words.items ≡ all_emitted Whole c.args.a.now = rw (c.in-Some.is, c.deref.ensures.value) at c.in_ok-words.ensures.words in
     let second : map row c.in-Some-2.others.items ≡ all_emitted Whole c.args.b.now =
     rw (c.in-Some-2.is, c.deref-2.ensures.value) at c.in_ok-others.ensures.words in
     let one : SameBag c.args.a.now (map row words) =
-    subst (λ (rows : Rows). SameBag rows (map row words)) (first ∙ whole-rows c.args.a.now) (IsPermutation-map row _ _ c.sort_unstable.ensures.permutation) in
+    subst (λ (rows : Rows). SameBag rows (map row words)) (first ∙ whole-rows c.args.a.now) (IsPermutation-map row _ _ c.in_order-words.ensures.same) in
     let two : SameBag c.args.b.now (map row others) =
-    subst (λ (rows : Rows). SameBag rows (map row others)) (second ∙ whole-rows c.args.b.now) (IsPermutation-map row _ _ c.sort_unstable-2.ensures.permutation) in
+    subst (λ (rows : Rows). SameBag rows (map row others)) (second ∙ whole-rows c.args.b.now) (IsPermutation-map row _ _ c.in_order-others.ensures.same) in
     let made : c.in_ok-made.made ≡ difference (map row words) (map row others) =
-    c.in_ok-made.ensures ∙ (λ i. difference (map (unpacked_row (c.deref-5.ensures.value i)) (c.deref-6.ensures.value i)) (map (unpacked_row (c.deref-5.ensures.value i)) (c.deref-7.ensures.value i))) in
+    c.in_ok-made.ensures ∙ (λ i. difference (map (unpacked_row (c.deref-7.ensures.value i)) (c.deref-8.ensures.value i)) (map (unpacked_row (c.deref-7.ensures.value i)) (c.deref-9.ensures.value i))) in
     rw made (difference-same c.args.a.now (map row words) c.args.b.now (map row others) one two)

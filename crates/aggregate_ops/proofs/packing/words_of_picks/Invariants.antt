@@ -1,7 +1,7 @@
 use Rattle.std.proofs.Common.{◌≡◌, ◌++◌, map}
 use Rattle.aggregate_ops.specs.inner.Emitted.{all_emitted}
 use Rattle.aggregate_ops.specs.inner.Reading.{unpacked_row}
-use Rattle.aggregate_ops.proofs.packing.words_of.Given as goal
+use Rattle.aggregate_ops.proofs.packing.words_of_picks.Given as goal
 
 abbrev pub invariant-loop-row : goal.invariant-loop-row
 invariant-loop-row l =

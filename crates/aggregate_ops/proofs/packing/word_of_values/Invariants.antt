@@ -1,0 +1,7 @@
+-- the values so far are those of the word
+use Rattle.std.proofs.Common.{◌≡◌, take}
+use Rattle.aggregate_ops.specs.inner.Reading.{unpacked_row}
+use Rattle.aggregate_ops.proofs.packing.word_of_values.Given as goal
+
+abbrev pub invariant-loop-place-2 : goal.invariant-loop-place-2
+invariant-loop-place-2 l = unpacked_row (take l.place l.columns) l.word ≡ take l.place l.values
