@@ -30,7 +30,8 @@ use myrial_ast::{AggOp, Scalars};
 use rel_base::{Memory, Places, Row, Rows};
 use std::alloc::Global;
 
-/// Adds how the columns of partial rows are grouped again: counts are added, and a sum is two columns.
+/// Adds how the columns of partial rows are grouped again: counts are added, and a sum is two
+/// columns.
 fn put_kinds(kinds: &[EmitKind], into: &mut Vec<EmitKind>) -> Result<(), Memory>
     ensures { OnOk result (map kind_of_emit into.new.items
         ≡ map kind_of_emit into.old.items ++ partial_kinds (map kind_of_emit kinds.now)) }
@@ -251,10 +252,11 @@ pub fn grouped_picks(
     grouped_rows(alloc, form, &listed, kinds, places, &scanned)
 }
 
-/// A row for each group of the rows, in the order of their keys: what rows are grouped by, and the aggregates of the rest.
+/// A row for each group of the rows, in the order of their keys: what rows are grouped by, and the
+/// aggregates of the rest.
 ///
-/// No group is left out, and rows fall together where their keys are equal, whatever their codes are. A sum may leave 64 bits on
-/// the way.
+/// No group is left out, and rows fall together where their keys are equal, whatever their codes
+/// are. A sum may leave 64 bits on the way.
 pub fn group(alloc: Global, rows: &Rows, kinds: &EmitKinds) -> Result<Rows, AggFault>
     requires { AreGrouped (map kind_of_emit kinds.now) rows.now }
     ensures bag { IfOk result (λ made. SameBag

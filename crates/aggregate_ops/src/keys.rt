@@ -259,7 +259,8 @@ fn without_words<'a>(
     Ok(rows)
 }
 
-/// The rows in the order of the bits of their values at these places, which mostly is that of the values.
+/// The rows in the order of the bits of their values at these places, which mostly is that of the
+/// values.
 fn rows_by_word<'a>(
     alloc: Global,
     rows: &'a Rows,
@@ -276,7 +277,8 @@ fn rows_by_word<'a>(
 
 /// The rows in the order of their values at these places. None is copied.
 ///
-/// Where the values fit these columns, of which there is one for each place, words are sorted in the place of rows.
+/// Where the values fit these columns, of which there is one for each place, words are sorted in
+/// the place of rows.
 pub fn rows_by_key<'a>(
     alloc: Global,
     rows: &'a Rows,

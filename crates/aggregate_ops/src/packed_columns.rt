@@ -33,7 +33,8 @@ impl PackedColumn {
         }
     }
 
-    /// The column of values up to so far from the least one, in the highest of so many bits that are left.
+    /// The column of values up to so far from the least one, in the highest of so many bits that
+    /// are left.
     pub fn below(left: u32, farthest: u64, least: i64, is_truth: bool) -> Option<PackedColumn> {
         let bits = 64 - farthest.leading_zeros();
         if bits > left || left > 64 || bits > 63 {

@@ -1,7 +1,9 @@
-//! Rows packed in words, where the ranges of their columns allow it: what rows are grouped by stands in the highest bits, so
-//! that the words in order are mostly the rows in the order of their keys.
+//! Rows packed in words, where the ranges of their columns allow it: what rows are grouped by
+//! stands in the highest bits, so that the words in order are mostly the rows in the order of
+//! their keys.
 //!
-//! How columns are chosen decides about speed alone: a word is taken only where it gives the values of its row back.
+//! How columns are chosen decides about speed alone: a word is taken only where it gives the
+//! values of its row back.
 ghost use Rattle.std.specs.Prelude.{◌≡◌, ◌<◌, ◌≤◌, ◌^◌, IsTrue, IfOk, OnOk, IfSome, IsPermutation, map, length};
 ghost use Rattle.aggregate_ops.specs.inner.Emitted.{emitted_by, all_emitted};
 ghost use Rattle.aggregate_ops.specs.inner.Reading.{unpacked_row};
@@ -38,8 +40,8 @@ fn keys_first(alloc: Global, keys: &[u32], width: usize) -> Result<Vec<usize>, M
     Ok(places)
 }
 
-/// These columns in a word, those of the keys first; none where one has other values than ints and booleans, or they take more
-/// bits.
+/// These columns in a word, those of the keys first; none where one has other values than ints and
+/// booleans, or they take more bits.
 pub fn packed_columns(
     alloc: Global,
     scanned: &[ScannedColumn],
@@ -65,8 +67,8 @@ pub fn packed_columns(
     Ok(columns)
 }
 
-/// The columns of the keys alone in a word, one for each; none where one has other values than ints and booleans, or they take
-/// more bits.
+/// The columns of the keys alone in a word, one for each; none where one has other values than
+/// ints and booleans, or they take more bits.
 pub fn key_columns(
     alloc: Global,
     scanned: &[ScannedColumn],
@@ -235,7 +237,8 @@ fn group_length(words: &[u64], shift: u32) -> usize
     count
 }
 
-/// Sorts words whose digits from number `shift` on ascend already, each group with the same ones by itself.
+/// Sorts words whose digits from number `shift` on ascend already, each group with the same ones
+/// by itself.
 fn sort_groups(words: &mut [u64], shift: u32)
     requires { shift < 64 }
     ensures { IsPermutation words.old words.new }
@@ -248,8 +251,9 @@ fn sort_groups(words: &mut [u64], shift: u32)
     }
 }
 
-/// Puts words in ascending order. Where those of lesser digits from number `shift` on stand first already, as where a join lists
-/// its rows variable by variable, the words that agree in these digits are sorted by themselves.
+/// Puts words in ascending order. Where those of lesser digits from number `shift` on stand first
+/// already, as where a join lists its rows variable by variable, the words that agree in these
+/// digits are sorted by themselves.
 fn sort_words(words: &mut [u64], shift: u32)
     requires { shift < 64 }
     ensures { IsPermutation words.old words.new }
@@ -274,7 +278,8 @@ fn first_shift(columns: &[PackedColumn]) -> u32
     shift
 }
 
-/// These words in ascending order, by which the order of their first column serves where it is there already.
+/// These words in ascending order, by which the order of their first column serves where it is
+/// there already.
 pub fn in_order(mut words: Vec<u64>, columns: &[PackedColumn]) -> Vec<u64>
     ensures same { IsPermutation words.items result.items }
     ensures len { length result.items ≡ length words.items }

@@ -1,4 +1,5 @@
-//! Partial rows: what is formed of the rows of a part, and what the partial rows of all parts come to.
+//! Partial rows: what is formed of the rows of a part, and what the partial rows of all parts come
+//! to.
 ghost use Rattle.std.specs.Prelude.{◌≡◌, map, length, OnOk, IfOk, IfErr, IsTrue, true};
 ghost use Rattle.std.specs.List.{list_all};
 ghost use Rattle.rel_base.specs.Bags.{SameBag};
@@ -20,8 +21,8 @@ use myrial_ast::Scalars;
 use rel_base::{Memory, Places, Rows};
 use std::alloc::Global;
 
-/// A partial row for each group of the rows, in the order of their keys. Each sum stands in two columns, of which the first
-/// counts times 2 ^ 62, so that it always lies in 64 bits.
+/// A partial row for each group of the rows, in the order of their keys. Each sum stands in two
+/// columns, of which the first counts times 2 ^ 62, so that it always lies in 64 bits.
 pub fn partial(alloc: Global, rows: &Rows, kinds: &EmitKinds) -> Result<Rows, Memory>
     requires { AreGrouped (map kind_of_emit kinds.now) rows.now }
     ensures { IfOk result (λ made. SameBag
@@ -56,8 +57,8 @@ pub fn partial_of_picks(
     }
 }
 
-/// A row for each group of partial rows, in the order of their keys. Of the partial rows of some lists it is the groups of the
-/// lists put together.
+/// A row for each group of partial rows, in the order of their keys. Of the partial rows of some
+/// lists it is the groups of the lists put together.
 pub fn merge(alloc: Global, partials: &Rows, kinds: &EmitKinds) -> Result<Rows, AggFault>
     requires { AreGrouped (partial_kinds (map kind_of_emit kinds.now)) partials.now }
     ensures bag { IfOk result (λ made. SameBag
@@ -69,7 +70,8 @@ pub fn merge(alloc: Global, partials: &Rows, kinds: &EmitKinds) -> Result<Rows, 
     grouped(alloc, Form::Merged, partials, kinds)
 }
 
-/// The places in a partial row of what rows are grouped by. There is no memory where a place is no `u32`.
+/// The places in a partial row of what rows are grouped by. There is no memory where a place is no
+/// `u32`.
 pub fn partial_keys(alloc: Global, kinds: &EmitKinds) -> Result<Places, Memory>
     ensures { IfOk result (λ places. places ≡ partial_keys (map kind_of_emit kinds.now)) }
 {

@@ -38,7 +38,8 @@ impl Span {
         };
     }
 
-    /// The column of these values in the highest of so many bits that are left, where they take no more.
+    /// The column of these values in the highest of so many bits that are left, where they take no
+    /// more.
     pub fn column(self, left: u32) -> Option<PackedColumn> {
         match self {
             Span::Nothing => Some(PackedColumn::none()),
@@ -83,7 +84,8 @@ impl Span {
 pub struct ScannedColumn {
     /// What its values are.
     pub span: Span,
-    /// The place of a column that has the same value in each row; where none before it is known to, its own.
+    /// The place of a column that has the same value in each row; where none before it is known
+    /// to, its own.
     pub twin: usize,
 }
 

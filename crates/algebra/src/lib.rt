@@ -1,17 +1,20 @@
 //! The algebra: what a script comes to once its names are resolved, and what running it is said in.
 //!
-//! A join has a shape: atoms with tests of their own, variables, tests over the combined row, and what is emitted. A term is
-//! what a statement computes of its sources, a step is a numbered term, and a checked script is its steps and its stores. Beside
-//! them stand the settings of a run, the notes of plans and of traffic, and what a local join is asked and answers.
+//! A join has a shape: atoms with tests of their own, variables, tests over the combined row, and
+//! what is emitted. A term is what a statement computes of its sources, a step is a numbered term,
+//! and a checked script is its steps and its stores. Beside them stand the settings of a run, the
+//! notes of plans and of traffic, and what a local join is asked and answers.
 //!
-//! Stands on `rel_base` for values and relations and `myrial_ast` for scalars, candidates, groups and their faults. Nothing here
-//! reads, waits or runs a term.
+//! Stands on `rel_base` for values and relations and `myrial_ast` for scalars, candidates, groups
+//! and their faults. Nothing here reads, waits or runs a term.
 //!
-//! Promises: a `JoinShape` is well formed and `Settings` are within their limits, whoever holds them; a copy equals its
-//! original. What shapes, terms, steps and checked scripts mean, and the fault of a run, is defined in `specs/`, and every crate
-//! that joins, groups, plans or runs is proved against it. Not promised: that memory is there.
+//! Promises: a `JoinShape` is well formed and `Settings` are within their limits, whoever holds
+//! them; a copy equals its original. What shapes, terms, steps and checked scripts mean, and the
+//! fault of a run, is defined in `specs/`, and every crate that joins, groups, plans or runs is
+//! proved against it. Not promised: that memory is there.
 //!
-//! Read `specs/Trees.antt`, `specs/Shapes.antt` and `specs/Meanings.antt`, then `shapes.rt` and `terms.rt`.
+//! Read `specs/Trees.antt`, `specs/Shapes.antt` and `specs/Meanings.antt`, then `shapes.rt` and
+//! `terms.rt`.
 #![tactic(auto)]
 
 mod conditions;

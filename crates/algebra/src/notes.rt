@@ -31,20 +31,23 @@ pub enum PlanNote {
         kind: PlanKind,
         rows: u64,
     },
-    /// An item: its number from 1, the rows of its operand, the conditions on it alone, and the rows that these keep.
+    /// An item: its number from 1, the rows of its operand, the conditions on it alone, and the
+    /// rows that these keep.
     Item {
         number: u32,
         rows: u64,
         pushed: u32,
         kept: u64,
     },
-    /// A join variable: its number from 1, its columns, and where cells are used the parts that it is spread over.
+    /// A join variable: its number from 1, its columns, and where cells are used the parts that it
+    /// is spread over.
     Variable {
         number: u32,
         places: ItemPlaces,
         share: Option<u32>,
     },
-    /// A join of all items at once, by cells: how a worker joins, the number of cells, and the load as a fraction.
+    /// A join of all items at once, by cells: how a worker joins, the number of cells, and the
+    /// load as a fraction.
     Hc {
         local: JoinKind,
         cells: u32,

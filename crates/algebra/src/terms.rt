@@ -33,7 +33,8 @@ pub enum Term {
     Distinct(Source),
     /// The rows that a join of these sources lists, one source for each atom.
     Join(JoinShape, Sources),
-    /// The groups of the rows that a join lists, where each column is a key or the argument of an aggregate.
+    /// The groups of the rows that a join lists, where each column is a key or the argument of an
+    /// aggregate.
     Group(JoinShape, Sources, EmitKinds),
 }
 

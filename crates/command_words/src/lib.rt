@@ -1,11 +1,12 @@
-//! The words of the command line as what they ask for: a mode, the settings of a run, what is printed beside the stored
-//! relations, the size of a trial, and the script.
+//! The words of the command line as what they ask for: a mode, the settings of a run, what is
+//! printed beside the stored relations, the size of a trial, and the script.
 //!
-//! Stands on `clap`, which reads the words, `algebra` for the settings and `rel_base` for texts and limits. Reads nothing else and
-//! waits for nobody.
+//! Stands on `clap`, which reads the words, `algebra` for the settings and `rel_base` for texts
+//! and limits. Reads nothing else and waits for nobody.
 //!
-//! Promises: a request is what the words say, and words are refused exactly where clap's own definition refuses them, or where a
-//! choice or a number is outside its list or its limits, whatever the mode. Not promised: that memory is there.
+//! Promises: a request is what the words say, and words are refused exactly where clap's own
+//! definition refuses them, or where a choice or a number is outside its list or its limits,
+//! whatever the mode. Not promised: that memory is there.
 //!
 //! Read `specs/Commands.antt` and `specs/Requests.antt`, then `requests.rt`.
 #![tactic(auto)]

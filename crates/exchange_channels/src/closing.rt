@@ -1,4 +1,5 @@
-//! The closing of a wiring: all ends come back to the keeper, and what was taken is known to be what was sent.
+//! The closing of a wiring: all ends come back to the keeper, and what was taken is known to be
+//! what was sent.
 ghost use Rattle.std.specs.Prelude.{◌≡◌, ◌≤◌, true, [], length, map, All};
 ghost use Rattle.exchange_channels.specs.Wirings.{AreOutletEnds, AreIntakeEnds, AreNumbered};
 ghost use Rattle.exchange_channels.specs.Wirings.{IsAtItsCell, IsDelivered, HasEachEnd, receipt_of};
@@ -12,9 +13,11 @@ use crate::{Ends, IntakeEnd, IntakeEnds, OutletEnds};
 use rel_base::Items;
 use std::marker::Model;
 
-/// What went through a wiring: for each cell and each sender, the batches that the sender sent there.
+/// What went through a wiring: for each cell and each sender, the batches that the sender sent
+/// there.
 ///
-/// It holds the passes of the channels, which know them, no rows and no channel. Only `close` makes one.
+/// It holds the passes of the channels, which know them, no rows and no channel. Only `close`
+/// makes one.
 #[derive(Drop)]
 pub struct Receipt {
     capacity: u32,
@@ -38,8 +41,8 @@ impl Model for Receipt {
     } };
 }
 
-/// Takes back all ends of a wiring. What each cell took of each sender is then known to be what the sender sent there,
-/// in its order. It takes no memory.
+/// Takes back all ends of a wiring. What each cell took of each sender is then known to be what
+/// the sender sent there, in its order. It takes no memory.
 pub fn close(keep: Keep, outs: OutletEnds, ins: IntakeEnds) -> Receipt
     requires outs { AreOutletEnds keep outs.items }
     requires ins { AreIntakeEnds keep ins.items }

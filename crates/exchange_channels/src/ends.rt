@@ -7,8 +7,8 @@ use rel_base::Memory;
 use std::alloc::Global;
 use std::marker::Model;
 
-/// At most 4,294,967,295 ends, in order, and room for further ones. Contracts see the ends, and how many more there is
-/// room for.
+/// At most 4,294,967,295 ends, in order, and room for further ones. Contracts see the ends, and
+/// how many more there is room for.
 #[derive(Drop)]
 pub struct Ends<X> {
     pub(crate) items: Vec<X>,

@@ -14,8 +14,8 @@ use std::marker::Model;
 use std::mem;
 use std::sync::Wait;
 
-/// The intake of one cell. Contracts see the cell's channel, the number of senders, the number of the cell, and what was
-/// taken, which is nothing so far.
+/// The intake of one cell. Contracts see the cell's channel, the number of senders, the number of
+/// the cell, and what was taken, which is nothing so far.
 #[derive(Drop)]
 pub struct Intake {
     pub(crate) number: u32,
@@ -56,8 +56,9 @@ impl Model for IntakeEnd {
 }
 
 impl Intake {
-    /// Takes until the end mark of every sender came, and tells the tap the rows of each batch, before it keeps the batch.
-    /// It waits while nothing is there. After `Memory` it goes on taking, lets the batches go and still tells the tap.
+    /// Takes until the end mark of every sender came, and tells the tap the rows of each batch,
+    /// before it keeps the batch. It waits while nothing is there. After `Memory` it goes on
+    /// taking, lets the batches go and still tells the tap.
     pub fn drain<T: Tap, R: Wait>(
         self,
         rt: &R,

@@ -1,4 +1,5 @@
-//! Laws: the inbox of a channel is the machine of `shuffle_core`, step by step; and what a cell took, as a whole.
+//! Laws: the inbox of a channel is the machine of `shuffle_core`, step by step; and what a cell
+//! took, as a whole.
 ghost use Rattle.std.specs.Prelude.{◌≡◌, ℕ, List};
 ghost use Rattle.shuffle_core.specs.Inbox.{InboxState};
 ghost use Rattle.exchange_channels.specs.declared.messages.Message.{Message as Sent};

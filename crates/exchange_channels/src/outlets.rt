@@ -9,8 +9,8 @@ use crate::{Batch, Message};
 use std::marker::Model;
 use std::sync::Wait;
 
-/// The outlet of one sender to every cell of its wiring. Contracts see its wiring, the number of its sender, and for each
-/// cell what it sent there.
+/// The outlet of one sender to every cell of its wiring. Contracts see its wiring, the number of
+/// its sender, and for each cell what it sent there.
 #[derive(Drop)]
 pub struct Outlet {
     pub(crate) number: u32,
@@ -73,7 +73,8 @@ impl Outlet {
         self.ports[cell as usize].send(rt, message);
     }
 
-    /// Sends the end mark to every cell. It takes no memory, and waits while a cell's inbox is full.
+    /// Sends the end mark to every cell. It takes no memory, and waits while a cell's inbox is
+    /// full.
     pub fn end<R: Wait>(self, rt: &R) -> OutletEnd
         ensures { result ≡ with_ends self }
     {

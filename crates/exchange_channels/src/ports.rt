@@ -143,7 +143,8 @@ impl Model for KeepPort {
 }
 
 impl KeepPort {
-    /// The channel of a cell in which so many messages may wait: its keeper, without senders so far, and its receiver.
+    /// The channel of a cell in which so many messages may wait: its keeper, without senders so
+    /// far, and its receiver.
     pub fn new(alloc: Global, capacity: u32) -> Result<(KeepPort, TakePort), Memory>
         requires { 1 ≤ capacity }
         ensures keeper { IfOk result (λ ports. ports.0.knows ≡ keeper_view capacity) }
@@ -209,7 +210,8 @@ impl KeepPort {
     }
 }
 
-/// The pass of a keeper whose channel was let go. It takes no byte, and contracts see what it knows.
+/// The pass of a keeper whose channel was let go. It takes no byte, and contracts see what it
+/// knows.
 #[derive(Drop)]
 pub struct KeepPass {
     _pass: Pass<Message, View>,

@@ -28,7 +28,8 @@ pub struct View {
     pub returned: LinkedList<LinkedList<Message>>,
 }
 
-/// The rule of a cell's channel: what waits in it, and what its passes know, are those of one inbox.
+/// The rule of a cell's channel: what waits in it, and what its passes know, are those of one
+/// inbox.
 pub struct OneInbox;
 
 impl Protocol<Message, View> for OneInbox {

@@ -17,8 +17,8 @@ pub type Outlets = Items<Outlet>;
 /// Intakes, in the order of their cells.
 pub type Intakes = Items<Intake>;
 
-/// What takes the ends of a wiring back. Contracts see it as the wiring: the channels of its cells, its number of senders
-/// and its capacity.
+/// What takes the ends of a wiring back. Contracts see it as the wiring: the channels of its
+/// cells, its number of senders and its capacity.
 #[derive(Drop)]
 pub struct Keep {
     pub(crate) senders: u32,
@@ -43,7 +43,8 @@ impl Model for Keep {
         × IsRoomFor k.cells.items k.passes };
 }
 
-/// A wiring: an outlet for each sender, an intake for each cell, and the keeper that takes their ends back.
+/// A wiring: an outlet for each sender, an intake for each cell, and the keeper that takes their
+/// ends back.
 #[derive(Drop)]
 pub struct Wiring {
     /// The outlet of each sender, in order.
@@ -54,7 +55,8 @@ pub struct Wiring {
     pub keep: Keep,
 }
 
-/// A wiring of so many cells and senders, in each of whose inboxes so many messages may wait. Nothing was sent.
+/// A wiring of so many cells and senders, in each of whose inboxes so many messages may wait.
+/// Nothing was sent.
 ///
 /// All memory that sends and end marks need is taken here.
 pub fn wire(alloc: Global, cells: u32, senders: u32, capacity: u32) -> Result<Wiring, Memory>

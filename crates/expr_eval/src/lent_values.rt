@@ -9,8 +9,8 @@ use rel_base::{Memory, Text, Value};
 use std::alloc::Global;
 use std::cmp::Ordering;
 
-/// A value, its string lent. So a row lends what it keeps as a machine word as well as what it keeps
-/// as a `Value`.
+/// A value, its string lent. So a row lends what it keeps as a machine word as well as what it
+/// keeps as a `Value`.
 #[derive(Clone, Copy, Debug)]
 pub enum Lent<'a> {
     /// A number.

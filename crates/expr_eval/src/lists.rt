@@ -27,7 +27,8 @@ pub fn plain_hold<R: RowView>(scalars: &[Scalar], row: &R) -> bool
     true
 }
 
-/// Whether all of these hold on a row. Each is evaluated, also behind one that doesn't hold. It takes no memory.
+/// Whether all of these hold on a row. Each is evaluated, also behind one that doesn't hold. It
+/// takes no memory.
 pub fn all_hold<R: RowView>(scalars: &[Scalar], row: &R) -> Result<bool, Overflow>
     ensures value { IfOk result (λ truth. truth ≡ all_hold (map scalar_tree_of scalars.now) (R.values row.now)) }
     ensures fits { OnOk result (all_fit (map scalar_tree_of scalars.now) (R.values row.now) ≡ true) }
@@ -86,8 +87,8 @@ impl<'a, R: RowView> RowSource for Emission<'a, R> {
     }
 }
 
-/// Adds the values of these on a row at the end of a list, as a row. Memory is asked for strings, and
-/// where the list grows. After a fault the list is as it was.
+/// Adds the values of these on a row at the end of a list, as a row. Memory is asked for strings,
+/// and where the list grows. After a fault the list is as it was.
 #[inline]
 pub fn emit<R: RowView>(
     alloc: Global,

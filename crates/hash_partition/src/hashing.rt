@@ -1,7 +1,8 @@
 //! The hashes of values and of keys.
 //!
-//! Source: Carter and Wegman, "Universal Classes of Hash Functions", 1979: a hash is `a * code + b` by a prime modulus.
-//! Here `a` and `b` are not drawn but made from the hash seed, by the constants of Knuth's generator MMIX.
+//! Source: Carter and Wegman, "Universal Classes of Hash Functions", 1979: a hash is `a * code +
+//! b` by a prime modulus. Here `a` and `b` are not drawn but made from the hash seed, by the
+//! constants of Knuth's generator MMIX.
 ghost use Rattle.std.specs.Prelude.{◌≡◌, ◌%◌, ◌^◌, ◌<◌, ◌≤◌, length, All};
 ghost use Rattle.hash_partition.specs.Hashing.{coordinate_of, key_of, key_code_of, home_of};
 ghost use Rattle.rel_base.specs.Codes.{modulus};
@@ -16,7 +17,8 @@ const OFFSET_FACTOR: u64 = 1_442_695_040_888_963_407;
 
 /// The coordinate of a value with this code, in a dimension that is spread over so many parts.
 ///
-/// Dimensions are counted from 0, in the order of the join variables. `seed` is the hash seed of the run.
+/// Dimensions are counted from 0, in the order of the join variables. `seed` is the hash seed of
+/// the run.
 pub fn coord(seed: u64, dim: u32, code: u64, share: u32) -> u32
     requires code { code < modulus }
     requires share { 1 ≤ share }
@@ -32,7 +34,8 @@ pub fn coord(seed: u64, dim: u32, code: u64, share: u32) -> u32
 
 /// The remainder of a number by the modulus of codes.
 ///
-/// As 2^61 is one more than the modulus, the number's high bits count as ones, and no division of 128 bits is made.
+/// As 2^61 is one more than the modulus, the number's high bits count as ones, and no division of
+/// 128 bits is made.
 fn remainder(number: u128) -> u64
     requires { number < 2 ^ 122 }
     ensures { result ≡ number % modulus }
@@ -55,7 +58,8 @@ pub fn key_code(row: &[Value], columns: &Places) -> u64
     mixed % Value::CODES
 }
 
-/// The worker at which the rows with one key meet: the key that a row has in these columns, over so many workers.
+/// The worker at which the rows with one key meet: the key that a row has in these columns, over
+/// so many workers.
 ///
 /// A key of no columns has its home at worker 0. Where there is one worker, no key is hashed.
 pub fn home_of_key(seed: u64, row: &[Value], columns: &Places, workers: u32) -> u32

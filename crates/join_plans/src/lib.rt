@@ -7,8 +7,9 @@
 //! load, and on `placement`, whose definitions say what a plan is.
 //!
 //! Promises: the shuffle is the one that the settings ask for, by cells with the shares of least
-//! load; and the lines of a join are those that the definitions state. Both are found by the numbers
-//! of rows alone, and are the same in whatever order rows lie. Not promised: that memory is there.
+//! load; and the lines of a join are those that the definitions state. Both are found by the
+//! numbers of rows alone, and are the same in whatever order rows lie. Not promised: that memory
+//! is there.
 //!
 //! Read `specs/JoinPlans.antt` and `plans.rt`, then `choices.rt` and `notes.rt`.
 #![tactic(auto)]

@@ -56,8 +56,8 @@ pub fn run_group<R: Threads + Wait + Sync, T: Tap + Send>(
 }
 
 /// A row for each group of what the rows emit by picks, which are columns and literals: as
-/// `run_group` makes it of listed rows, but no row is listed. On Ok, and where a sum is refused, every
-/// emitted number lies in 64 bits.
+/// `run_group` makes it of listed rows, but no row is listed. On Ok, and where a sum is refused,
+/// every emitted number lies in 64 bits.
 ///
 /// `parts` holds a list of rows for each worker.
 pub fn run_picked_group<R: Threads + Wait + Sync, T: Tap + Send>(

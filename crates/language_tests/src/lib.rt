@@ -1,6 +1,8 @@
-//! Tests of the crates of the language and of its operators: each call that takes memory is run once with ample of it.
+//! Tests of the crates of the language and of its operators: each call that takes memory is run
+//! once with ample of it.
 //!
-//! They stand in a crate of their own so that the crates that they run are proved once, and not once more with their tests.
+//! They stand in a crate of their own so that the crates that they run are proved once, and not
+//! once more with their tests.
 #![tactic(auto)]
 
 #[cfg(test)]

@@ -1,5 +1,5 @@
-//! A script with its statements and one with its fault. Trees are worked rows of the grammar, and `checks/scripts` has the
-//! faults and the limits.
+//! A script with its statements and one with its fault. Trees are worked rows of the grammar, and
+//! `checks/scripts` has the faults and the limits.
 use crate::fixtures::script_of;
 use myrial_lexer::lex;
 use myrial_parser::{ParseFault, parse};

@@ -1,4 +1,5 @@
-//! Scripts, with the number of their tokens or their first fault. Which tokens these are is worked rows.
+//! Scripts, with the number of their tokens or their first fault. Which tokens these are is worked
+//! rows.
 use myrial_lexer::{LexFault, LexWhat, lex};
 use std::alloc::Global;
 

@@ -1,7 +1,7 @@
 //! The program `myria`: runs a script over the relation files of the current folder.
 //!
-//! Stands on `myria_top`, which does the work and whose `run_words` carries every promise, and on `rel_io` for the
-//! folder and the standard streams. Promises nothing of its own.
+//! Stands on `myria_top`, which does the work and whose `run_words` carries every promise, and on
+//! `rel_io` for the folder and the standard streams. Promises nothing of its own.
 #![tactic(auto)]
 
 use myria_top::{Outcome, fresh_taps, run_words, tell};

@@ -143,7 +143,8 @@ fn prepared_files<R: Threads + Wait + Sync, F: Shelf, T: Tap + Send>(
     text_of_run(rt, alloc, request, script, &files, taps)
 }
 
-/// In how many jobs a long file is read: as many as there are workers, and one in a check, which has none.
+/// In how many jobs a long file is read: as many as there are workers, and one in a check, which
+/// has none.
 fn reading_jobs(request: &Request) -> u32 {
     match request.mode {
         Mode::Check => 1,

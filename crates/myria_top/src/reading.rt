@@ -145,7 +145,8 @@ pub fn read_fetched<R: Threads + Sync, F: Shelf>(
     }
 }
 
-/// The relation of the bytes of a file: a loaded file is read by its form, and any other by its header.
+/// The relation of the bytes of a file: a loaded file is read by its form, and any other by its
+/// header.
 fn relation_of<R: Threads + Sync>(
     rt: &R,
     alloc: Global,
@@ -172,7 +173,8 @@ fn too_long(alloc: Global, key: &Key) -> Outcome
     }
 }
 
-/// The answer to a file that is no relation, or of memory where it was refused or the key can't be kept.
+/// The answer to a file that is no relation, or of memory where it was refused or the key can't be
+/// kept.
 fn bad_relation(alloc: Global, key: &Key, fault: RelFault) -> Outcome
     ensures { ((fault ≢ RelFault.Memory) × (result ≡ Outcome.BadRelation key.now fault))
         ⊎ (result ≡ Outcome.Memory) }

@@ -21,14 +21,15 @@ use std::alloc::Global;
 use std::sync::Wait;
 use std::thread::Threads;
 
-/// Runs what the words ask for: a script over the files of the shelf, or a trial, and prints the text of the mode. It may
-/// wait as long as its threads do.
+/// Runs what the words ask for: a script over the files of the shelf, or a trial, and prints the
+/// text of the mode. It may wait as long as its threads do.
 ///
-/// The first word is the program's name. Everything is computed before the first byte passes out. Every answer but
-/// `Done` is told by a line on `err`; a fault of `err` changes nothing else and stops that line. Words that aren't read,
-/// and a trial, leave the shelf as it was. There are 128 taps, two for each of the most workers: tap `2w` is told the rows
-/// that worker `w` sends, and tap `2w + 1` those that it receives and lists; a check tells them nothing. After another
-/// answer than `Done` their sums may have risen.
+/// The first word is the program's name. Everything is computed before the first byte passes out.
+/// Every answer but `Done` is told by a line on `err`; a fault of `err` changes nothing else and
+/// stops that line. Words that aren't read, and a trial, leave the shelf as it was. There are 128
+/// taps, two for each of the most workers: tap `2w` is told the rows that worker `w` sends, and
+/// tap `2w + 1` those that it receives and lists; a check tells them nothing. After another answer
+/// than `Done` their sums may have risen.
 pub fn run_words<R: Threads + Wait + Sync, F: Shelf, O: Sink, E: Sink, T: Tap + Send>(
     rt: &R,
     alloc: Global,

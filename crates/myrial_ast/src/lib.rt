@@ -1,9 +1,10 @@
 //! The syntax trees of the language: expressions, relation expressions and statements.
 //!
-//! Stands on `rel_base` for texts, values, schemas and keys. Nothing here reads text or gives a tree a meaning.
+//! Stands on `rel_base` for texts, values, schemas and keys. Nothing here reads text or gives a
+//! tree a meaning.
 //!
-//! Promises: a copy has the tree of its original. Contracts see an expression by `tree_of`, the tree without the places
-//! in memory where its nodes lie. Not promised: that memory is there.
+//! Promises: a copy has the tree of its original. Contracts see an expression by `tree_of`, the
+//! tree without the places in memory where its nodes lie. Not promised: that memory is there.
 //!
 //! Read `specs/Trees.antt`, then `expressions.rt` and `relations.rt`.
 #![tactic(auto)]

@@ -7,7 +7,8 @@ use crate::expressions::Expr;
 use rel_base::{Duplicate, Items, Key, Memory, Schema, Text};
 use std::alloc::Global;
 
-/// A relation that is named: one that an earlier statement assigned, a stored one, or a file without a header.
+/// A relation that is named: one that an earlier statement assigned, a stored one, or a file
+/// without a header.
 #[derive(Debug, Drop)]
 pub enum Operand {
     /// The relation that was assigned to a name.

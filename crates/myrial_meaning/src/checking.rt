@@ -17,7 +17,8 @@ use myrial_scopes::Scope;
 use rel_base::{Column, Duplicate, Files, Memory, Relation, Rows, Schema, Text};
 use std::alloc::Global;
 
-/// The columns of a comprehension over these items; `None` where a reference doesn't mean one column.
+/// The columns of a comprehension over these items; `None` where a reference doesn't mean one
+/// column.
 fn columns_over<'a>(
     alloc: Global,
     items: &[ItemRelation<'a>],
@@ -60,7 +61,8 @@ fn columns_in(relation: Option<&Relation>) -> &[Column]
 }
 
 impl<'a> Environment<'a> {
-    /// Whether the operands of a relation expression have columns of the same types, where they have to.
+    /// Whether the operands of a relation expression have columns of the same types, where they
+    /// have to.
     fn operands_fit(&self, files: &'a Files, relation: &RelExpr) -> bool
         ensures { result ≡ operands_fit files.entry.now self.now (rel_tree_of relation.now) }
     {
@@ -138,7 +140,8 @@ impl<'a> Environment<'a> {
         }
     }
 
-    /// Whether a statement stands for something; if so, the names stand for its columns, without rows, from now on.
+    /// Whether a statement stands for something; if so, the names stand for its columns, without
+    /// rows, from now on.
     fn declare(
         &mut self,
         alloc: Global,
@@ -173,8 +176,9 @@ impl<'a> Environment<'a> {
     }
 }
 
-/// Whether each statement stands for something: each name and key for a relation, each reference for one column, and the
-/// operands of a `unionall` or a `diff` for columns of the same types. Rows are not looked at.
+/// Whether each statement stands for something: each name and key for a relation, each reference
+/// for one column, and the operands of a `unionall` or a `diff` for columns of the same types.
+/// Rows are not looked at.
 pub fn has_meaning<'a>(alloc: Global, script: &'a Script, files: &'a Files) -> Result<bool, Memory>
     ensures { IfOk result (λ means. means ≡ has_meaning files.entry.now (trees_of script.entry.now)) }
 {

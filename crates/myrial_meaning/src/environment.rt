@@ -15,7 +15,8 @@ use rel_base::{Duplicate, Files, Key, Memory, Relation, Stored, Text};
 use std::alloc::Global;
 use std::marker::Model;
 
-/// What the names stand for that were assigned, and the relations that were stored, each in the order of the statements.
+/// What the names stand for that were assigned, and the relations that were stored, each in the
+/// order of the statements.
 ///
 /// Contracts see the environment of the definitions, which has the latest first.
 #[derive(Drop)]
@@ -96,8 +97,8 @@ impl<'a> Environment<'a> {
         }
     }
 
-    /// The relation of an operand to be held under another name, where it stands for one. That of a file is lent, and
-    /// any other copied.
+    /// The relation of an operand to be held under another name, where it stands for one. That of
+    /// a file is lent, and any other copied.
     pub fn held(
         &self,
         alloc: Global,

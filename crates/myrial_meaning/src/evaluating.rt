@@ -16,8 +16,8 @@ use std::alloc::Global;
 
 /// What the stores of a script store, in their order, each relation's rows in ascending order.
 ///
-/// Statements that no store needs are not run. Rows are lent and shared, and never copied for a combination; a
-/// comprehension of n rows and m rows takes time in n * m.
+/// Statements that no store needs are not run. Rows are lent and shared, and never copied for a
+/// combination; a comprehension of n rows and m rows takes time in n * m.
 pub fn evaluate<'a>(alloc: Global, script: &'a Script, files: &'a Files) -> Result<Stored, RunFault>
     requires meaning { IsTrue (has_meaning files.now (trees_of script.now)) }
     ensures stored { IfOk result (λ stored. stored ≡ map sorted_file (stored_relations files.entry.now (trees_of script.entry.now))) }

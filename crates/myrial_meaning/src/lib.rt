@@ -1,18 +1,20 @@
 //! The meaning of scripts, and an evaluator that computes it as it is defined.
 //!
-//! Stands on `rel_base` for relations and files, on `myrial_ast` for the trees of scripts and the meaning of expressions,
-//! comprehensions and groups, on `myrial_scopes` for what names mean, on `expr_eval` for the values of scalars and on
-//! `aggregate_ops` for groups and the operators on bags. Nothing here reads text, reads a file or waits.
+//! Stands on `rel_base` for relations and files, on `myrial_ast` for the trees of scripts and the
+//! meaning of expressions, comprehensions and groups, on `myrial_scopes` for what names mean, on
+//! `expr_eval` for the values of scalars and on `aggregate_ops` for groups and the operators on
+//! bags. Nothing here reads text, reads a file or waits.
 //!
-//! Promises: `evaluate` gives what a script stores, each relation's rows in ascending order, or the fault of its run, as
-//! the definitions say; statements that no store needs are not run. `has_meaning` tells whether each name, key and
-//! reference of a script stands for something and what is put together has columns of the same types, which is all that
-//! `evaluate` requires. That the test of needed statements tells what their rule says is a law. Contracts see a script by
-//! `trees_of`.
-//! Not promised: that memory is there; speed, since a comprehension goes over every combination of its items' rows.
+//! Promises: `evaluate` gives what a script stores, each relation's rows in ascending order, or
+//! the fault of its run, as the definitions say; statements that no store needs are not run.
+//! `has_meaning` tells whether each name, key and reference of a script stands for something and
+//! what is put together has columns of the same types, which is all that `evaluate` requires. That
+//! the test of needed statements tells what their rule says is a law. Contracts see a script by
+//! `trees_of`. Not promised: that memory is there; speed, since a comprehension goes over every
+//! combination of its items' rows.
 //!
-//! Read `specs/Environments.antt`, `specs/Meaning.antt`, `specs/Needed.antt`, `specs/Faults.antt` and
-//! `specs/Runnable.antt`, then `evaluating.rt`, `statements.rt` and `loops.rt`.
+//! Read `specs/Environments.antt`, `specs/Meaning.antt`, `specs/Needed.antt`, `specs/Faults.antt`
+//! and `specs/Runnable.antt`, then `evaluating.rt`, `statements.rt` and `loops.rt`.
 #![tactic(auto)]
 
 mod checking;

@@ -41,8 +41,8 @@ fn mentions(name: &Text, relation: &RelExpr) -> bool
     }
 }
 
-/// Whether the name's value before the statement is used from it on, as far as the statement alone tells; `None` where
-/// that hangs on those behind it.
+/// Whether the name's value before the statement is used from it on, as far as the statement alone
+/// tells; `None` where that hangs on those behind it.
 fn liveness_from(name: &Text, statement: &Stmt, needed: bool) -> Option<bool>
     ensures { (rest : List StatementTree) → needed ≡ is_needed (statement_tree_of statement.now) rest
         → is_live name.now (statement_tree_of statement.now ∷ rest) ≡ unwrap_or result (is_live name.now rest) }

@@ -1,4 +1,5 @@
-//! A cursor over the terminals of a piece. It looks one terminal ahead, and two more where `T.*` may be emitted.
+//! A cursor over the terminals of a piece. It looks one terminal ahead, and two more where `T.*`
+//! may be emitted.
 ghost use Rattle.std.specs.Prelude.{◌≡◌, ◌-◌, ◌<◌, ◌^◌, All, IfSome, length, drop, option_map};
 ghost use Rattle.myrial_parser.specs.inner.Descent as spec;
 ghost use Rattle.myrial_parser.specs.inner.Descent.{Parses};

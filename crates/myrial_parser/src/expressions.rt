@@ -209,7 +209,8 @@ impl Cursor<'_> {
         Ok(Expr::binary(alloc, op, left, right)?)
     }
 
-    /// A primary behind none or more minus signs; the last one and a number behind it are one literal.
+    /// A primary behind none or more minus signs; the last one and a number behind it are one
+    /// literal.
     #[cycle(expression)]
     fn signed(&mut self, alloc: Global, depth: usize) -> Result<Expr, Refusal>
         ensures { Parses tree_of (spec.signed (spec.expression depth) self.old) result self.new }
@@ -308,7 +309,8 @@ impl Cursor<'_> {
         Ok(Expr::aggregate(alloc, op, argument)?)
     }
 
-    /// What stands behind the first name of a column: nothing of its own, or a dot and a column of that alias.
+    /// What stands behind the first name of a column: nothing of its own, or a dot and a column of
+    /// that alias.
     fn column(&mut self, alloc: Global, name: Text) -> Result<ColRef, Refusal>
         ensures { Parses (λ x. x) (spec.column_behind name self.old) result self.new }
     {

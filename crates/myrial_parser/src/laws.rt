@@ -16,7 +16,8 @@ pub fn a_piece_has_one_statement()
     ensures { (ts : List Terminal) (a b : StatementTree) → Reads ts a → Reads ts b → a ≡ b }
 {}
 
-/// The law that a script has one reading: one list of statements, or one first fault. It does nothing.
+/// The law that a script has one reading: one list of statements, or one first fault. It does
+/// nothing.
 pub fn a_script_has_one_reading()
     ensures statements { (text : List ℕ) (tokens : List Token) (a b : List StatementTree) → IsScript text tokens a → IsScript text tokens b → a ≡ b }
     ensures either { (text : List ℕ) (tokens : List Token) (a : List StatementTree) (n : ℕ) (f : PieceFault) → IsScript text tokens a → IsFirstFault text tokens n f → ⊥ }

@@ -2,9 +2,10 @@
 //!
 //! Stands on `myrial_lexer` for tokens and on `myrial_ast` for trees.
 //!
-//! Promises: `parse` answers the script whose pieces read so by the grammar, `Reads`, or the first fault of the first
-//! piece that has one. A script has one of these alone (`a_script_has_one_reading`), so each comes exactly where it is
-//! so, want of memory aside. Not promised: that memory is there, and how long it takes.
+//! Promises: `parse` answers the script whose pieces read so by the grammar, `Reads`, or the first
+//! fault of the first piece that has one. A script has one of these alone
+//! (`a_script_has_one_reading`), so each comes exactly where it is so, want of memory aside. Not
+//! promised: that memory is there, and how long it takes.
 //!
 //! Read `specs/Terminals.antt`, `specs/Grammar.antt` and `specs/Pieces.antt`, then `scripts.rt`.
 #![tactic(auto)]

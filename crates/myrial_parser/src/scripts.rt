@@ -88,7 +88,8 @@ fn fault_of_last(number: u32, tokens: &[Token]) -> ParseFault
     }
 }
 
-/// The script that the tokens of the text `bytes` read as, or the first fault of the first piece that has one.
+/// The script that the tokens of the text `bytes` read as, or the first fault of the first piece
+/// that has one.
 pub fn parse(alloc: Global, tokens: &Tokens, bytes: &[u8]) -> Result<Script, ParseFault>
     requires { AreTokensOf bytes.now tokens.now }
     // A script has one reading (`a_script_has_one_reading`), so with `ok` a fault comes wherever the script has one.

@@ -62,7 +62,8 @@ impl Comprehension {
 }
 
 impl Scope<'_> {
-    /// The comprehension of this condition and these emit items; `None` where a reference doesn't mean one column.
+    /// The comprehension of this condition and these emit items; `None` where a reference doesn't
+    /// mean one column.
     pub fn resolve(
         &self,
         alloc: Global,

@@ -29,7 +29,8 @@ fn push_conjuncts(scalar: Scalar, into: &mut Scalars) -> Result<(), Memory>
 }
 
 impl Scope<'_> {
-    /// The conjuncts of a condition, none where there is no condition; `None` where a reference doesn't mean one column.
+    /// The conjuncts of a condition, none where there is no condition; `None` where a reference
+    /// doesn't mean one column.
     pub fn conjuncts(
         &self,
         alloc: Global,

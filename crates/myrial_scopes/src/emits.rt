@@ -100,7 +100,8 @@ impl Scope<'_> {
         }
     }
 
-    /// What an expression emits; `None` where a reference doesn't mean one column, or an aggregate stands inside of it.
+    /// What an expression emits; `None` where a reference doesn't mean one column, or an aggregate
+    /// stands inside of it.
     fn column_of(&self, alloc: Global, expression: &Expr) -> Result<Option<EmittedColumn>, Memory>
         ensures { IfOk result (λ found. option_map emit_of found ≡ emit_of_tree self.now (tree_of expression.now)) }
     {

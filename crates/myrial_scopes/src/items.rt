@@ -47,7 +47,8 @@ impl<'a> ItemSchema<'a> {
         *self.alias == *alias
     }
 
-    /// What a reference means that may mean the columns of a name besides, where the first column stands at this place.
+    /// What a reference means that may mean the columns of a name besides, where the first column
+    /// stands at this place.
     fn with_named(&self, meaning: Meaning, first: u32, name: &Text) -> Meaning
         requires { first + length self.now.schema < 2 ^ 32 }
         ensures { result ≡ with_places meaning (named_from first name.now self.now.schema) }
@@ -61,7 +62,8 @@ impl<'a> ItemSchema<'a> {
         meaning
     }
 
-    /// What a reference means that may mean the column at a place of the item besides, where the first stands at this place.
+    /// What a reference means that may mean the column at a place of the item besides, where the
+    /// first stands at this place.
     fn with_numbered(&self, meaning: Meaning, first: u32, given: u64) -> Meaning
         requires { first + length self.now.schema < 2 ^ 32 }
         ensures { result ≡ with_places meaning (numbered_from first given self.now.schema) }
@@ -73,7 +75,8 @@ impl<'a> ItemSchema<'a> {
         }
     }
 
-    /// What a reference means that may mean columns of the item besides, where the first stands at this place.
+    /// What a reference means that may mean columns of the item besides, where the first stands at
+    /// this place.
     ///
     /// The alias is compared once, and not for each column.
     pub(crate) fn with_own(&self, meaning: Meaning, first: u32, reference: &ColRef) -> Meaning

@@ -12,8 +12,8 @@ use rel_base::{ColType, Duplicate, Memory, Value};
 use std::alloc::Global;
 
 impl Scope<'_> {
-    /// The expression with places for its references; `None` where a reference doesn't mean one column, or an aggregate
-    /// stands in it.
+    /// The expression with places for its references; `None` where a reference doesn't mean one
+    /// column, or an aggregate stands in it.
     pub fn scalar(&self, alloc: Global, expression: &Expr) -> Result<Option<Scalar>, Memory>
         ensures { IfOk result (λ found. option_map scalar_tree_of found ≡ scalar_of self.now (tree_of expression.now)) }
     {

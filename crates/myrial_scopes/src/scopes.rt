@@ -52,8 +52,8 @@ impl<'a> ScopedColumn<'a> {
 
 /// The columns of all items of a comprehension, in the order of the combined row.
 ///
-/// It keeps the items, so that a reference is looked for item by item: in time of the items, and of the columns of those
-/// that its alias allows. There are at most 8 items in a text.
+/// It keeps the items, so that a reference is looked for item by item: in time of the items, and
+/// of the columns of those that its alias allows. There are at most 8 items in a text.
 #[derive(Drop)]
 pub struct Scope<'a> {
     items: Vec<ItemSchema<'a>>,
@@ -154,7 +154,8 @@ impl<'a> Scope<'a> {
         meaning
     }
 
-    /// The place of the one column that a reference means; `None` where it may mean none, or more than one.
+    /// The place of the one column that a reference means; `None` where it may mean none, or more
+    /// than one.
     pub fn place_of(&self, reference: &ColRef) -> Option<u32>
         ensures { result ≡ place_of self.now reference.now }
     {

@@ -43,7 +43,8 @@ fn renamed(leader: u32, own: u32, new: u32) -> u32
     if leader == own { new } else { leader }
 }
 
-/// The leaders behind an equality, which puts the class of its second column under the leader of its first.
+/// The leaders behind an equality, which puts the class of its second column under the leader of
+/// its first.
 fn merged(alloc: Global, leaders: &[u32], left: u32, right: u32) -> Result<Vec<u32>, Memory>
     requires left { left < length leaders.now }
     requires right { right < length leaders.now }
@@ -111,7 +112,8 @@ fn class_of(alloc: Global, leaders: &[u32], column: usize) -> Result<Places, Mem
     Ok(found)
 }
 
-/// Adds the class of a column, where the column is the first of its class and the class is a join variable.
+/// Adds the class of a column, where the column is the first of its class and the class is a join
+/// variable.
 fn push_variable(
     alloc: Global,
     widths: &[u32],
@@ -135,11 +137,11 @@ fn push_variable(
     into.push(class)
 }
 
-/// The join variables of these equalities of columns, where the items have so many columns: the classes with columns of at
-/// least two items, in the order of their first columns.
+/// The join variables of these equalities of columns, where the items have so many columns: the
+/// classes with columns of at least two items, in the order of their first columns.
 ///
-/// Each column has the leader of its class, and an equality gives one class the leader of the other: time in columns times
-/// equalities, and in the square of the columns.
+/// Each column has the leader of its class, and an equality gives one class the leader of the
+/// other: time in columns times equalities, and in the square of the columns.
 pub(crate) fn variables(
     alloc: Global,
     widths: &[u32],

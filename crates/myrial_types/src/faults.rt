@@ -3,7 +3,8 @@ use rel_base::Memory;
 use std::error::Error;
 use std::fmt;
 
-/// What is wrong with a statement that isn't typed. Where it has several kinds, the first in this order is told.
+/// What is wrong with a statement that isn't typed. Where it has several kinds, the first in this
+/// order is told.
 #[derive(Clone, Copy, Debug, PartialEq, Eq)]
 pub enum TypeKind {
     /// An operand or a stored name isn't assigned earlier, or the name before a `.` is no alias.

@@ -46,7 +46,8 @@ fn push_key(alloc: Global, key: &Key, into: &mut Keys) -> Result<(), Memory>
     into.push(key.copy(alloc)?)
 }
 
-/// Adds the key of the file that an operand needs, where these keys were stored, unless it is there.
+/// Adds the key of the file that an operand needs, where these keys were stored, unless it is
+/// there.
 fn insert_key(
     alloc: Global,
     stored: &Keys,
@@ -70,7 +71,8 @@ fn insert_key(
     Ok(())
 }
 
-/// Adds the keys of the files that a relation expression needs, where these keys were stored, each unless it is there.
+/// Adds the keys of the files that a relation expression needs, where these keys were stored, each
+/// unless it is there.
 fn insert_keys(
     alloc: Global,
     stored: &Keys,
@@ -119,8 +121,8 @@ fn loads_of<'a>(alloc: Global, script: &'a [Stmt]) -> Result<Vec<Load<'a>>, Memo
 
 /// The files that a script needs, each once, in the order of their first scans and loads.
 ///
-/// A scan needs a file where no earlier statement stores its key; a load needs its file in any case, and the form of a
-/// file that is loaded more than once is that of its first load.
+/// A scan needs a file where no earlier statement stores its key; a load needs its file in any
+/// case, and the form of a file that is loaded more than once is that of its first load.
 pub fn fetches(alloc: Global, script: &Script) -> Result<Fetches, Memory>
     ensures { IfOk result (λ found. found ≡ fetches (trees_of script.now)) }
 {

@@ -81,8 +81,8 @@ impl Faults {
     }
 }
 
-/// What is found in an expression: what is wrong with its references, and its type, if all its parts have the types that
-/// they need.
+/// What is found in an expression: what is wrong with its references, and its type, if all its
+/// parts have the types that they need.
 #[derive(Clone, Copy)]
 struct Reading {
     faults: Faults,

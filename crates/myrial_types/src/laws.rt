@@ -3,7 +3,8 @@ ghost use Rattle.myrial_types.specs.Laws.{LimitIsOfNumbers, StepsAreOfTheFiles, 
 ghost use Rattle.myrial_types.specs.Laws.{StepsMeanTheScript, TypedScriptsHaveMeaning};
 ghost use Rattle.myrial_types.specs.Laws.{TypedStatementsResolve};
 
-/// Law: a statement without a kind of fault resolves, so the steps of a typed script are those of all its statements.
+/// Law: a statement without a kind of fault resolves, so the steps of a typed script are those of
+/// all its statements.
 pub fn typed_statements_resolve()
     ensures { TypedStatementsResolve }
 {}
@@ -28,7 +29,8 @@ pub fn steps_are_of_the_files()
     ensures { StepsAreOfTheFiles }
 {}
 
-/// Law: behind the other kinds, a limit is passed exactly where a number is too large, or nothing is there.
+/// Law: behind the other kinds, a limit is passed exactly where a number is too large, or nothing
+/// is there.
 pub fn limit_is_of_numbers()
     ensures { LimitIsOfNumbers }
 {}

@@ -1,17 +1,18 @@
-//! Typing of scripts: which files a script needs, which statements are typed, and what each comes to once its names are
-//! resolved.
+//! Typing of scripts: which files a script needs, which statements are typed, and what each comes
+//! to once its names are resolved.
 //!
-//! Stands on `rel_base` for files, `myrial_ast` for trees, `myrial_scopes` for what names mean inside a comprehension,
-//! `myrial_meaning` for what names and stored keys stand for, and `algebra` for the steps that a script comes to. Nothing
-//! here looks at rows, reads or waits.
+//! Stands on `rel_base` for files, `myrial_ast` for trees, `myrial_scopes` for what names mean
+//! inside a comprehension, `myrial_meaning` for what names and stored keys stand for, and
+//! `algebra` for the steps that a script comes to. Nothing here looks at rows, reads or waits.
 //!
-//! Promises: `fetches` gives the files that a script needs, each once, with the form of its first load, as `fetches` of
-//! `myrial_meaning` (`specs/Fetches.antt`) defines them; `check` gives what a script comes to, as `checked_of`
-//! (`specs/Checking.antt`) defines it: its steps and stores, or the first statement that isn't typed and its first kind of
-//! fault. It takes any tree and any files. Of a typed script over its files the laws (`specs/Laws.antt`) say that it has a
-//! meaning, and that its steps store what it stores, have the fault of its run, and meet the conditions of what takes
-//! them. Contracts see a script by `trees_of` and steps by `checked_tree_of`.
-//! Not promised: that memory is there.
+//! Promises: `fetches` gives the files that a script needs, each once, with the form of its first
+//! load, as `fetches` of `myrial_meaning` (`specs/Fetches.antt`) defines them; `check` gives what
+//! a script comes to, as `checked_of` (`specs/Checking.antt`) defines it: its steps and stores, or
+//! the first statement that isn't typed and its first kind of fault. It takes any tree and any
+//! files. Of a typed script over its files the laws (`specs/Laws.antt`) say that it has a meaning,
+//! and that its steps store what it stores, have the fault of its run, and meet the conditions of
+//! what takes them. Contracts see a script by `trees_of` and steps by `checked_tree_of`. Not
+//! promised: that memory is there.
 //!
 //! Read `specs/Resolving.antt`, `specs/Kinds.antt` and `specs/Checking.antt`, then `checking.rt`.
 #![tactic(auto)]

@@ -130,7 +130,8 @@ impl<'a> Model for Stored<'a> {
     ghost view = { λ s. (s.key.now, record { source = s.source; schema = s.schema }) };
 }
 
-/// What the names that were assigned and the keys that were stored stand for, each in the order of the statements.
+/// What the names that were assigned and the keys that were stored stand for, each in the order of
+/// the statements.
 ///
 /// Contracts see the environment of the definitions, which has the latest first.
 #[derive(Drop)]
@@ -202,7 +203,8 @@ impl<'a> Names<'a> {
         }
     }
 
-    /// What an operand stands for; `None` where that is nothing. A load has the columns that it writes.
+    /// What an operand stands for; `None` where that is nothing. A load has the columns that it
+    /// writes.
     pub(crate) fn meant<'b>(&'b self, files: &'b Files, operand: &'b Operand) -> Option<Meant<'b>>
         ensures { result ≡ meant files.entry.now self.entry.now operand.entry.now }
     {
@@ -216,7 +218,8 @@ impl<'a> Names<'a> {
         }
     }
 
-    /// The items of a comprehension with what their operands stand for; `None` where one stands for nothing.
+    /// The items of a comprehension with what their operands stand for; `None` where one stands
+    /// for nothing.
     pub(crate) fn items<'b>(
         &'b self,
         alloc: Global,

@@ -77,8 +77,8 @@ fn sources_of(alloc: Global, items: &[MeantItem]) -> Result<Sources, Memory>
     Ok(sources)
 }
 
-/// The two columns that a conjunct holds together: it is their equality as a whole. One under `or` or `not` holds nothing
-/// together.
+/// The two columns that a conjunct holds together: it is their equality as a whole. One under `or`
+/// or `not` holds nothing together.
 fn equality_of(conjunct: &Scalar) -> Option<(u32, u32)>
     ensures { result ≡ equality (scalar_tree_of conjunct.now) }
 {
@@ -167,8 +167,8 @@ fn has_aggregate(emits: &[EmittedColumn]) -> bool
     emits.iter().any(|emit| emit.aggregate.is_some())
 }
 
-/// The shape of a comprehension over these items, whose equalities are of columns that there are; `None` where it isn't
-/// well formed.
+/// The shape of a comprehension over these items, whose equalities are of columns that there are;
+/// `None` where it isn't well formed.
 fn shape_of(
     alloc: Global,
     items: &[MeantItem],

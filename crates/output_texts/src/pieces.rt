@@ -57,10 +57,10 @@ impl Pieces {
         }
     }
 
-    /// Adds the text of what is stored at workers, one relation after another: of each its line, its
-    /// header, and the rows of all workers in ascending order, each a piece. No row is copied. The
-    /// text of many rows is made in jobs, at most one for each worker, and is the same for every
-    /// number of them. It may wait as long as its threads do.
+    /// Adds the text of what is stored at workers, one relation after another: of each its line,
+    /// its header, and the rows of all workers in ascending order, each a piece. No row is copied.
+    /// The text of many rows is made in jobs, at most one for each worker, and is the same for
+    /// every number of them. It may wait as long as its threads do.
     pub fn add_stored<R: Threads + Wait + Sync>(
         &mut self,
         rt: &R,

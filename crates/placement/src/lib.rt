@@ -1,15 +1,18 @@
-//! Where the rows of a script lie, where they go, and what its plan says: definitions and their laws.
+//! Where the rows of a script lie, where they go, and what its plan says: definitions and their
+//! laws.
 //!
-//! Stands on `algebra` for shapes, terms and checked scripts, on `hash_partition` for homes and cells, on `share_chooser` for
-//! shares of least load, and on `bag_laws`. Nothing here runs: each law is the contract of a function with an empty body.
+//! Stands on `algebra` for shapes, terms and checked scripts, on `hash_partition` for homes and
+//! cells, on `share_chooser` for shares of least load, and on `bag_laws`. Nothing here runs: each
+//! law is the contract of a function with an empty body.
 //!
-//! Promises: for every script, number of workers, hash seed and way of shuffling, all workers' rows together are the bag of
-//! the meaning. The rows of a candidate meet at one worker, and what a worker lists is made of what it is given alone. All
-//! that is said of an exchange is read off one list of moves, and as many rows are sent as received.
-//! Not promised: that rows spread evenly.
+//! Promises: for every script, number of workers, hash seed and way of shuffling, all workers'
+//! rows together are the bag of the meaning. The rows of a candidate meet at one worker, and what
+//! a worker lists is made of what it is given alone. All that is said of an exchange is read off
+//! one list of moves, and as many rows are sent as received. Not promised: that rows spread
+//! evenly.
 //!
-//! Read `specs/Destinations.antt`, `specs/Layouts.antt`, `specs/Moves.antt` and `specs/Exchanges.antt`, then `specs/Laws.antt`
-//! and `specs/Receiving.antt`.
+//! Read `specs/Destinations.antt`, `specs/Layouts.antt`, `specs/Moves.antt` and
+//! `specs/Exchanges.antt`, then `specs/Laws.antt` and `specs/Receiving.antt`.
 #![tactic(auto)]
 
 mod layouts;

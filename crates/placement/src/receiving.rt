@@ -16,7 +16,8 @@ pub fn cells_list_what_they_are_given()
     ensures { CellsListWhatTheyAreGiven }
 {}
 
-/// Two at a time, the candidates of what a worker is given in a step are those whose key is at home there.
+/// Two at a time, the candidates of what a worker is given in a step are those whose key is at
+/// home there.
 pub fn steps_list_what_they_are_given()
     ensures { StepsListWhatTheyAreGiven }
 {}

@@ -15,7 +15,8 @@ use algebra::{Checked, Source, Step, StepList, StoreStep, Stores, Term};
 use rel_base::{Duplicate, Memory};
 use std::alloc::Global;
 
-/// A script without the steps that no store needs, whose joins test the rows of an atom before they are joined.
+/// A script without the steps that no store needs, whose joins test the rows of an atom before
+/// they are joined.
 #[derive(Debug, Drop)]
 pub struct Planned {
     /// The needed assignments, in order.
@@ -71,7 +72,8 @@ fn is_taken(number: u32, later: &[&Step]) -> bool
     later.iter().any(|step| uses(number, step))
 }
 
-/// Whether one of these stores stores the result of this statement, or one of these steps has it as a source.
+/// Whether one of these stores stores the result of this statement, or one of these steps has it
+/// as a source.
 fn is_used(number: u32, stores: &Stores, later: &[&Step]) -> bool
     ensures { result ≡ (list_any (λ s. is_result number s.source) stores.now
         || list_any (λ s. uses number (step_tree_of s.now)) later.now) }
@@ -86,14 +88,16 @@ fn is_taken_in(number: u32, steps: &[Step]) -> bool
     steps.iter().any(|step| uses(number, step))
 }
 
-/// Whether one of these stores stores the result of this statement, or one of these steps has it as a source.
+/// Whether one of these stores stores the result of this statement, or one of these steps has it
+/// as a source.
 fn is_used_in(number: u32, stores: &Stores, steps: &[Step]) -> bool
     ensures { result ≡ is_used number stores.now (map step_tree_of steps.now) }
 {
     is_stored(number, stores.as_slice()) || is_taken_in(number, steps)
 }
 
-/// Whether the first of these steps is the last one that has the result of this statement as a source, and no store stores it.
+/// Whether the first of these steps is the last one that has the result of this statement as a
+/// source, and no store stores it.
 pub fn is_last_use(number: u32, stores: &Stores, steps: &[Step]) -> bool
     ensures { result ≡ is_last_use number stores.now (map step_tree_of steps.now) }
 {
@@ -149,12 +153,14 @@ fn pushed_step(alloc: Global, step: &Step) -> Result<Step, Memory>
     })
 }
 
-/// The script with its needed steps alone, in which each test that reads columns of one atom alone is a keep of that atom.
+/// The script with its needed steps alone, in which each test that reads columns of one atom alone
+/// is a keep of that atom.
 ///
-/// So is the equality of columns of one atom that a variable holds; and nothing else is: a test without columns cuts candidates
-/// and stays where it did. Each atom's keeps hold of exactly the rows that its own columns don't rule out. What the script stores
-/// and the fault of its run are those of the script that is given, over any files. The time is that of the tests times the atoms,
-/// and of the square of the steps.
+/// So is the equality of columns of one atom that a variable holds; and nothing else is: a test
+/// without columns cuts candidates and stays where it did. Each atom's keeps hold of exactly the
+/// rows that its own columns don't rule out. What the script stores and the fault of its run are
+/// those of the script that is given, over any files. The time is that of the tests times the
+/// atoms, and of the square of the steps.
 pub fn rewrite(alloc: Global, checked: &Checked) -> Result<Planned, Memory>
     ensures rewritten { IfOk result
         (λ planned. IsRewritten (checked_tree_of checked.now) (planned_tree_of planned)) }

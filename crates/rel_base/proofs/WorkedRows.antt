@@ -10,6 +10,7 @@ use Rattle.rel_base.specs.Faults.{fault_text}
 use Rattle.rel_base.specs.Keys.{shelf_name_of}
 use Rattle.rel_base.specs.Picks.{items_at, every_nth}
 use Rattle.rel_base.specs.Values.{value_order, row_order}
+use Rattle.rel_base.specs.inner.Flat.{row_from, rows_from}
 
 -- a row of two numbers
 abbrev pair : ℤ → ℤ → List Value
@@ -57,3 +58,10 @@ every_second = refl
 
 pub places_picked : items_at {X = ℕ} (10 ∷ 11 ∷ 12 ∷ 13 ∷ 14 ∷ []) (3 ∷ 0 ∷ 3 ∷ 5 ∷ []) ≡ 13 ∷ 10 ∷ 13 ∷ []
 places_picked = refl
+
+-- of six values the two from the fourth on, and the rows of two that begin with the first and the fifth
+pub row_of_two : row_from {X = ℕ} 2 (20 ∷ 21 ∷ 22 ∷ 23 ∷ 24 ∷ 25 ∷ []) 3 ≡ 23 ∷ 24 ∷ []
+row_of_two = refl
+
+pub rows_of_two : rows_from {X = ℕ} 2 (20 ∷ 21 ∷ 22 ∷ 23 ∷ 24 ∷ 25 ∷ []) (0 ∷ 4 ∷ []) ≡ (20 ∷ 21 ∷ []) ∷ (24 ∷ 25 ∷ []) ∷ []
+rows_of_two = refl

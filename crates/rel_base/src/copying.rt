@@ -6,7 +6,8 @@ use std::alloc::Global;
 
 /// A type whose values can be copied where there is memory for it.
 ///
-/// std's `Clone` says of a clone that its parts are clones; this trait says that the copy equals its original.
+/// std's `Clone` says of a clone that its parts are clones; this trait says that the copy equals
+/// its original.
 pub trait Duplicate {
     /// An equal value, made of memory of `alloc`.
     fn copy(&self, alloc: Global) -> Result<Self, Memory>

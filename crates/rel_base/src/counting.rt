@@ -6,9 +6,9 @@ use std::sync::ledger::{Blank, Book, Ledger, Share};
 
 /// The number of steps that were counted in a ledger of std, which contracts see as that number.
 ///
-/// It has no bytes while the program runs. A ledger has one counter at most, since `start` takes the ledger itself, and
-/// no call makes the number smaller. A caller that counts nothing makes its counter of `Blank::new(1)`, at the ledger
-/// `Brand`.
+/// It has no bytes while the program runs. A ledger has one counter at most, since `start` takes
+/// the ledger itself, and no call makes the number smaller. A caller that counts nothing makes its
+/// counter of `Blank::new(1)`, at the ledger `Brand`.
 #[derive(Drop)]
 pub struct Steps<L: Ledger> {
     book: Book<L>,

@@ -212,8 +212,8 @@ fn part(values: &[Value], start: usize, len: usize) -> &[Value]
     &values[start..start + len]
 }
 
-/// Rows of one width that are left to be walked over, a fixed distance apart. Contracts see the list
-/// of these rows.
+/// Rows of one width that are left to be walked over, a fixed distance apart. Contracts see the
+/// list of these rows.
 #[derive(Drop)]
 pub struct RowRun<'a> {
     values: &'a [Value],
@@ -260,8 +260,8 @@ impl<'a> RowRun<'a> {
         RowRun::of(row, width, 0, 0, 1)
     }
 
-    /// So many rows of `width` values, of which the first begins at the place `next` and each further
-    /// one `step` values behind the one before it.
+    /// So many rows of `width` values, of which the first begins at the place `next` and each
+    /// further one `step` values behind the one before it.
     fn of(values: &'a [Value], width: usize, next: usize, step: usize, len: u32) -> RowRun<'a>
         requires { All (λ place. place + width ≤ length values.now) (stepped next step len) }
         ensures { result ≡ rows_from width values.entry.now (stepped next step len) }

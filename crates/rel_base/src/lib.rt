@@ -2,14 +2,16 @@
 //!
 //! Stands on std alone. Nothing here reads, writes or waits.
 //!
-//! Promises: values and rows are ordered by `value_order` and `row_order`; a copy equals its original; a relation's
-//! rows always have its columns' types. A list is seen by contracts as the list of its items, and `Steps` as the number
-//! of steps that were counted in its ledger. Lists of rows share blocks of rows: what copies, views, sorts and puts
-//! together copies no row that is shared. Rows of a block stand value after value, and a row is lent as a slice of its values.
-//! Not promised: that memory is there. `Memory` is the one error of this crate, and no clause says when it comes; what
-//! the faults of a run mean is said where scripts are run.
+//! Promises: values and rows are ordered by `value_order` and `row_order`; a copy equals its
+//! original; a relation's rows always have its columns' types. A list is seen by contracts as the
+//! list of its items, and `Steps` as the number of steps that were counted in its ledger. Lists of
+//! rows share blocks of rows: what copies, views, sorts and puts together copies no row that is
+//! shared. Rows of a block stand value after value, and a row is lent as a slice of its values.
+//! Not promised: that memory is there. `Memory` is the one error of this crate, and no clause says
+//! when it comes; what the faults of a run mean is said where scripts are run.
 //!
-//! Read `specs/Values.antt`, `specs/Bags.antt` and `specs/Relations.antt`, then `list.rt` and `rows.rt`.
+//! Read `specs/Values.antt`, `specs/Bags.antt` and `specs/Relations.antt`, then `list.rt` and
+//! `rows.rt`.
 #![tactic(auto)]
 
 mod beginnings;

@@ -61,7 +61,8 @@ impl Duplicate for Key {
     }
 }
 
-/// What the stores of a script stored, in the order of the stores. Unlike in `Files`, a key may stand more than once.
+/// What the stores of a script stored, in the order of the stores. Unlike in `Files`, a key may
+/// stand more than once.
 pub type Stored = Items<(Key, Relation)>;
 
 /// Relations under distinct keys, in the order in which they came.
@@ -123,7 +124,8 @@ impl Files {
         self.files.as_slice()
     }
 
-    /// Adds a file under a new key. After `Memory` the files are as they were, and this one is let go.
+    /// Adds a file under a new key. After `Memory` the files are as they were, and this one is let
+    /// go.
     pub fn push(&mut self, file: (Key, Relation)) -> Result<(), Memory>
         requires room { length self.old < 2 ^ 32 - 1 }
         requires new_key { holds_key self.old file.0 ≡ false }

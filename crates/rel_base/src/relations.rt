@@ -108,7 +108,8 @@ impl Duplicate for Relation {
     }
 }
 
-/// Law: a list of rows has one ascending order. What any sort makes of the rows is `sorted` of them.
+/// Law: a list of rows has one ascending order. What any sort makes of the rows is `sorted` of
+/// them.
 pub fn sorted_permutation_is_unique(rows: &[Row], others: &[Row])
     ensures { IsSortedPermutation rows.now others.now ↔ (others.now ≡ sorted rows.now) }
 {}

@@ -53,7 +53,8 @@ impl Values {
         }
     }
 
-    /// Adds a value at the end. After `Memory` the values are as they were, and the new one is let go.
+    /// Adds a value at the end. After `Memory` the values are as they were, and the new one is let
+    /// go.
     #[inline(always)]
     pub fn push(&mut self, alloc: Global, value: Value) -> Result<(), Memory>
         requires { HasPlaces self.old }
@@ -125,7 +126,8 @@ impl Values {
         }
     }
 
-    /// Puts a value into one of the row's own places, and gives what stood there. A row that has none gives it back.
+    /// Puts a value into one of the row's own places, and gives what stood there. A row that has
+    /// none gives it back.
     #[inline(always)]
     fn replace(&mut self, place: u8, value: Value) -> Value
         requires { place < 3 }

@@ -19,11 +19,13 @@ use std::cmp::Ordering;
 use std::marker::Model;
 use std::{fmt, mem};
 
-/// Rows, in the order in which they stand; the same row may stand more than once. Contracts see the list of the rows.
+/// Rows, in the order in which they stand; the same row may stand more than once. Contracts see
+/// the list of the rows.
 ///
-/// A list shares most of its rows with others: behind the rows of shared blocks stand rows of its own, as they were pushed.
-/// What copies, views and puts together copies no row that is shared; `freeze` shares the list's own rows by a move. Rows of
-/// one width stand value after value, and each is lent as a slice of values.
+/// A list shares most of its rows with others: behind the rows of shared blocks stand rows of its
+/// own, as they were pushed. What copies, views and puts together copies no row that is shared;
+/// `freeze` shares the list's own rows by a move. Rows of one width stand value after value, and
+/// each is lent as a slice of values.
 #[derive(Drop)]
 pub struct Rows {
     shared: SharedRows,
@@ -156,8 +158,8 @@ impl Rows {
         self.own.push_made(source)
     }
 
-    /// Puts the rows in ascending order. No value is copied or moved: the rows are shared, and their
-    /// order is kept. After `Memory` the list is as it was.
+    /// Puts the rows in ascending order. No value is copied or moved: the rows are shared, and
+    /// their order is kept. After `Memory` the list is as it was.
     pub fn sort(&mut self, alloc: Global) -> Result<(), Memory>
         ensures ok { OnOk result (IsSortedPermutation self.old self.new) }
         ensures err { OnErr result (self.new ≡ self.old) }
@@ -167,8 +169,8 @@ impl Rows {
         Ok(())
     }
 
-    /// Takes the last row, of which it makes a copy; `None` where the list is empty. The rows before
-    /// it are shared from then on. After `Memory` the list is as it was.
+    /// Takes the last row, of which it makes a copy; `None` where the list is empty. The rows
+    /// before it are shared from then on. After `Memory` the list is as it was.
     pub fn pop(&mut self, alloc: Global) -> Result<Option<Row>, Memory>
         ensures items { IfOk result (λ last. self.old ≡ self.new ++ option_to_list last) }
         ensures some { IfOk result (λ last. IsSome last ↔ (0 < length self.old)) }
@@ -213,8 +215,9 @@ impl Rows {
         })
     }
 
-    /// The rows from number `from` up to but not with number `to`, counted from 0. They are a view: each stretch takes
-    /// memory for itself alone, or four bytes a row where its rows don't stand a step apart. No row that is shared is copied.
+    /// The rows from number `from` up to but not with number `to`, counted from 0. They are a
+    /// view: each stretch takes memory for itself alone, or four bytes a row where its rows don't
+    /// stand a step apart. No row that is shared is copied.
     pub fn slice(&self, alloc: Global, from: u32, to: u32) -> Result<Rows, Memory>
         requires order { from ≤ to }
         requires within { to ≤ length self.now }
@@ -233,8 +236,9 @@ impl Rows {
         })
     }
 
-    /// The rows whose number, from 0, leaves the remainder `start` by the step. They are a view: each stretch takes memory for
-    /// itself alone, or four bytes a row where its rows don't stand a step apart. No row that is shared is copied.
+    /// The rows whose number, from 0, leaves the remainder `start` by the step. They are a view:
+    /// each stretch takes memory for itself alone, or four bytes a row where its rows don't stand
+    /// a step apart. No row that is shared is copied.
     pub fn every_nth(&self, alloc: Global, step: u32, start: u32) -> Result<Rows, Memory>
         requires { start < step }
         ensures { IfOk result (λ made. made ≡ every_nth self.now step start) }
@@ -297,7 +301,8 @@ impl Rows {
         Ok(Stretch::whole(block))
     }
 
-    /// Puts other rows behind these. No row is copied or moved. After `Memory` the list is as it was.
+    /// Puts other rows behind these. No row is copied or moved. After `Memory` the list is as it
+    /// was.
     pub fn append(&mut self, alloc: Global, other: Rows) -> Result<(), Memory>
         requires { length self.old + length other < 2 ^ 32 }
         ensures ok { OnOk result (self.new ≡ self.old ++ other) }
@@ -343,7 +348,8 @@ fn sorted_view(alloc: Global, rows: &Rows) -> Result<Rows, Memory>
     Ok(made)
 }
 
-/// A row behind what it begins with, and its number. Most of them compare without a look at the row.
+/// A row behind what it begins with, and its number. Most of them compare without a look at the
+/// row.
 type NumberedRow<'a> = (u8, i64, &'a [Value], u32);
 
 /// Each row, with what it begins with and its number.

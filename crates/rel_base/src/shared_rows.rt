@@ -13,7 +13,8 @@ use crate::{Duplicate, Memory, Value};
 use std::alloc::Global;
 use std::marker::Model;
 
-/// Shared rows, seen as the list of the rows. Each stretch has a row at least, and `starts` has the number of its first.
+/// Shared rows, seen as the list of the rows. Each stretch has a row at least, and `starts` has
+/// the number of its first.
 #[derive(Drop)]
 pub struct SharedRows {
     stretches: Vec<Stretch>,
@@ -89,7 +90,8 @@ impl SharedRows {
         Ok(())
     }
 
-    /// Shares rows, behind the others. None is copied; after a refusal they come back and all is as it was.
+    /// Shares rows, behind the others. None is copied; after a refusal they come back and all is
+    /// as it was.
     pub fn push_rows(&mut self, alloc: Global, rows: FlatRows) -> Result<(), FlatRows>
         requires { length self.old + length rows < 2 ^ 32 }
         ensures ok { OnOk result (self.new ≡ self.old ++ rows) }
@@ -173,8 +175,8 @@ impl SharedRows {
         Ok(run)
     }
 
-    /// The rows whose number, from 0, leaves the remainder `start` by the step: of each stretch its own, of which none is
-    /// copied.
+    /// The rows whose number, from 0, leaves the remainder `start` by the step: of each stretch
+    /// its own, of which none is copied.
     pub fn every_nth(&self, alloc: Global, step: u32, start: u32) -> Result<SharedRows, Memory>
         requires { start < step }
         ensures { IfOk result (λ made. made ≡ every_nth self.now step start) }

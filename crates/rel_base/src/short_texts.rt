@@ -4,7 +4,8 @@ ghost use Rattle.std.specs.Prelude.{◌≡◌, ◌≤◌, [], length};
 use std::marker::Model;
 use std::str;
 
-/// UTF-8 text of at most 22 bytes, which contracts see as its bytes. They lie in the value itself, behind their number.
+/// UTF-8 text of at most 22 bytes, which contracts see as its bytes. They lie in the value itself,
+/// behind their number.
 #[derive(Drop)]
 pub struct ShortText {
     len: u8,

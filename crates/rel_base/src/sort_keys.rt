@@ -4,8 +4,8 @@ ghost use Rattle.rel_base.specs.SortKeys.{IsKeyOf, IsDigitAt};
 
 /// The key of a text of these bytes.
 ///
-/// A string with the lesser key is the lesser one. Strings of one key are equal, or both go on after seven bytes, and
-/// then the key is odd.
+/// A string with the lesser key is the lesser one. Strings of one key are equal, or both go on
+/// after seven bytes, and then the key is odd.
 pub fn sort_key(bytes: &[u8]) -> u64
     ensures key { IsKeyOf bytes.now result }
     ensures bound { result < 2 ^ 63 }

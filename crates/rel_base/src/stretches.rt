@@ -104,8 +104,8 @@ impl Stretch {
         Ok(Stretch { block, selection })
     }
 
-    /// The rows whose number, from 0, leaves the remainder `start` by the step. No row is copied, and rows that stand a step
-    /// apart are a view, which takes no memory for each row.
+    /// The rows whose number, from 0, leaves the remainder `start` by the step. No row is copied,
+    /// and rows that stand a step apart are a view, which takes no memory for each row.
     pub fn every_nth(&self, alloc: Global, step: u32, start: u32) -> Result<Stretch, Memory>
         requires { start < step }
         ensures { IfOk result (λ made. made ≡ every_nth self.now step start) }
@@ -134,7 +134,8 @@ impl Stretch {
 impl Selection {
     ghost use Rattle.rel_base.specs.inner.Selections.{places_of};
 
-    /// The places, in a block of this length, of the rows with these numbers, where the first row has the number `first`.
+    /// The places, in a block of this length, of the rows with these numbers, where the first row
+    /// has the number `first`.
     fn places(
         &self,
         alloc: Global,
@@ -185,7 +186,8 @@ impl Selection {
 impl Selection {
     ghost use Rattle.rel_base.specs.inner.Selections.{places_of};
 
-    /// The places, in a block of this length, whose number leaves the remainder `start` by the step.
+    /// The places, in a block of this length, whose number leaves the remainder `start` by the
+    /// step.
     fn every_nth(&self, alloc: Global, len: u32, step: u32, start: u32) -> Result<Selection, Memory>
         requires order { start < step }
         requires within { All (λ p. p < len) (places_of self.now) }
@@ -211,8 +213,8 @@ impl Selection {
     }
 }
 
-/// The places of the rows with these numbers, where the first row has the number `first` and the place `start`, and each
-/// further row stands a step behind.
+/// The places of the rows with these numbers, where the first row has the number `first` and the
+/// place `start`, and each further row stands a step behind.
 fn places_by_step(
     alloc: Global,
     start: u32,

@@ -15,7 +15,8 @@ use std::mem::size_of;
 
 /// UTF-8 text, which contracts see as its bytes. It is ordered by its bytes.
 ///
-/// The text stands behind one pointer, so that a `Value` has 16 bytes. A short one takes one allocation, of 24 bytes.
+/// The text stands behind one pointer, so that a `Value` has 16 bytes. A short one takes one
+/// allocation, of 24 bytes.
 #[derive(Drop)]
 pub struct Text {
     boxed: Box<Letters>,

@@ -13,8 +13,8 @@ use std::mem::size_of;
 /// A row as it is made, before it goes into a list: at most 4,294,967,295 values, ordered column by
 /// column as std compares lists.
 ///
-/// Up to three values stand in the row itself, so that such a row has 56 bytes and takes no memory of
-/// its own. In a list a row is a slice of values.
+/// Up to three values stand in the row itself, so that such a row has 56 bytes and takes no memory
+/// of its own. In a list a row is a slice of values.
 #[derive(Drop)]
 pub struct Row {
     values: Values,
@@ -47,7 +47,8 @@ impl Row {
         }
     }
 
-    /// A row without values, with room for so many. It asks for memory only where they are more than three.
+    /// A row without values, with room for so many. It asks for memory only where they are more
+    /// than three.
     #[inline(always)]
     pub fn with_capacity(alloc: Global, room: u32) -> Result<Row, Memory>
         ensures { IfOk result (λ made. made ≡ []) }

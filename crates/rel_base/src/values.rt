@@ -17,8 +17,8 @@ pub enum ColType {
 
 /// One field of a row.
 ///
-/// Values of one type are ordered by number, by bytes, and false before true. Between types an int comes before a
-/// string and a string before a boolean.
+/// Values of one type are ordered by number, by bytes, and false before true. Between types an int
+/// comes before a string and a string before a boolean.
 #[derive(Debug, Drop)]
 pub enum Value {
     /// A number.

@@ -16,8 +16,9 @@ const CHUNK: usize = 65536;
 
 /// The files of the current folder, read through the runtime. It tells no content.
 ///
-/// A name is a path from the current folder. A path that is not there, as the empty one, is a miss. Every other
-/// error is a fault: a folder in a file's place, a name that is too long or has a NUL, a file that may not be read.
+/// A name is a path from the current folder. A path that is not there, as the empty one, is a
+/// miss. Every other error is a fault: a folder in a file's place, a name that is too long or has
+/// a NUL, a file that may not be read.
 #[derive(Drop)]
 pub struct FolderShelf<'r, R> {
     rt: &'r R,

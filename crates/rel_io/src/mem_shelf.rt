@@ -15,7 +15,8 @@ pub type Bytes = Items<u8>;
 /// Names, and the bytes of the file of each.
 pub type Contents = Items<(Text, Bytes)>;
 
-/// A shelf that holds its files in memory and tells them. It fails at chosen fetches and at no other.
+/// A shelf that holds its files in memory and tells them. It fails at chosen fetches and at no
+/// other.
 #[derive(Debug, Drop)]
 pub struct MemShelf {
     contents: Contents,
@@ -42,7 +43,8 @@ impl Model for MemShelf {
 impl MemShelf {
     ghost use Rattle.rel_io.specs.InMemory.{HasDistinctNames};
 
-    /// A shelf of these files, whose fetches of the numbers in `failing`, counted from 1, answer `Failed`.
+    /// A shelf of these files, whose fetches of the numbers in `failing`, counted from 1, answer
+    /// `Failed`.
     pub fn new(contents: Contents, failing: Places) -> MemShelf
         requires { HasDistinctNames contents }
         ensures { result ≡ record {

@@ -7,7 +7,8 @@ use rel_base::Places;
 use std::alloc::Global;
 use std::marker::Model;
 
-/// A sink that keeps in memory what it takes, and tells it. It fails at chosen writes and at no other.
+/// A sink that keeps in memory what it takes, and tells it. It fails at chosen writes and at no
+/// other.
 #[derive(Debug, Drop)]
 pub struct MemSink {
     taken: Vec<u8>,
@@ -37,8 +38,8 @@ impl Model for MemSink {
 }
 
 impl MemSink {
-    /// A sink that has taken nothing, takes at most `most` bytes of a piece, and answers `Failed` at the writes of
-    /// the numbers in `failing`, counted from 1.
+    /// A sink that has taken nothing, takes at most `most` bytes of a piece, and answers `Failed`
+    /// at the writes of the numbers in `failing`, counted from 1.
     pub fn new(alloc: Global, most: u64, failing: Places) -> MemSink
         requires { 0 < most }
         ensures { result ≡ record {

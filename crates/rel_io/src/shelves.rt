@@ -43,8 +43,8 @@ impl From<AllocError> for ShelfFault {
 
 /// Files that are read by their names.
 ///
-/// A shelf may tell its content, as one in memory does, or tell nothing. It counts its faults and its misses, so that
-/// each refusal has a cause that the caller can see.
+/// A shelf may tell its content, as one in memory does, or tell nothing. It counts its faults and
+/// its misses, so that each refusal has a cause that the caller can see.
 pub trait Shelf {
     // What is known of the file of each name.
     ghost content: { Self → List ℕ → Content };

@@ -28,8 +28,8 @@ impl Error for SinkFault {}
 
 /// Takes bytes, a piece at a time.
 ///
-/// A sink may tell what it took, as one in memory does, or tell nothing. It counts its faults and its wants of
-/// memory, so that each refusal has a cause that the caller can see.
+/// A sink may tell what it took, as one in memory does, or tell nothing. It counts its faults and
+/// its wants of memory, so that each refusal has a cause that the caller can see.
 pub trait Sink {
     // The bytes taken so far, where they are known.
     ghost taken: { Self → Option (List ℕ) };

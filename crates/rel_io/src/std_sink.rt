@@ -12,8 +12,8 @@ use std::marker::Model;
 
 /// A sink over a writer of std, as `rt.stdout()` and `rt.stderr()`.
 ///
-/// It has taken what the writer holds; standard output and standard error don't tell that. Every error of the writer
-/// is a fault, and so is taking nothing of a piece. It never wants for memory.
+/// It has taken what the writer holds; standard output and standard error don't tell that. Every
+/// error of the writer is a fault, and so is taking nothing of a piece. It never wants for memory.
 #[derive(Drop)]
 pub struct StdSink<W> {
     writer: W,

@@ -16,7 +16,8 @@ pub struct Totals {
 
 /// Counts rows. Each of its three sums stops at 18,446,744,073,709,551,615.
 ///
-/// A tap has a tag, which no call changes, so that contracts can tell taps apart whatever they have counted.
+/// A tap has a tag, which no call changes, so that contracts can tell taps apart whatever they
+/// have counted.
 pub trait Tap {
     // What tells the tap from others.
     ghost tag: { Self → ℕ };

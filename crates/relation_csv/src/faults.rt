@@ -3,8 +3,8 @@ use rel_base::Memory;
 use std::error::Error;
 use std::fmt;
 
-/// Why no relation was read from a file. The header is record 0, and later records count from 1; fields and columns
-/// count from 1.
+/// Why no relation was read from a file. The header is record 0, and later records count from 1;
+/// fields and columns count from 1.
 #[derive(Clone, Copy, Debug, PartialEq, Eq)]
 pub enum RelFault {
     /// The file has no record.

@@ -15,17 +15,19 @@ use std::thread::Threads;
 
 /// Reads the relation of a file.
 ///
-/// The records are those that the `csv` crate reads by default, save that the first is a record as the others are and
-/// that lengths may differ. The first is the header: 1 to 16 fields of text, each a name, a colon and a type, or the name
-/// alone of a string column. Each later one is a row of as many fields. An int is a sign or none and then digits, with a
-/// value in 64 bits; a boolean is `true` or `false` in any case; every text is a string.
+/// The records are those that the `csv` crate reads by default, save that the first is a record as
+/// the others are and that lengths may differ. The first is the header: 1 to 16 fields of text,
+/// each a name, a colon and a type, or the name alone of a string column. Each later one is a row
+/// of as many fields. An int is a sign or none and then digits, with a value in 64 bits; a boolean
+/// is `true` or `false` in any case; every text is a string.
 pub fn read_relation(alloc: Global, bytes: &[u8]) -> Result<Relation, RelFault>
     ensures { IsReadAs result (relation_of_bytes bytes.now) }
 {
     relation_by(alloc, bytes, &InTurn)
 }
 
-/// Reads the relation of a file as `read_relation` does: the lines of a large plain file side by side, in so many jobs.
+/// Reads the relation of a file as `read_relation` does: the lines of a large plain file side by
+/// side, in so many jobs.
 pub fn read_relation_in_jobs<R: Threads + Sync>(
     rt: &R,
     alloc: Global,
@@ -56,8 +58,8 @@ fn relation_by<P: PlainReader>(alloc: Global, bytes: &[u8], plain: &P) -> Result
 
 /// Reads the relation of a file without a header, under these columns.
 ///
-/// The first `skip` records are passed over unread, and the others are rows, counted from 1. With fewer records there
-/// are no rows.
+/// The first `skip` records are passed over unread, and the others are rows, counted from 1. With
+/// fewer records there are no rows.
 pub fn read_with(
     alloc: Global,
     bytes: &[u8],
@@ -69,8 +71,8 @@ pub fn read_with(
     relation_under(alloc, bytes, schema, skip, &InTurn)
 }
 
-/// Reads the relation of a file without a header as `read_with` does: the lines of a large plain file side by side, in so
-/// many jobs.
+/// Reads the relation of a file without a header as `read_with` does: the lines of a large plain
+/// file side by side, in so many jobs.
 pub fn read_with_in_jobs<R: Threads + Sync>(
     rt: &R,
     alloc: Global,
@@ -104,8 +106,8 @@ fn relation_under<P: PlainReader>(
     Ok(Relation::new(schema, rows))
 }
 
-/// Reads the rows of all records that are left, which are those behind the first `skip` of the file: where they stand, or
-/// else record by record.
+/// Reads the rows of all records that are left, which are those behind the first `skip` of the
+/// file: where they stand, or else record by record.
 fn rows_behind<P: PlainReader>(
     alloc: Global,
     schema: &Schema,

@@ -1,8 +1,9 @@
 //! Plain files in jobs: reads the lines of a file side by side.
 //!
-//! A text is cut behind line feeds into ranges, and a job reads the rows of each. Where no range has a quote or a carriage
-//! return its records are those of its ranges, one after another. A call here answers `None` where it can't tell, as the
-//! calls of `plain.rt` do: at a doubt in any range, and where there are too many rows.
+//! A text is cut behind line feeds into ranges, and a job reads the rows of each. Where no range
+//! has a quote or a carriage return its records are those of its ranges, one after another. A call
+//! here answers `None` where it can't tell, as the calls of `plain.rt` do: at a doubt in any
+//! range, and where there are too many rows.
 ghost use Rattle.std.specs.Prelude.{◌≡◌, ◌++◌, ◌<◌, ◌≤◌, ℕ, Ok, IfOk, IfSome, drop, length, map, slice_index_or};
 ghost use Rattle.std.specs.Thread.{IsSync};
 ghost use Rattle.relation_csv.specs.Files.{records_of_bytes, rows_of_records};
@@ -43,7 +44,8 @@ impl<R: Threads + Sync> PlainReader for InJobs<'_, R> {
     }
 }
 
-/// The rows behind the first `skip` records of a file, in so many jobs, if they can be read where they stand.
+/// The rows behind the first `skip` records of a file, in so many jobs, if they can be read where
+/// they stand.
 fn plain_rows_in_jobs<R: Threads + Sync>(
     rt: &R,
     alloc: Global,
@@ -81,7 +83,8 @@ fn ranges_of(alloc: Global, text: &str, count: usize) -> Result<Vec<&str>, Memor
     Ok(ranges)
 }
 
-/// Cuts a text in two behind the first line feed from there on. Where there is none, nothing is cut off.
+/// Cuts a text in two behind the first line feed from there on. Where there is none, nothing is
+/// cut off.
 fn split_behind_line(text: &str, from: usize) -> (&str, &str)
     requires { from ≤ length text.now }
     ensures whole { result.0.now ++ result.1.now ≡ text.now }

@@ -1,18 +1,22 @@
-//! Relations and their files: reads a CSV file as a relation, and writes a relation's header and rows as records.
+//! Relations and their files: reads a CSV file as a relation, and writes a relation's header and
+//! rows as records.
 //!
-//! Stands on `rel_base` for relations, on `csv` for the records of a file, on `memchr` for the ends of fields and on `itoa` for
-//! the text of numbers. Of std's threads it uses `map_vec`, in the two calls whose names end in `_in_jobs`.
+//! Stands on `rel_base` for relations, on `csv` for the records of a file, on `memchr` for the
+//! ends of fields and on `itoa` for the text of numbers. Of std's threads it uses `map_vec`, in
+//! the two calls whose names end in `_in_jobs`.
 //!
-//! Promises: a file is read as `relation_of_bytes` says, over the list of all its records: its relation, or the fault of
-//! the first record that has one; a file without a header is read as `relation_with` says, by the same words; a header
-//! and a row are written as `header_record` and `row_record` say, which are the `csv` crate's own text of their fields; a
-//! relation that is written so is read back.
-//! Not promised: that memory is there.
+//! Promises: a file is read as `relation_of_bytes` says, over the list of all its records: its
+//! relation, or the fault of the first record that has one; a file without a header is read as
+//! `relation_with` says, by the same words; a header and a row are written as `header_record` and
+//! `row_record` say, which are the `csv` crate's own text of their fields; a relation that is
+//! written so is read back. Not promised: that memory is there.
 //!
-//! A file without quotes and carriage returns is read where it stands (`plain.rt`), a large one in jobs if the caller asks
-//! for them (`jobs.rt`), and any other record by record. Every way to read keeps the same promise.
+//! A file without quotes and carriage returns is read where it stands (`plain.rt`), a large one in
+//! jobs if the caller asks for them (`jobs.rt`), and any other record by record. Every way to read
+//! keeps the same promise.
 //!
-//! Read `specs/Fields.antt`, `specs/Files.antt`, `specs/RecordTexts.antt` and `specs/RoundTrip.antt`, then `files.rt`.
+//! Read `specs/Fields.antt`, `specs/Files.antt`, `specs/RecordTexts.antt` and
+//! `specs/RoundTrip.antt`, then `files.rt`.
 #![tactic(auto)]
 
 mod faults;

@@ -1,8 +1,9 @@
 //! Plain files: reads the rows of a file where they stand.
 //!
-//! Where a file has no quote and no carriage return its records are its lines, and their fields lie between commas. There a
-//! value is made of the file's own bytes, and no record is copied first. A call here answers `None` where it can't tell: at
-//! a quote or a carriage return, at bytes that are not UTF-8, and at every fault, which the reader of records then finds.
+//! Where a file has no quote and no carriage return its records are its lines, and their fields
+//! lie between commas. There a value is made of the file's own bytes, and no record is copied
+//! first. A call here answers `None` where it can't tell: at a quote or a carriage return, at
+//! bytes that are not UTF-8, and at every fault, which the reader of records then finds.
 ghost use Rattle.std.specs.Prelude.{◌≡◌, ◌<◌, ◌≤◌, [], false, true, IfOk, IfSome, Ok, Some, drop, length, take};
 ghost use Rattle.std.specs.List.{list_any};
 ghost use Rattle.rel_base.specs.Limits.{most_rows};
@@ -26,8 +27,8 @@ pub(crate) trait PlainReader {
     /// What the reader needs before it reads.
     ghost is_ready: { Self → Type 0 };
 
-    /// The rows behind the first `skip` records of a file, if they can be read where they stand. They are shared from the
-    /// start.
+    /// The rows behind the first `skip` records of a file, if they can be read where they stand.
+    /// They are shared from the start.
     fn rows(
         &self,
         alloc: Global,
@@ -57,8 +58,8 @@ impl PlainReader for InTurn {
     }
 }
 
-/// The rows behind the first `skip` records of a file, line by line, if they can be read where they stand. They are shared
-/// from the start.
+/// The rows behind the first `skip` records of a file, line by line, if they can be read where
+/// they stand. They are shared from the start.
 pub(crate) fn plain_rows(
     alloc: Global,
     schema: &Schema,
@@ -178,8 +179,8 @@ fn line_of(text: &str) -> Option<&str>
     Some(left)
 }
 
-/// Adds the row of the record with which a text begins, the next one behind these rows, and gives what stands behind the
-/// record. The row is made in one that is empty before and behind.
+/// Adds the row of the record with which a text begins, the next one behind these rows, and gives
+/// what stands behind the record. The row is made in one that is empty before and behind.
 #[inline(always)]
 fn push_row_of<'a>(
     alloc: Global,
@@ -262,7 +263,8 @@ fn first_number(text: &str) -> Option<(&str, i64, bool, &str)>
     }
 }
 
-/// The first field of a text, whether another one follows it in its record, and what stands behind it.
+/// The first field of a text, whether another one follows it in its record, and what stands behind
+/// it.
 #[inline(always)]
 fn first_field(text: &str) -> Option<(&str, bool, &str)>
     ensures begins { IfSome result (λ (field, more, rest).

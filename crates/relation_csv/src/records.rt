@@ -32,7 +32,8 @@ pub(crate) fn reader_of(alloc: Global, bytes: &[u8]) -> Reader<&[u8]>
 
 /// Reads the next record into `fields`.
 ///
-/// A slice is read without fail and records of any lengths are taken, so want of memory is the one other error.
+/// A slice is read without fail and records of any lengths are taken, so want of memory is the one
+/// other error.
 pub(crate) fn read_next(
     reader: &mut Reader<&[u8]>,
     fields: &mut StringRecord,

@@ -1,7 +1,8 @@
 //! Texts: writes the records of a header and of a row.
 //!
-//! The text is the one that the `csv` crate's writer gives, and it is put together here: that writer holds bytes back
-//! in a buffer of its own, and promises nothing of what was written before an error.
+//! The text is the one that the `csv` crate's writer gives, and it is put together here: that
+//! writer holds bytes back in a buffer of its own, and promises nothing of what was written before
+//! an error.
 ghost use Rattle.std.specs.Prelude.{◌≡◌, ℕ, List, [], ◌++◌, ◌==◌, if◌then◌else◌, codes, length, map, string_bytes, IfOk, OnOk, OnErr};
 ghost use Rattle.std.specs.Fmt.{signed_decimal};
 ghost use Rattle.csv.specs.Writing.{default_writer, field_text, needs_quotes, row_body, row_text};

@@ -15,7 +15,8 @@ use std::marker::Model;
 /// Batches, each with the cell that it goes to.
 pub(crate) type Shipments = Vec<(u32, Batch)>;
 
-/// The batches that one worker fills, and the places of those rows of one atom that are not in a batch yet.
+/// The batches that one worker fills, and the places of those rows of one atom that are not in a
+/// batch yet.
 #[derive(Drop)]
 pub(crate) struct Filling<'a> {
     alloc: Global,

@@ -1,14 +1,17 @@
-//! One exchange: the rows of some atoms go from the workers at which they lie to those that a route names.
+//! One exchange: the rows of some atoms go from the workers at which they lie to those that a
+//! route names.
 //!
-//! Stands on `exchange_channels` for inboxes and receipts, on `crew` for jobs side by side, on `rel_io` for taps, on
-//! `rel_base` for rows and lists, and on `arrayvec` for the cells of a row. Knows no expression and no join.
+//! Stands on `exchange_channels` for inboxes and receipts, on `crew` for jobs side by side, on
+//! `rel_io` for taps, on `rel_base` for rows and lists, and on `arrayvec` for the cells of a row.
+//! Knows no expression and no join.
 //!
-//! Promises: on Ok each worker has, as a bag, the rows that go to it, and the receipt shows for each pair of workers the
-//! rows that went from the one to the other, in batches of 1 to `batch` rows; the taps were told just these rows. After
-//! every answer the taps stand in their order, only those of the exchange's workers have moved, and as many rows were sent
-//! as were received. No row is copied where the parts hold shared rows alone.
-//! Not promised: that memory is there; that the call returns, since jobs wait for one another; the order in which a worker
-//! receives rows.
+//! Promises: on Ok each worker has, as a bag, the rows that go to it, and the receipt shows for
+//! each pair of workers the rows that went from the one to the other, in batches of 1 to `batch`
+//! rows; the taps were told just these rows. After every answer the taps stand in their order,
+//! only those of the exchange's workers have moved, and as many rows were sent as were received.
+//! No row is copied where the parts hold shared rows alone. Not promised: that memory is there;
+//! that the call returns, since jobs wait for one another; the order in which a worker receives
+//! rows.
 //!
 //! Read `routes.rt`, `specs/Routes.antt`, `specs/Exchanges.antt`, then `exchanging.rt`.
 #![tactic(auto)]

@@ -11,8 +11,8 @@ use rel_io::Tap;
 use std::alloc::Global;
 use std::sync::Wait;
 
-/// Takes all that was sent to a worker, and puts the rows of each atom together, of which there are so many. Batches of
-/// other atoms are let go. After `Memory` all was taken, and is let go.
+/// Takes all that was sent to a worker, and puts the rows of each atom together, of which there
+/// are so many. Batches of other atoms are let go. After `Memory` all was taken, and is let go.
 pub(crate) fn receive<R: Wait, T: Tap>(
     rt: &R,
     alloc: Global,

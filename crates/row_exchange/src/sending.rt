@@ -15,8 +15,9 @@ use rel_io::Tap;
 use std::alloc::Global;
 use std::sync::Wait;
 
-/// Sends the rows of a worker to their cells, and then the end marks. All batches are filled before the first is sent, so
-/// that after `Memory` nothing was sent but the end marks. The tap is told of each batch once it was handed over.
+/// Sends the rows of a worker to their cells, and then the end marks. All batches are filled
+/// before the first is sent, so that after `Memory` nothing was sent but the end marks. The tap is
+/// told of each batch once it was handed over.
 pub(crate) fn send<R: Wait, W: Route, T: Tap>(
     rt: &R,
     alloc: Global,

@@ -26,7 +26,8 @@ pub(crate) struct Outgoing<'a, W, T> {
     pub(crate) tap: T,
 }
 
-/// The receiving half of a worker: before it ran its intake, afterwards its intake's end and what it received.
+/// The receiving half of a worker: before it ran its intake, afterwards its intake's end and what
+/// it received.
 pub(crate) struct Incoming<T> {
     pub(crate) alloc: Global,
     pub(crate) atoms: u32,

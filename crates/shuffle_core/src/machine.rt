@@ -8,8 +8,8 @@ use rel_base::Memory;
 use std::alloc::Global;
 use std::marker::Model;
 
-/// A bounded inbox of numbered senders. Contracts see its number of senders and its capacity, what each sender sent,
-/// the posts that wait, and the posts that were got, all in order.
+/// A bounded inbox of numbered senders. Contracts see its number of senders and its capacity, what
+/// each sender sent, the posts that wait, and the posts that were got, all in order.
 #[derive(Drop)]
 pub struct Inbox {
     senders: u32,
@@ -52,8 +52,8 @@ impl Inbox {
         })
     }
 
-    /// What the inbox answers to the event, which changes it only where the answer is `Sent` or `Took`.
-    /// After `Memory` it is as it was.
+    /// What the inbox answers to the event, which changes it only where the answer is `Sent` or
+    /// `Took`. After `Memory` it is as it was.
     pub fn step(&mut self, event: Event) -> Result<Stepped, Memory>
         ensures answer { IfOk result (λ answer. answer ≡ answer_of self.old event) }
         ensures after { OnOk result (self.new ≡ after_event self.old event) }

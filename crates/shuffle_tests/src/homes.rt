@@ -8,8 +8,8 @@ use std::alloc::Global;
 use std::sync::Wait;
 use std::thread::Threads;
 
-/// The four numbers at the homes of their keys, at two workers: how many rows there are, and what the
-/// taps were told.
+/// The four numbers at the homes of their keys, at two workers: how many rows there are, and what
+/// the taps were told.
 fn four_at_home<R: Threads + Wait + Sync>(
     rt: &R,
     alloc: Global,

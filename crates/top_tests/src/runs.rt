@@ -1,5 +1,5 @@
-//! Whole runs over files and sinks in memory. `examples/` and `checks/` have the answers that need neither a failing shelf nor
-//! a failing sink.
+//! Whole runs over files and sinks in memory. `examples/` and `checks/` have the answers that need
+//! neither a failing shelf nor a failing sink.
 ghost use Rattle.std.specs.Prelude.{◌≡◌, false, IfOk, nat_eq};
 ghost use Rattle.std.specs.Cmp.Lexicographic.{pointwise};
 ghost use Rattle.rel_io.specs.InMemory.{HasDistinctNames};

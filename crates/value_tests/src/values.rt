@@ -1,4 +1,5 @@
-//! Values, rows, relations and keys. What orders, codes and texts are is said by clauses and worked rows.
+//! Values, rows, relations and keys. What orders, codes and texts are is said by clauses and
+//! worked rows.
 ghost use Rattle.std.specs.Prelude.{◌≡◌, ◌<◌};
 
 use rel_base::{

@@ -11,7 +11,8 @@ pub struct WordRange {
     pub greatest: u64,
 }
 
-/// Adds the words of one column of rows that stand one after another, and says between which they are.
+/// Adds the words of one column of rows that stand one after another, and says between which they
+/// are.
 ///
 /// Of no rows the range is of no meaning.
 pub(crate) fn push_column(

@@ -14,10 +14,12 @@ use rel_base::{ColType, Memory, Parts, Text, Value};
 use std::alloc::Global;
 use std::marker::Model;
 
-/// The strings of rows, each once and in ascending byte order, which contracts see as the list of the strings.
+/// The strings of rows, each once and in ascending byte order, which contracts see as the list of
+/// the strings.
 ///
-/// A value has a word under a dictionary: an int is its number plus 2^63, a boolean 0 or 1, and a string its rank among
-/// the strings. Words of one type compare as their values do; words of two types may coincide.
+/// A value has a word under a dictionary: an int is its number plus 2^63, a boolean 0 or 1, and a
+/// string its rank among the strings. Words of one type compare as their values do; words of two
+/// types may coincide.
 #[derive(Drop)]
 pub struct Dictionary {
     texts: Texts,

@@ -9,8 +9,8 @@ use crate::text_keys::TextKeys;
 use std::cmp::Ordering;
 use std::marker::Model;
 
-/// A string of the rows beside its keys, which contracts see as the string's bytes. It is ordered by
-/// its bytes.
+/// A string of the rows beside its keys, which contracts see as the string's bytes. It is ordered
+/// by its bytes.
 #[derive(Drop)]
 pub(crate) struct Keyed<'a> {
     keys: TextKeys,

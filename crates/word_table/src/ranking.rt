@@ -8,7 +8,8 @@ use crate::numbering::Occurrence;
 use rel_base::Memory;
 use std::alloc::Global;
 
-/// The strings of occurrences that ascend, each once, and in the place of each occurrence the rank of its string.
+/// The strings of occurrences that ascend, each once, and in the place of each occurrence the rank
+/// of its string.
 pub(crate) fn ranked<'a>(
     alloc: Global,
     found: &[Occurrence<'a>],

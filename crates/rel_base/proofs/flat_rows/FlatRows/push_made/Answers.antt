@@ -1,4 +1,4 @@
-use Rattle.std.proofs.Common.{ℕ, ◌≡◌, ◌∙◌, ◌+◌, ◌*◌, ◌<◌, ◌^◌, List, [], ◌∷◌, ◌++◌, length, take, sym, ap, arith, rules, length-append, Fits, w32}
+use Rattle.std.proofs.Common.{◌≡◌, ◌∙◌, ◌+◌, ◌*◌, ◌<◌, ◌^◌, [], ◌∷◌, ◌++◌, length, take, sym, ap, arith, rules, length-append}
 use Rattle.rel_base.specs.inner.Flat.{rows_from}
 use Rattle.rel_base.specs.inner.Strides.{stepped}
 use Rattle.rel_base.proofs.FlatLemmas.{length-rows, rows_more, rows_of_width}
