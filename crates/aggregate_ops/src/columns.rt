@@ -8,7 +8,7 @@ ghost use Rattle.aggregate_ops.specs.Columns.{column, Overflows};
 ghost use Rattle.aggregate_ops.specs.inner.Reading.{row_of, rows_of, value_of};
 
 use crate::AggFault;
-use crate::keys::order_of;
+use crate::keys::order_in;
 use crate::reading::{GroupedRow, GroupedRows, ReadValue};
 use algebra::EmitKind;
 use myrial_ast::AggOp;
@@ -16,6 +16,7 @@ use rel_base::Value;
 use std::alloc::Global;
 
 /// The number of a row at a place; where there is none 0.
+#[inline(always)]
 fn number_in(row: &GroupedRow<'_>, place: usize) -> i64
     ensures value { result ≡ number_of (value_at (row_of row.now) place) }
     ensures low { neg_ℤ (pos (2 ^ 63)) ≤ℤ result }
@@ -28,6 +29,7 @@ fn number_in(row: &GroupedRow<'_>, place: usize) -> i64
 }
 
 /// A sum with the number of a row at a place more.
+#[inline(always)]
 fn with_number(sum: i128, row: &GroupedRow<'_>, place: usize) -> i128
     requires least { neg_ℤ (pos (2 ^ 100)) ≤ℤ sum }
     requires greatest { sum ≤ℤ pos (2 ^ 100) }
@@ -57,14 +59,14 @@ fn least<'a>(first: GroupedRow<'a>, rest: GroupedRows<'a>, place: usize) -> Read
     ensures { value_of result
         ≡ fold lesser (value_at (row_of first.entry) place) (column (rows_of rest.entry) place) }
 {
-    let mut best = first.read(place);
+    let mut best = first;
     for i in 0..rest.len() {
-        let value = rest.get(i).read(place);
-        if order_of(value.value(), best.value()).is_lt() {
-            best = value;
+        let row = rest.get(i);
+        if order_in(&row, place, &best, place).is_lt() {
+            best = row;
         }
     }
-    best
+    best.read(place)
 }
 
 /// The greatest value in a column of these rows, of which there is a first.
@@ -72,14 +74,14 @@ fn greatest<'a>(first: GroupedRow<'a>, rest: GroupedRows<'a>, place: usize) -> R
     ensures { value_of result
         ≡ fold greater (value_at (row_of first.entry) place) (column (rows_of rest.entry) place) }
 {
-    let mut best = first.read(place);
+    let mut best = first;
     for i in 0..rest.len() {
-        let value = rest.get(i).read(place);
-        if order_of(value.value(), best.value()).is_gt() {
-            best = value;
+        let row = rest.get(i);
+        if order_in(&row, place, &best, place).is_gt() {
+            best = row;
         }
     }
-    best
+    best.read(place)
 }
 
 /// A sum, where it lies in 64 bits.

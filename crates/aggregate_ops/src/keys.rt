@@ -32,7 +32,7 @@ pub fn order_at(
     let [other_place, others @ ..] = others else {
         return Ordering::Greater;
     };
-    let order = order_in(row, *place, other, *other_place);
+    let order = order_in(row, *place as usize, other, *other_place as usize);
     if order.is_ne() {
         return order;
     }
@@ -40,12 +40,22 @@ pub fn order_at(
 }
 
 /// How the values of two rows, each at a place, compare.
-fn order_in(row: &GroupedRow<'_>, place: u32, other: &GroupedRow<'_>, other_place: u32) -> Ordering
+#[inline(always)]
+pub fn order_in(
+    row: &GroupedRow<'_>,
+    place: usize,
+    other: &GroupedRow<'_>,
+    other_place: usize,
+) -> Ordering
     ensures { result ≡ value_order (value_at (row_of row.now) place)
         (value_at (row_of other.now) other_place) }
 {
-    let (place, other_place) = (place as usize, other_place as usize);
     match (row, other) {
+        (GroupedRow::Packed(word, columns), GroupedRow::Packed(other, others))
+            if place < columns.len() && other_place < others.len() =>
+        {
+            columns[place].order(*word, others[other_place], *other)
+        }
         (GroupedRow::Lent(row), GroupedRow::Lent(other))
             if place < row.len() && other_place < other.len() => {
             order_of(&row[place], &other[other_place])

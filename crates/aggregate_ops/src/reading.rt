@@ -28,6 +28,7 @@ pub enum ReadValue<'a> {
 
 impl<'a> ReadValue<'a> {
     /// The value.
+    #[inline(always)]
     pub fn value(&self) -> &Value
         ensures { result.now ≡ value_of self.now }
     {
@@ -50,6 +51,7 @@ impl<'a> ReadValue<'a> {
 
 impl<'a> GroupedRow<'a> {
     /// The value at a place; past the end the number 0.
+    #[inline(always)]
     pub fn read(self, place: usize) -> ReadValue<'a>
         ensures { value_of result ≡ value_at (row_of self.entry) place }
     {
@@ -117,6 +119,7 @@ impl<'a> GroupedRows<'a> {
     }
 
     /// Row number `i`, from 0.
+    #[inline(always)]
     pub fn get(self, i: usize) -> GroupedRow<'a>
         requires { i < length (rows_of self) }
         ensures { row_of result ≡ slice_index_or (rows_of self.entry) i [] }
