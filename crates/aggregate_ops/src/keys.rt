@@ -52,8 +52,7 @@ pub fn order_in(
 {
     match (row, other) {
         (GroupedRow::Packed(word, columns), GroupedRow::Packed(other, others))
-            if place < columns.len() && other_place < others.len() =>
-        {
+            if place < columns.len() && other_place < others.len() => {
             columns[place].order(*word, others[other_place], *other)
         }
         (GroupedRow::Lent(row), GroupedRow::Lent(other))
