@@ -4,5 +4,4 @@ pub mod CellLemmas
 pub mod BagLemmas
 pub mod StepLemmas
 pub mod FitLemmas
-pub mod ReadLemmas
 pub mod EmitLemmas

@@ -1,6 +1,7 @@
 -- Counting the rows of a run, one by one.
 use Rattle.std.proofs.Common.{◌≡◌, ℕ, zero, suc, ◌+◌, ◌-◌, ◌<◌, ◌≤◌, ◌⊎◌, inl, inr, is_lt, Bool, true, false, not, List, [], ◌∷◌, length, map, take, drop, get_or, refl, sym, ◌∙◌, ap, arith}
-use Rattle.std.specs.Prelude.{IsPermutation, ◌&&◌, ◌||◌}
+use Rattle.std.specs.Prelude.{IsPermutation, ◌&&◌, ◌||◌, pos}
+use Rattle.rel_base.specs.declared.values.Value.TheVariants as value
 use Rattle.std.specs.List.{list_all, list_any}
 use Rattle.std.specs.declared.cmp.Ordering.{Ordering}
 use Rattle.std.specs.declared.cmp.Ordering.TheVariants.{Less, Equal, Greater}
@@ -15,7 +16,11 @@ use Rattle.rel_base.specs.ValueLaws.{row_order_total}
 use Rattle.myrial_ast.specs.Combinations.{Row, Rows}
 use Rattle.myrial_ast.specs.Bags.{same_row}
 use Rattle.bag_laws.proofs.PartialLemmas.{tied}
+use Rattle.myrial_ast.specs.Scalars.{value_at}
 use Rattle.aggregate_ops.specs.Columns.{key_at}
+use Rattle.aggregate_ops.specs.declared.packed_columns.PackedColumn.{PackedColumn}
+use Rattle.aggregate_ops.specs.inner.Reading.{unpacked_row}
+use Rattle.aggregate_ops.specs.inner.Words.{unpacked}
 
 -- a row comes neither before itself nor behind itself
 pub even : (row : Row) → Equal ≡ row_order row row
@@ -105,3 +110,40 @@ list_all-same p xs ys h =
 pub list_all-true : {X : Type 0} (xs : List X) → list_all (λ x. true) xs ≡ true
 list_all-true [] = refl
 list_all-true (x ∷ xs) = list_all-true xs
+
+-- ---- keys of words
+
+-- the key of a word's row in columns that it has
+module _ (columns : List PackedColumn) where
+  value-of : (place : ℕ) (c : PackedColumn) (word : ℕ) → place < length columns → c ≡ get_or columns place c
+      → value_at (unpacked_row columns word) place ≡ unpacked c.shift c.mask c.least c.is_truth word
+  value-of place c word low is =
+      let tell = λ (o : PackedColumn). unpacked o.shift o.mask o.least o.is_truth word in
+      get_or-map tell columns place c (value.Int (pos 0)) low ∙ ap tell (sym is)
+
+  keys-of-one : (place : ℕ) (c : PackedColumn) (words : List ℕ) → place < length columns → c ≡ get_or columns place c
+      → map (key_at (place ∷ [])) (map (unpacked_row columns) words) ≡ map (unpacked_row (c ∷ [])) words
+  keys-of-one place c [] low is = refl
+  keys-of-one place c (word ∷ words) low is = λ i. (value-of place c word low is i ∷ []) ∷ keys-of-one place c words low is i
+
+  keys-of-two : (place other : ℕ) (c d : PackedColumn) (words : List ℕ) → place < length columns → c ≡ get_or columns place c
+      → other < length columns → d ≡ get_or columns other d
+      → map (key_at (place ∷ other ∷ [])) (map (unpacked_row columns) words) ≡ map (unpacked_row (c ∷ d ∷ [])) words
+  keys-of-two place other c d [] low is low2 is2 = refl
+  keys-of-two place other c d (word ∷ words) low is low2 is2 =
+      λ i. (value-of place c word low is i ∷ value-of other d word low2 is2 i ∷ []) ∷ keys-of-two place other c d words low is low2 is2 i
+
+  -- the keys by one place are told by its column, and by two by both
+  pub keys-by-one : (places : List ℕ) (c : PackedColumn) (words : List ℕ) → length places ≡ 1 → get_or places 0 0 < length columns
+      → c ≡ get_or columns (get_or places 0 0) c → map (key_at places) (map (unpacked_row columns) words) ≡ map (unpacked_row (c ∷ [])) words
+  keys-by-one [] c words long low is = absurd (omega (arith, long))
+  keys-by-one (place ∷ []) c words long low is = keys-of-one place c words low is
+  keys-by-one (place ∷ more ∷ places) c words long low is = absurd (omega (arith, long))
+
+  pub keys-by-two : (places : List ℕ) (c d : PackedColumn) (words : List ℕ) → length places ≡ 2 → get_or places 0 0 < length columns
+      → c ≡ get_or columns (get_or places 0 0) c → get_or places 1 0 < length columns → d ≡ get_or columns (get_or places 1 0) d
+      → map (key_at places) (map (unpacked_row columns) words) ≡ map (unpacked_row (c ∷ d ∷ [])) words
+  keys-by-two [] c d words long low is low2 is2 = absurd (omega (arith, long))
+  keys-by-two (place ∷ []) c d words long low is low2 is2 = absurd (omega (arith, long))
+  keys-by-two (place ∷ other ∷ []) c d words long low is low2 is2 = keys-of-two place other c d words low is low2 is2
+  keys-by-two (place ∷ other ∷ more ∷ places) c d words long low is low2 is2 = absurd (omega (arith, long))

@@ -112,19 +112,20 @@ pub fn cell(
     ensures fault { IfErr result (λ fault. Overflows fault
         (sum_fits (kind_of_emit kind) (cell (kind_of_emit kind) (column (rows_of run.entry) place)))) }
 {
-    if run.len() == 0 {
-        return Ok(Value::Int(0));
-    }
-    let (first, rest) = (run.get(0), run.behind(1));
     match kind {
-        EmitKind::Key => Ok(first.read(place).into_value(alloc)?),
         EmitKind::Agg(AggOp::CountAll) => Ok(Value::Int(run.len() as i64)),
         EmitKind::Agg(AggOp::Count) => Ok(Value::Int(run.len() as i64)),
         EmitKind::Agg(AggOp::Sum) => match whole(total(run, place)) {
             Ok(number) => Ok(Value::Int(number)),
             Err(fault) => Err(fault),
         },
-        EmitKind::Agg(AggOp::Min) => Ok(least(first, rest, place).into_value(alloc)?),
-        EmitKind::Agg(AggOp::Max) => Ok(greatest(first, rest, place).into_value(alloc)?),
+        _ if run.len() == 0 => Ok(Value::Int(0)),
+        EmitKind::Key => Ok(run.get(0).read(place).into_value(alloc)?),
+        EmitKind::Agg(AggOp::Min) => {
+            Ok(least(run.get(0), run.behind(1), place).into_value(alloc)?)
+        }
+        EmitKind::Agg(AggOp::Max) => {
+            Ok(greatest(run.get(0), run.behind(1), place).into_value(alloc)?)
+        }
     }
 }

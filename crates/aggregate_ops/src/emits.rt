@@ -45,7 +45,8 @@ impl<'a> Emits<'a> {
 }
 
 /// The value of a column that the row has, or of a literal.
-fn picked<'a>(pick: &'a Scalar, values: &'a [Value]) -> Option<&'a Value>
+#[inline(always)]
+pub fn picked<'a>(pick: &'a Scalar, values: &'a [Value]) -> Option<&'a Value>
     ensures { IfSome result (λ value. value.now
         ≡ exact_value (scalar_tree_of pick.entry.now) values.entry.now) }
 {

@@ -73,9 +73,16 @@ pub fn order_between(places: &[u32], rows: GroupedRows<'_>, i: usize, j: usize) 
     ensures { result ≡ row_order (key_at places.now (slice_index_or (rows_of rows.entry) i []))
         (key_at places.now (slice_index_or (rows_of rows.entry) j [])) }
 {
-    match rows.as_words() {
-        Some((words, columns)) => order_of_words(columns, places, words[i], words[j]),
-        None => order_at(&rows.get(i), places, &rows.get(j), places),
+    match rows {
+        GroupedRows::Packed(words, columns) => {
+            order_of_words(columns, places, words[i], words[j])
+        }
+        GroupedRows::Lent(rows) => order_at(
+            &GroupedRow::Lent(rows[i]),
+            places,
+            &GroupedRow::Lent(rows[j]),
+            places,
+        ),
     }
 }
 

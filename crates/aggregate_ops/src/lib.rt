@@ -32,6 +32,7 @@ mod picking;
 mod reading;
 mod runs;
 mod spans;
+mod word_runs;
 
 pub use bags::{append, difference, distinct};
 pub use faults::AggFault;

@@ -1,88 +1,18 @@
 //! The operators on bags, over rows that are packed in words.
-ghost use Rattle.std.specs.Prelude.{◌≡◌, ◌+◌, ◌-◌, ◌<◌, ◌≤◌, ◌^◌, ◌++◌, ◌∷◌, [], if◌then◌else◌, IsTrue, map, length, OnOk, IfOk, IfSome, IsSorted, ⊤};
+ghost use Rattle.std.specs.Prelude.{◌≡◌, ◌-◌, ◌<◌, ◌^◌, ◌++◌, ◌∷◌, [], if◌then◌else◌, map, length, OnOk, IfOk, IfSome, IsSorted, ⊤};
 ghost use Rattle.rel_base.specs.Bags.{SameBag};
 ghost use Rattle.rel_base.specs.Values.{row_order};
 ghost use Rattle.myrial_ast.specs.Bags.{difference};
 ghost use Rattle.aggregate_ops.specs.inner.Reading.{unpacked_row};
-ghost use Rattle.aggregate_ops.specs.inner.Runs.{IsRun, IsBelow, begins};
 
 use crate::emits::Emits;
 use crate::packed_columns::PackedColumn;
 use crate::packing::{in_order, packed_columns, words_of};
 use crate::spans::{ScannedColumn, guessed_columns, scanned_columns};
+use crate::word_runs::{are_in_order, begins_with, repeats, words_below};
 use rel_base::{MOST_COLUMNS, Memory, RowSource, Rows, Value};
 use std::alloc::Global;
-use std::cmp::Ordering;
 use std::marker::Model;
-
-/// How the rows of two words compare.
-fn word_order(columns: &[PackedColumn], word: u64, other: u64) -> Ordering
-    ensures { result ≡ row_order (unpacked_row columns.now word) (unpacked_row columns.now other) }
-{
-    if word == other {
-        return Ordering::Equal;
-    }
-    match columns {
-        [] => Ordering::Equal,
-        [column, columns @ ..] => {
-            let order = column.order(word, *column, other);
-            if order.is_ne() {
-                return order;
-            }
-            word_order(columns, word, other)
-        }
-    }
-}
-
-/// Whether the rows of the words stand in ascending order.
-fn are_in_order(columns: &[PackedColumn], words: &[u64]) -> bool
-    ensures { IsTrue result → IsSorted row_order (map (unpacked_row columns.now) words.now) }
-{
-    let mut count = 1;
-    while count < words.len() {
-        if word_order(columns, words[count], words[count - 1]).is_lt() {
-            return false;
-        }
-        count += 1;
-    }
-    true
-}
-
-/// How many words at the front have the row of the first.
-fn repeats(columns: &[PackedColumn], words: &[u64]) -> usize
-    requires { 0 < length words.now }
-    ensures { IsRun (map (unpacked_row columns.now) words.now) result }
-{
-    let first = words[0];
-    let mut count = 1;
-    while count < words.len() && word_order(columns, first, words[count]).is_eq() {
-        count += 1;
-    }
-    count
-}
-
-/// How many words at the front have a row that comes before that of a word.
-fn words_below(columns: &[PackedColumn], words: &[u64], word: u64) -> usize
-    ensures { IsBelow (map (unpacked_row columns.now) words.now) (unpacked_row columns.now word)
-        result }
-{
-    let mut count = 0;
-    while count < words.len() && word_order(columns, words[count], word).is_lt() {
-        count += 1;
-    }
-    count
-}
-
-/// Whether the first of the words has the row of this one.
-fn begins_with(columns: &[PackedColumn], words: &[u64], word: u64) -> bool
-    ensures { result
-        ≡ begins (map (unpacked_row columns.now) words.now) (unpacked_row columns.now word) }
-{
-    match words {
-        [] => false,
-        [first, ..] => word_order(columns, word, *first).is_eq(),
-    }
-}
 
 /// A word, as the row that it tells.
 #[derive(Drop)]
@@ -105,6 +35,7 @@ impl<'a> Model for WordRow<'a> {
 
 impl<'a> WordRow<'a> {
     /// The row that a word tells in these columns.
+    #[inline(always)]
     fn of(columns: &'a [PackedColumn], word: u64) -> WordRow<'a>
         requires { length columns.now < 2 ^ 32 }
         ensures { result ≡ unpacked_row columns.entry.now word }
@@ -122,10 +53,12 @@ impl<'a> RowSource for WordRow<'a> {
 
     ghost is_fault = { λ _ _. ⊤ };
 
+    #[inline(always)]
     fn width(&self) -> u32 {
         self.columns.len() as u32
     }
 
+    #[inline(always)]
     fn put_values(&self, into: &mut Vec<Value>) -> Result<(), Memory> {
         for column in self.columns {
             into.push(column.value(self.word))?;
@@ -139,6 +72,7 @@ impl<'a> RowSource for WordRow<'a> {
 }
 
 /// Adds the row of a word, unless it was found.
+#[inline(always)]
 fn put_unless(
     alloc: Global,
     found: bool,
@@ -158,6 +92,7 @@ fn put_unless(
 }
 
 /// Each row of the words that the others don't have, once; both stand in ascending order.
+#[inline(always)]
 fn without(
     alloc: Global,
     columns: &[PackedColumn],
@@ -186,6 +121,52 @@ fn without(
     Ok(made)
 }
 
+/// Each row of the words that the others don't have, once, in ascending order; none where the words
+/// in order are not the rows in order.
+///
+/// Inlined, so that there is code of its own for each number of columns that its caller knows.
+#[inline(always)]
+fn difference_in(
+    alloc: Global,
+    columns: &[PackedColumn],
+    words: &[u64],
+    others: &[u64],
+) -> Result<Option<Rows>, Memory>
+    requires columns { length columns.now < 2 ^ 32 }
+    requires few { length words.now < 2 ^ 32 }
+    ensures { IfOk result (λ found. IfSome found (λ made. made
+        ≡ difference (map (unpacked_row columns.now) words.now)
+        (map (unpacked_row columns.now) others.now))) }
+{
+    if !are_in_order(columns, words) || !are_in_order(columns, others) {
+        return Ok(None);
+    }
+    let made = without(alloc, columns, words, others)?;
+    Ok(Some(made))
+}
+
+/// Each row of the words that the others don't have, once, in ascending order; none where the words
+/// in order are not the rows in order.
+fn difference_of_words(
+    alloc: Global,
+    columns: &[PackedColumn],
+    words: &[u64],
+    others: &[u64],
+) -> Result<Option<Rows>, Memory>
+    requires columns { length columns.now < 2 ^ 32 }
+    requires few { length words.now < 2 ^ 32 }
+    ensures { IfOk result (λ found. IfSome found (λ made. made
+        ≡ difference (map (unpacked_row columns.now) words.now)
+        (map (unpacked_row columns.now) others.now))) }
+{
+    match columns {
+        [a] => difference_in(alloc, &[*a], words, others),
+        [a, b] => difference_in(alloc, &[*a, *b], words, others),
+        [a, b, c] => difference_in(alloc, &[*a, *b, *c], words, others),
+        _ => difference_in(alloc, columns, words, others),
+    }
+}
+
 /// Each row of the first list that the second doesn't have, once, in ascending order; none where a
 /// row doesn't fit these columns.
 fn difference_by(
@@ -208,11 +189,7 @@ fn difference_by(
     };
     let words = in_order(words, &columns);
     let others = in_order(others, &columns);
-    if !are_in_order(&columns, &words) || !are_in_order(&columns, &others) {
-        return Ok(None);
-    }
-    let made = without(alloc, &columns, &words, &others)?;
-    Ok(Some(made))
+    difference_of_words(alloc, &columns, &words, &others)
 }
 
 /// Each row of the first list that the second doesn't have, once, in ascending order; none where

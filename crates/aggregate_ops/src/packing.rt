@@ -4,13 +4,16 @@
 //!
 //! How columns are chosen decides about speed alone: a word is taken only where it gives the
 //! values of its row back.
-ghost use Rattle.std.specs.Prelude.{◌≡◌, ◌<◌, ◌≤◌, ◌^◌, IsTrue, IfOk, OnOk, IfSome, IsPermutation, map, length};
-ghost use Rattle.aggregate_ops.specs.inner.Emitted.{emitted_by, all_emitted};
+ghost use Rattle.std.specs.Prelude.{◌≡◌, ◌<◌, ◌≤◌, ◌^◌, IfOk, OnOk, IfSome, IsPermutation, map, length};
+ghost use Rattle.myrial_ast.specs.Combinations.{emitted};
+ghost use Rattle.myrial_ast.specs.ScalarTrees.{scalar_tree_of};
+ghost use Rattle.aggregate_ops.specs.inner.Emitted.{all_emitted};
 ghost use Rattle.aggregate_ops.specs.inner.Reading.{unpacked_row};
 
-use crate::emits::Emits;
+use crate::emits::{Emits, picked};
 use crate::packed_columns::PackedColumn;
 use crate::spans::ScannedColumn;
+use myrial_ast::Scalar;
 use rel_base::{Memory, Rows, Value};
 use std::alloc::Global;
 
@@ -89,22 +92,6 @@ pub fn key_columns(
     Ok(columns)
 }
 
-/// Whether a word has in the columns what a row emits.
-fn gives_back(word: u64, columns: &[PackedColumn], emits: Emits<'_>, values: &[Value]) -> bool
-    ensures { IsTrue result → unpacked_row columns.now word ≡ emitted_by emits.entry values.now }
-{
-    if columns.len() != emits.width(values) {
-        return false;
-    }
-    for (place, column) in columns.iter().enumerate() {
-        match emits.value(values, place) {
-            Some(value) if column.holds(word, value) => {}
-            _ => return false,
-        }
-    }
-    true
-}
-
 /// The word of these values, where it gives them back.
 #[inline(always)]
 fn word_of_values(columns: &[PackedColumn], values: &[Value]) -> Option<u64>
@@ -125,22 +112,23 @@ fn word_of_values(columns: &[PackedColumn], values: &[Value]) -> Option<u64>
     Some(word)
 }
 
-/// The word of what a row emits, where it gives that back.
-fn word_of(columns: &[PackedColumn], emits: Emits<'_>, values: &[Value]) -> Option<u64>
+/// The word of what a row emits by these picks, where it gives that back.
+#[inline(always)]
+fn word_of_picks(columns: &[PackedColumn], picks: &[Scalar], values: &[Value]) -> Option<u64>
+    requires { length picks.now ≡ length columns.now }
     ensures { IfSome result (λ word. unpacked_row columns.now word
-        ≡ emitted_by emits.entry values.now) }
+        ≡ emitted (map scalar_tree_of picks.now) values.now) }
 {
     let mut word = 0;
-    for (place, column) in columns.iter().enumerate() {
-        if let Some(value) = emits.value(values, place) {
-            word |= column.bits_of(value);
+    for place in 0..columns.len() {
+        word |= columns[place].bits_of(picked(&picks[place], values)?);
+    }
+    for place in 0..columns.len() {
+        if !columns[place].holds(word, picked(&picks[place], values)?) {
+            return None;
         }
     }
-    if gives_back(word, columns, emits, values) {
-        Some(word)
-    } else {
-        None
-    }
+    Some(word)
 }
 
 /// The words of whole rows, where each gives its row back.
@@ -166,26 +154,39 @@ fn words_of_rows(
     Ok(Some(words))
 }
 
-/// The words of whole rows, where each gives its row back.
-fn words_of_whole(
+/// The words of what the rows emit by these picks, where each gives that back.
+///
+/// Inlined, so that there is code of its own for each number of columns that its caller knows.
+#[inline(always)]
+fn words_of_picks(
     alloc: Global,
+    picks: &[Scalar],
     rows: &Rows,
     columns: &[PackedColumn],
 ) -> Result<Option<Vec<u64>>, Memory>
     ensures words { IfOk result (λ found. IfSome found (λ words. map
-        (unpacked_row columns.now) words.items ≡ rows.now)) }
+        (unpacked_row columns.now) words.items
+        ≡ map (emitted (map scalar_tree_of picks.now)) rows.now)) }
     ensures few { OnOk result (length rows.now < 2 ^ 32) }
 {
-    match columns {
-        [a] => words_of_rows(alloc, rows, &[*a]),
-        [a, b] => words_of_rows(alloc, rows, &[*a, *b]),
-        [a, b, c] => words_of_rows(alloc, rows, &[*a, *b, *c]),
-        _ => words_of_rows(alloc, rows, columns),
+    let mut words = Vec::with_capacity(alloc, rows.len() as usize)?;
+    if picks.len() != columns.len() {
+        return Ok(None);
     }
+    for row in rows {
+        match word_of_picks(columns, picks, row) {
+            Some(word) => words.push(word)?,
+            None => return Ok(None),
+        }
+    }
+    Ok(Some(words))
 }
 
 /// The words of what the rows emit, where each gives that back.
-fn words_of_picks(
+///
+/// Inlined, so that there is code of its own for each number of columns that its caller knows.
+#[inline(always)]
+fn words_in(
     alloc: Global,
     emits: Emits<'_>,
     rows: &Rows,
@@ -195,14 +196,10 @@ fn words_of_picks(
         (unpacked_row columns.now) words.items ≡ all_emitted emits.entry rows.now)) }
     ensures few { OnOk result (length rows.now < 2 ^ 32) }
 {
-    let mut words = Vec::with_capacity(alloc, rows.len() as usize)?;
-    for row in rows {
-        match word_of(columns, emits, row) {
-            Some(word) => words.push(word)?,
-            None => return Ok(None),
-        }
+    match emits {
+        Emits::Whole => words_of_rows(alloc, rows, columns),
+        Emits::Picked(picks) => words_of_picks(alloc, picks, rows, columns),
     }
-    Ok(Some(words))
 }
 
 /// The words of what the rows emit, where each gives that back.
@@ -216,9 +213,11 @@ pub fn words_of(
         (unpacked_row columns.now) words.items ≡ all_emitted emits.entry rows.now)) }
     ensures few { OnOk result (length rows.now < 2 ^ 32) }
 {
-    match emits {
-        Emits::Whole => words_of_whole(alloc, rows, columns),
-        Emits::Picked(_) => words_of_picks(alloc, emits, rows, columns),
+    match columns {
+        [a] => words_in(alloc, emits, rows, &[*a]),
+        [a, b] => words_in(alloc, emits, rows, &[*a, *b]),
+        [a, b, c] => words_in(alloc, emits, rows, &[*a, *b, *c]),
+        _ => words_in(alloc, emits, rows, columns),
     }
 }
 

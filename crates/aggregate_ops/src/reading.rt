@@ -1,5 +1,5 @@
 //! The rows of groups as they are read: lent, or packed in words.
-ghost use Rattle.std.specs.Prelude.{◌≡◌, ◌<◌, ◌≤◌, [], map, length, take, drop, slice_index_or, IfOk, IfSome};
+ghost use Rattle.std.specs.Prelude.{◌≡◌, ◌<◌, ◌≤◌, [], length, map, take, drop, slice_index_or, IfOk};
 ghost use Rattle.myrial_ast.specs.Scalars.{value_at};
 ghost use Rattle.aggregate_ops.specs.Columns.{rows_in};
 ghost use Rattle.aggregate_ops.specs.inner.Reading.{row_of, rows_of, unpacked_row, value_of};
@@ -68,12 +68,13 @@ impl<'a> GroupedRow<'a> {
     }
 }
 
-/// Rows that are grouped: some that are lent, and behind them some that are packed in words.
+/// Rows that are grouped.
 #[derive(Clone, Copy)]
-pub struct GroupedRows<'a> {
-    lent: &'a [&'a [Value]],
-    words: &'a [u64],
-    columns: &'a [PackedColumn],
+pub enum GroupedRows<'a> {
+    /// Rows that are lent.
+    Lent(&'a [&'a [Value]]),
+    /// Rows all of whose values are told by words, in these columns.
+    Packed(&'a [u64], &'a [PackedColumn]),
 }
 
 impl<'a> GroupedRows<'a> {
@@ -81,41 +82,25 @@ impl<'a> GroupedRows<'a> {
     pub fn lent(rows: &'a [&'a [Value]]) -> GroupedRows<'a>
         ensures { rows_of result ≡ rows_in rows.entry.now }
     {
-        GroupedRows {
-            lent: rows,
-            words: &[],
-            columns: &[],
-        }
+        GroupedRows::Lent(rows)
     }
 
-    /// Rows all of whose values are told by words, in these columns.
+    /// Rows that words tell in these columns.
     pub fn packed(words: &'a [u64], columns: &'a [PackedColumn]) -> GroupedRows<'a>
         ensures { rows_of result ≡ map (unpacked_row columns.entry.now) words.entry.now }
     {
-        GroupedRows {
-            lent: &[],
-            words,
-            columns,
-        }
-    }
-
-    /// The words and their columns, where no row is lent.
-    pub fn as_words(self) -> Option<(&'a [u64], &'a [PackedColumn])>
-        ensures { IfSome result (λ packed. rows_of self.entry
-            ≡ map (unpacked_row packed.1.now) packed.0.now) }
-    {
-        if self.lent.is_empty() {
-            Some((self.words, self.columns))
-        } else {
-            None
-        }
+        GroupedRows::Packed(words, columns)
     }
 
     /// The number of rows.
+    #[inline(always)]
     pub fn len(self) -> usize
         ensures { result ≡ length (rows_of self.entry) }
     {
-        self.lent.len() + self.words.len()
+        match self {
+            GroupedRows::Lent(rows) => rows.len(),
+            GroupedRows::Packed(words, _) => words.len(),
+        }
     }
 
     /// Row number `i`, from 0.
@@ -124,43 +109,33 @@ impl<'a> GroupedRows<'a> {
         requires { i < length (rows_of self) }
         ensures { row_of result ≡ slice_index_or (rows_of self.entry) i [] }
     {
-        let lent = self.lent.len();
-        if i < lent {
-            GroupedRow::Lent(self.lent[i])
-        } else {
-            GroupedRow::Packed(self.words[i - lent], self.columns)
+        match self {
+            GroupedRows::Lent(rows) => GroupedRow::Lent(rows[i]),
+            GroupedRows::Packed(words, columns) => GroupedRow::Packed(words[i], columns),
         }
     }
 
     /// So many rows at the front.
+    #[inline(always)]
     pub fn front(self, count: usize) -> GroupedRows<'a>
         requires { count ≤ length (rows_of self) }
         ensures { rows_of result ≡ take count (rows_of self.entry) }
     {
-        let lent = self.lent.len();
-        if count <= lent {
-            GroupedRows::lent(&self.lent[..count])
-        } else {
-            GroupedRows {
-                words: &self.words[..count - lent],
-                ..self
-            }
+        match self {
+            GroupedRows::Lent(rows) => GroupedRows::Lent(&rows[..count]),
+            GroupedRows::Packed(words, columns) => GroupedRows::Packed(&words[..count], columns),
         }
     }
 
     /// The rows behind so many.
+    #[inline(always)]
     pub fn behind(self, count: usize) -> GroupedRows<'a>
         requires { count ≤ length (rows_of self) }
         ensures { rows_of result ≡ drop count (rows_of self.entry) }
     {
-        let lent = self.lent.len();
-        if count <= lent {
-            GroupedRows {
-                lent: &self.lent[count..],
-                ..self
-            }
-        } else {
-            GroupedRows::packed(&self.words[count - lent..], self.columns)
+        match self {
+            GroupedRows::Lent(rows) => GroupedRows::Lent(&rows[count..]),
+            GroupedRows::Packed(words, columns) => GroupedRows::Packed(&words[count..], columns),
         }
     }
 }

@@ -2,15 +2,16 @@
 --
 --   unpacked_row columns word     the row that is packed in a word
 --   row_of row                    the row that is lent, or packed
---   rows_of rows                  the rows that are lent, and those that are packed
+--   rows_of rows                  the rows that are lent, or packed
 --   value_of value                the value that is lent, or was made
-use Rattle.std.specs.Prelude.{ℕ, List, ◌++◌, map}
+use Rattle.std.specs.Prelude.{ℕ, List, map}
 use Rattle.rel_base.specs.declared.values.Value.{Value}
 use Rattle.myrial_ast.specs.Combinations.{Row, Rows}
 use Rattle.aggregate_ops.specs.declared.packed_columns.PackedColumn.{PackedColumn}
 use Rattle.aggregate_ops.specs.declared.reading.GroupedRow.{GroupedRow}
 use Rattle.aggregate_ops.specs.declared.reading.GroupedRow.TheVariants as row
 use Rattle.aggregate_ops.specs.declared.reading.GroupedRows.{GroupedRows}
+use Rattle.aggregate_ops.specs.declared.reading.GroupedRows.TheVariants as rows
 use Rattle.aggregate_ops.specs.declared.reading.ReadValue.{ReadValue}
 use Rattle.aggregate_ops.specs.declared.reading.ReadValue.TheVariants as read
 use Rattle.aggregate_ops.specs.Columns.{rows_in}
@@ -25,9 +26,10 @@ abbrev pub row_of : GroupedRow → Row
 row_of (row.Lent r) = r.now
 row_of (row.Packed word columns) = unpacked_row columns.now word
 
--- the rows that are lent, and those that are packed
+-- the rows that are lent, or packed
 abbrev pub rows_of : GroupedRows → Rows
-rows_of rows = rows_in rows.lent.now ++ map (unpacked_row rows.columns.now) rows.words.now
+rows_of (rows.Lent rs) = rows_in rs.now
+rows_of (rows.Packed words columns) = map (unpacked_row columns.now) words.now
 
 -- the value that is lent, or was made
 abbrev pub value_of : ReadValue → Value

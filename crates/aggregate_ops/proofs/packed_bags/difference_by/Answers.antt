@@ -1,4 +1,7 @@
 use Rattle.std.proofs.Common.{◌≡◌, ◌∙◌, subst, map}
+use Rattle.std.specs.Prelude.{IfOk, IfSome}
+use Rattle.std.proofs.lemmas.Result.{IfOk-weaker}
+use Rattle.std.proofs.lemmas.Option.{IfSome_then}
 use Rattle.std.proofs.lemmas.List.Sorted.{IsPermutation-map}
 use Rattle.rel_base.specs.Bags.{SameBag}
 use Rattle.myrial_ast.specs.Bags.{difference}
@@ -22,6 +25,9 @@ returns c =
     subst (λ (rows : Rows). SameBag rows (map row words)) (first ∙ whole-rows c.args.a.now) (IsPermutation-map row _ _ c.in_order-words.ensures.same) in
     let two : SameBag c.args.b.now (map row others) =
     subst (λ (rows : Rows). SameBag rows (map row others)) (second ∙ whole-rows c.args.b.now) (IsPermutation-map row _ _ c.in_order-others.ensures.same) in
-    let made : c.in_ok-made.made ≡ difference (map row words) (map row others) =
-    c.in_ok-made.ensures ∙ (λ i. difference (map (unpacked_row (c.deref-7.ensures.value i)) (c.deref-8.ensures.value i)) (map (unpacked_row (c.deref-7.ensures.value i)) (c.deref-9.ensures.value i))) in
-    rw made (difference-same c.args.a.now (map row words) c.args.b.now (map row others) one two)
+    let given : IfOk c.difference_of_words.result (λ found. IfSome found (λ made. made ≡ difference (map row words) (map row others))) =
+    rw (c.deref-5.ensures.value, c.deref-6.ensures.value, c.deref-7.ensures.value) at c.difference_of_words.ensures in
+    IfOk-weaker c.difference_of_words.result (λ found. IfSome found (λ made. made ≡ difference (map row words) (map row others)))
+    (λ found. IfSome found (λ made. SameBag (difference c.args.a.now c.args.b.now) made))
+    (λ found given. IfSome_then found given (λ made e. rw e (difference-same c.args.a.now (map row words) c.args.b.now (map row others) one two)))
+    given

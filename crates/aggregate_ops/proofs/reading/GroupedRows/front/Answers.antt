@@ -1,12 +1,20 @@
-use Rattle.std.proofs.Common.{◌∙◌, arith}
+use Rattle.std.proofs.Common.{◌∙◌, ap, sym, take}
 use Rattle.std.specs.Borrow.{Bor}
+use Rattle.std.proofs.lemmas.List.{take-map}
 use Rattle.myrial_ast.specs.Combinations.{Row}
-use Rattle.aggregate_ops.specs.inner.Reading.{unpacked_row}
-use Rattle.aggregate_ops.proofs.ReadLemmas.{front-within, front-past}
+use Rattle.aggregate_ops.specs.inner.Reading.{rows_of, unpacked_row}
 use Rattle.aggregate_ops.proofs.reading.GroupedRows.front.Goals as goal
 
-pub returns-then-count-lent : goal.returns-then-count-lent
-returns-then-count-lent c = c.lent.ensures ∙ front-within (λ (row : Bor Row). row.now) c.args.self.lent.now (unpacked_row c.args.self.columns.now) c.args.self.words.now c.args.count (omega arith)
+pub returns-in-Lent : goal.returns-in-Lent
+returns-in-Lent c =
+    let row = λ (r : Bor Row). r.now in
+    let count = c.args.count in
+    let rows = c.in-Lent.rows.now in
+    sym (take-map row count rows) ∙ sym (ap (λ r. take count (rows_of r)) c.in-Lent.is)
 
-pub returns-else-count-lent : goal.returns-else-count-lent
-returns-else-count-lent c = front-past (λ (row : Bor Row). row.now) c.args.self.lent.now (unpacked_row c.args.self.columns.now) c.args.self.words.now c.args.count (omega arith)
+pub returns-in-Packed : goal.returns-in-Packed
+returns-in-Packed c =
+    let row = unpacked_row c.in-Packed.columns.now in
+    let count = c.args.count in
+    let words = c.in-Packed.words.now in
+    sym (take-map row count words) ∙ sym (ap (λ r. take count (rows_of r)) c.in-Packed.is)

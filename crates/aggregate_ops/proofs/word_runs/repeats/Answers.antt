@@ -3,7 +3,7 @@ use Rattle.std.proofs.lemmas.List.{get_or-map}
 use Rattle.myrial_ast.specs.Bags.{same_row}
 use Rattle.bag_laws.proofs.PartialLemmas.{tied}
 use Rattle.aggregate_ops.specs.inner.Reading.{unpacked_row}
-use Rattle.aggregate_ops.proofs.packed_bags.repeats.Goals as goal
+use Rattle.aggregate_ops.proofs.word_runs.repeats.Goals as goal
 
 pub loop-count-preserved : goal.loop-count-preserved
 loop-count-preserved c =

@@ -2,7 +2,7 @@ use Rattle.std.proofs.Common.{◌-◌, ◌<◌, is_lt, length, map}
 use Rattle.std.specs.List.Sorted.{IsSortedWithin}
 use Rattle.rel_base.specs.Values.{row_order}
 use Rattle.aggregate_ops.specs.inner.Reading.{unpacked_row}
-use Rattle.aggregate_ops.proofs.packed_bags.are_in_order.Given as goal
+use Rattle.aggregate_ops.proofs.word_runs.are_in_order.Given as goal
 
 abbrev pub invariant-loop-count : goal.invariant-loop-count
 invariant-loop-count l = (0 < l.count) × IsSortedWithin (λ r s. is_lt (row_order r s)) (map (unpacked_row l.columns) l.words) 0 l.count

@@ -1,7 +1,7 @@
 use Rattle.std.proofs.Common.{◌≡◌, ℕ, ◌-◌, ◌<◌, ◌≤◌, true, [], length, map, get_or, is_lt}
 use Rattle.rel_base.specs.Values.{row_order}
 use Rattle.aggregate_ops.specs.inner.Reading.{unpacked_row}
-use Rattle.aggregate_ops.proofs.packed_bags.words_below.Given as goal
+use Rattle.aggregate_ops.proofs.word_runs.words_below.Given as goal
 
 abbrev pub invariant-loop-count : goal.invariant-loop-count
 invariant-loop-count l =

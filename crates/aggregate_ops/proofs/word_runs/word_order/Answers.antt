@@ -2,10 +2,10 @@ use Rattle.std.proofs.Common.{◌≡◌, ℕ, subst, Equal}
 use Rattle.rel_base.specs.Values.{row_order}
 use Rattle.aggregate_ops.specs.inner.Reading.{unpacked_row}
 use Rattle.aggregate_ops.proofs.StepLemmas.{even}
-use Rattle.aggregate_ops.proofs.packed_bags.+word_order.Goals as goal
+use Rattle.aggregate_ops.proofs.word_runs.word_order.Goals as goal
 
 -- equal words have equal rows
 pub returns-then-word-other : goal.returns-then-word-other
-returns-then-word-other t c =
+returns-then-word-other c =
     let row = unpacked_row c.args.columns.now in
     subst (λ (other : ℕ). Equal ≡ row_order (row c.args.word) (row other)) c.if-word-other.true (even (row c.args.word))
