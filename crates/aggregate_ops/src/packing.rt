@@ -217,6 +217,8 @@ pub fn words_of(
         [a] => words_in(alloc, emits, rows, &[*a]),
         [a, b] => words_in(alloc, emits, rows, &[*a, *b]),
         [a, b, c] => words_in(alloc, emits, rows, &[*a, *b, *c]),
+        [a, b, c, d] => words_in(alloc, emits, rows, &[*a, *b, *c, *d]),
+        [a, b, c, d, e] => words_in(alloc, emits, rows, &[*a, *b, *c, *d, *e]),
         _ => words_in(alloc, emits, rows, columns),
     }
 }

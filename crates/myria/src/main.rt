@@ -7,6 +7,7 @@
 use myria_top::{Outcome, fresh_taps, run_words, tell};
 use rel_base::{Memory, Text};
 use rel_io::{FolderShelf, StdSink};
+use std::alloc::Global;
 use std::env;
 use std::io::{ErrorKind, Write};
 use std::process::ExitCode;
@@ -16,6 +17,10 @@ use std::thread::Threads;
 
 /// The exit status where there is no memory even to begin.
 const NO_MEMORY: u8 = 13;
+
+/// The size, in bytes, of a block by which the C library learns to keep what is freed: nearly the
+/// greatest that it learns from.
+const LARGE_BLOCK: usize = 31 << 20;
 
 fn main(rt: HostRuntime) -> ExitCode {
     match run(&rt, rt.stdout(), rt.stderr()) {
@@ -32,6 +37,7 @@ where
     E: Write + Drop,
 {
     let alloc = rt.alloc();
+    keep_freed_memory(alloc);
     let words = words(rt)?;
     let mut taps = fresh_taps(alloc)?;
     let mut shelf = FolderShelf::new(rt);
@@ -52,6 +58,16 @@ where
         return Ok(Outcome::WriteFault.status());
     }
     Ok(outcome.status())
+}
+
+/// Lets the C library keep memory that is freed, so that the lists of one step stand where those of
+/// the steps before it stood, and the system hands out fewer pages.
+///
+/// glibc gives a large block back to the system when it is freed, and from then on keeps freed
+/// blocks up to that size (`mallopt(3)`, the dynamic threshold for `mmap`). Nothing is written into
+/// the block, so it takes no memory; where there is none, all stays as it was.
+fn keep_freed_memory(alloc: Global) {
+    let _ = Vec::<u8>::with_capacity(alloc, LARGE_BLOCK);
 }
 
 /// The words of the command line, the program's name first; none where one of them isn't UTF-8.
