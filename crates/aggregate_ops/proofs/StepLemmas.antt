@@ -90,10 +90,6 @@ behind k xs = take-length (length xs - k) (drop k xs) (omega (arith, length-drop
     take-length zero (x ∷ xs) e = absurd (omega (arith, e))
     take-length (suc n) (x ∷ xs) e = ap (λ ys. x ∷ ys) (take-length n xs (omega (arith, e)))
 
--- what a slice up to a place has
-pub front : {X : Type 0} (k : ℕ) (xs : List X) → take (k - 0) xs ≡ take k xs
-front k xs = let same : k - 0 ≡ k = omega arith in ap (λ (n : ℕ). take n xs) same
-
 -- a test of all, whatever the order
 list_all-not : {X : Type 0} (p : X → Bool) (xs : List X) → list_all p xs ≡ not (list_any (λ x. not (p x)) xs)
 list_all-not p [] = refl

@@ -13,7 +13,8 @@ use std::cmp::Ordering;
 /// How the rows of two words compare.
 #[inline(always)]
 pub fn word_order(columns: &[PackedColumn], word: u64, other: u64) -> Ordering
-    ensures { result ≡ row_order (unpacked_row columns.now word) (unpacked_row columns.now other) }
+    ensures { result
+        ≡ row_order (unpacked_row columns.now word) (unpacked_row columns.now other) }
 {
     if word == other {
         return Ordering::Equal;
