@@ -5,3 +5,4 @@ pub mod BagLemmas
 pub mod StepLemmas
 pub mod FitLemmas
 pub mod EmitLemmas
+pub mod TwinLemmas

@@ -4,3 +4,4 @@ pub mod Emitted
 pub mod Reading
 pub mod Runs
 pub mod MergedCells
+pub mod Twins

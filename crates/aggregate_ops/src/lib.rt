@@ -32,6 +32,7 @@ mod picking;
 mod reading;
 mod runs;
 mod spans;
+mod twins;
 mod word_runs;
 
 pub use bags::{append, difference, distinct};

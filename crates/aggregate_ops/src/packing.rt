@@ -13,6 +13,7 @@ ghost use Rattle.aggregate_ops.specs.inner.Reading.{unpacked_row};
 use crate::emits::{Emits, picked};
 use crate::packed_columns::PackedColumn;
 use crate::spans::ScannedColumn;
+use crate::twins::Singles;
 use myrial_ast::Scalar;
 use rel_base::{Memory, Rows, Value};
 use std::alloc::Global;
@@ -202,8 +203,45 @@ fn words_in(
     }
 }
 
-/// The words of what the rows emit, where each gives that back.
+/// The words of what the rows emit, where each gives that back. A column that tells what another
+/// one tells is packed with it.
 pub fn words_of(
+    alloc: Global,
+    emits: Emits<'_>,
+    rows: &Rows,
+    columns: &[PackedColumn],
+) -> Result<Option<Vec<u64>>, Memory>
+    ensures words { IfOk result (λ found. IfSome found (λ words. map
+        (unpacked_row columns.now) words.items ≡ all_emitted emits.entry rows.now)) }
+    ensures few { OnOk result (length rows.now < 2 ^ 32) }
+{
+    match emits {
+        Emits::Picked(picks) if picks.len() == columns.len() => {
+            words_of_singles(alloc, picks, rows, columns)
+        }
+        _ => words_by_width(alloc, emits, rows, columns),
+    }
+}
+
+/// The words of what the rows emit by these picks, of which there is one for each column.
+fn words_of_singles(
+    alloc: Global,
+    picks: &[Scalar],
+    rows: &Rows,
+    columns: &[PackedColumn],
+) -> Result<Option<Vec<u64>>, Memory>
+    requires { length picks.now ≡ length columns.now }
+    ensures words { IfOk result (λ found. IfSome found (λ words. map
+        (unpacked_row columns.now) words.items
+        ≡ map (emitted (map scalar_tree_of picks.now)) rows.now)) }
+    ensures few { OnOk result (length rows.now < 2 ^ 32) }
+{
+    let singles = Singles::of(alloc, columns, picks)?;
+    words_by_width(alloc, Emits::Picked(&singles.picks), rows, &singles.columns)
+}
+
+/// The words of what the rows emit, by code of its own for a few columns.
+fn words_by_width(
     alloc: Global,
     emits: Emits<'_>,
     rows: &Rows,
