@@ -1,5 +1,5 @@
-//! Columns that the same bits tell and the same pick emits, as where the least, the greatest and the
-//! sum of one column are asked.
+//! Columns that the same bits tell and the same pick emits, as where the least, the greatest and
+//! the sum of one column are asked.
 ghost use Rattle.std.specs.Prelude.{◌≡◌, ℕ, IfOk, OnOk, IsTrue, length};
 ghost use Rattle.myrial_ast.specs.declared.scalars.Scalar.{Scalar as Pick};
 ghost use Rattle.myrial_ast.specs.ScalarTrees.{scalar_tree_of};
