@@ -115,7 +115,7 @@ pub(crate) fn value_of(
 
 /// The number that an int field writes.
 #[inline(always)]
-fn int_of(field: &str) -> Option<i64>
+pub(crate) fn int_of(field: &str) -> Option<i64>
     ensures { result ≡ int_of_field field.now }
 {
     match short_number(field.as_bytes()) {

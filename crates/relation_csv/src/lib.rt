@@ -11,9 +11,9 @@
 //! `row_record` say, which are the `csv` crate's own text of their fields; a relation that is
 //! written so is read back. Not promised: that memory is there.
 //!
-//! A file without quotes and carriage returns is read where it stands (`plain.rt`), a large one in
-//! jobs if the caller asks for them (`jobs.rt`), and any other record by record. Every way to read
-//! keeps the same promise.
+//! A file without quotes and carriage returns is read where it stands (`plain.rt`), rows of ints
+//! alone without a row of their own (`int_rows.rt`), a large file in jobs if the caller asks for
+//! them (`jobs.rt`), and any other record by record. Every way to read keeps the same promise.
 //!
 //! Read `specs/Fields.antt`, `specs/Files.antt`, `specs/RecordTexts.antt` and
 //! `specs/RoundTrip.antt`, then `files.rt`.
@@ -22,6 +22,7 @@
 mod faults;
 mod fields;
 mod files;
+mod int_rows;
 mod jobs;
 mod laws;
 mod plain;

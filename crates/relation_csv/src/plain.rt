@@ -4,9 +4,11 @@
 //! lie between commas. There a value is made of the file's own bytes, and no record is copied
 //! first. A call here answers `None` where it can't tell: at a quote or a carriage return, at
 //! bytes that are not UTF-8, and at every fault, which the reader of records then finds.
-ghost use Rattle.std.specs.Prelude.{◌≡◌, ◌<◌, ◌≤◌, [], false, true, IfOk, IfSome, Ok, Some, drop, length, take};
+ghost use Rattle.std.specs.Prelude.{◌≡◌, ◌<◌, ◌≤◌, [], false, true, All, IfOk, IfSome, IsTrue, Ok, Some, drop, length, take};
 ghost use Rattle.std.specs.List.{list_any};
 ghost use Rattle.rel_base.specs.Limits.{most_rows};
+ghost use Rattle.rel_base.specs.declared.relations.Column.{Column as Header};
+ghost use Rattle.rel_base.specs.declared.values.ColType.TheVariants as kind;
 ghost use Rattle.csv.specs.Reading.{is_bom, strip_bom};
 ghost use Rattle.csv.specs.Writing.{default_writer, needs_byte};
 ghost use Rattle.csv.specs.declared.parser.State.TheVariants as state;
@@ -17,6 +19,7 @@ ghost use Rattle.relation_csv.specs.inner.RecordsLeft.{records_after};
 
 use crate::RelFault;
 use crate::fields::{leading_number, value_of};
+use crate::int_rows::{are_ints, push_ints_of};
 use memchr::memchr2;
 use rel_base::{ColType, MOST_ROWS, Memory, Row, Rows, Schema, Value};
 use std::alloc::Global;
@@ -138,7 +141,7 @@ pub(crate) fn rows_of_lines(
         rows_of_records schema.now (records_after state.StartRecord text.now) ≡ Ok rows)) }
 {
     let mut rows = Rows::new(alloc);
-    let mut row = Row::with_capacity(alloc, schema.len())?;
+    let mut room = RowRoom::of(alloc, schema)?;
     let mut left = text;
     'rows: loop {
         let Some(line) = line_of(left) else {
@@ -151,7 +154,7 @@ pub(crate) fn rows_of_lines(
         if rows.len() >= MOST_ROWS {
             return Ok(None);
         }
-        let Some(rest) = push_row_of(alloc, schema, line, &mut row, &mut rows)? else {
+        let Some(rest) = push_next(alloc, schema, line, &mut room, &mut rows)? else {
             return Ok(None);
         };
         left = rest;
@@ -177,6 +180,55 @@ fn line_of(text: &str) -> Option<&str>
         left = &left[1..];
     }
     Some(left)
+}
+
+/// What a row is made in, again and again.
+#[derive(Drop)]
+struct RowRoom {
+    /// Whether all columns are of ints.
+    are_ints: bool,
+    numbers: Vec<i64>,
+    row: Row,
+}
+
+impl RowRoom {
+    /// Room for a row of these columns.
+    fn of(alloc: Global, schema: &Schema) -> Result<RowRoom, Memory>
+        ensures empty { IfOk result (λ made. made.row ≡ []) }
+        ensures ints { IfOk result (λ made. IsTrue made.are_ints
+            → All (λ (c : Header). c.kind ≡ kind.Int) schema.now) }
+    {
+        Ok(RowRoom {
+            are_ints: are_ints(schema),
+            numbers: Vec::with_capacity(alloc, schema.len() as usize)?,
+            row: Row::with_capacity(alloc, schema.len())?,
+        })
+    }
+}
+
+/// Adds the row of the record with which a text begins, the next one behind these rows, and gives
+/// what stands behind the record.
+#[inline(always)]
+fn push_next<'a>(
+    alloc: Global,
+    schema: &Schema,
+    line: &'a str,
+    room: &mut RowRoom,
+    rows: &mut Rows,
+) -> Result<Option<&'a str>, Memory>
+    requires empty { room.old.row ≡ [] }
+    requires ints { IsTrue room.old.are_ints
+        → All (λ (c : Header). c.kind ≡ kind.Int) schema.now }
+    requires few { length rows.old < most_rows }
+    ensures row { IfOk result (λ found. IfSome found (λ rest.
+        AddsRow schema.now line.now rows.old rows.new rest.now)) }
+    ensures empty { IfOk result (λ found. IfSome found (λ _. room.new.row ≡ [])) }
+    ensures ints { room.new.are_ints ≡ room.old.are_ints }
+{
+    if room.are_ints {
+        return push_ints_of(alloc, schema, line, &mut room.numbers, rows);
+    }
+    push_row_of(alloc, schema, line, &mut room.row, rows)
 }
 
 /// Adds the row of the record with which a text begins, the next one behind these rows, and gives
@@ -249,7 +301,7 @@ fn first_value<'a>(
 /// what stands behind it; none unless it is a number without a sign, of 18 digits at most, and
 /// something stands behind it. Its end is where its digits end, so that nothing is searched for.
 #[inline(always)]
-fn first_number(text: &str) -> Option<(&str, i64, bool, &str)>
+pub(crate) fn first_number(text: &str) -> Option<(&str, i64, bool, &str)>
     ensures begins { IfSome result (λ (field, _, more, rest).
         BeginsWithField text.now field.now more rest.now) }
     ensures number { IfSome result (λ (field, number, _, _). int_of_field field.now ≡ Some number) }
@@ -266,7 +318,7 @@ fn first_number(text: &str) -> Option<(&str, i64, bool, &str)>
 /// The first field of a text, whether another one follows it in its record, and what stands behind
 /// it.
 #[inline(always)]
-fn first_field(text: &str) -> Option<(&str, bool, &str)>
+pub(crate) fn first_field(text: &str) -> Option<(&str, bool, &str)>
     ensures begins { IfSome result (λ (field, more, rest).
         BeginsWithField text.now field.now more rest.now) }
     ensures shorter { IfSome result (λ (_, more, rest).

@@ -3,9 +3,10 @@
 --   IsLine text                              a record that begins with a field begins with the text, if the text has a byte
 --   BeginsWithField text field more rest     a text begins with this field, where a field may begin
 --   BeginsWithValue n c t text v more rest   a text begins with a field that writes this value
+--   BeginsWithInt text number more rest      a text begins with a field that writes this number
 --   BeginsWithRow schema n text row rest     a text begins with a record, number n, that writes this row
 --   AddsRow schema text rows more rest       a text begins with the record behind these rows, and its row is added to them
-use Rattle.std.specs.Prelude.{◌≡◌, ℕ, ◌<◌, Bool, true, false, Option, Some, Ok, List, [], ◌∷◌, ◌++◌, ◌+◌, length}
+use Rattle.std.specs.Prelude.{◌≡◌, ℕ, ℤ, ◌<◌, Bool, true, false, Option, Some, Ok, List, [], ◌∷◌, ◌++◌, ◌+◌, length}
 use Rattle.std.specs.Str.{IsUtf8}
 use Rattle.csv.specs.Machine.{Read, next_record}
 use Rattle.csv.specs.Reading.{default_config}
@@ -13,7 +14,7 @@ use Rattle.csv.specs.declared.parser.State.TheVariants as state
 use Rattle.rel_base.specs.declared.values.Value.{Value}
 use Rattle.rel_base.specs.declared.values.ColType.{ColType}
 use Rattle.rel_base.specs.declared.relations.Column.{Column}
-use Rattle.relation_csv.specs.Fields.{value_of_field}
+use Rattle.relation_csv.specs.Fields.{int_of_field, value_of_field}
 use Rattle.relation_csv.specs.Files.{Record, row_of_record}
 
 -- the record of a text that begins with a field, behind fields that were read before
@@ -39,6 +40,11 @@ abbrev pub BeginsWithValue : ℕ → ℕ → ColType → List ℕ → Value → 
 BeginsWithValue nth column kind text value more rest =
     (field : List ℕ) × IsUtf8 field × BeginsWithField text field more rest
     × (value_of_field nth column kind field ≡ Ok value)
+
+-- the text begins with a field of text that writes this number
+abbrev pub BeginsWithInt : List ℕ → ℤ → Bool → List ℕ → Type 0
+BeginsWithInt text number more rest =
+    (field : List ℕ) × IsUtf8 field × BeginsWithField text field more rest × (int_of_field field ≡ Some number)
 
 -- the text begins with the fields of a record, which writes this row
 abbrev pub BeginsWithRow : List Column → ℕ → List ℕ → List Value → List ℕ → Type 0

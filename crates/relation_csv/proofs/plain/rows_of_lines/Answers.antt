@@ -29,6 +29,7 @@ rows-preserved c =
     record {
       text = search rules;
       empty = search rules;
+      ints = rw c.push_next.ensures.ints c.rows.invariant.ints;
       read = rw added (HasRows-push c.args.schema.now _ (records_after state.StartRecord c.rows.left.now)
           c.rows.rows c.rows.invariant.read fields _ row nth (c.in-Some.ensures.same ∙ next) refl (omega (arith, c.len.ensures)) made);
     }
