@@ -6,3 +6,4 @@ pub mod StepLemmas
 pub mod FitLemmas
 pub mod EmitLemmas
 pub mod TwinLemmas
+pub mod WorkedRows

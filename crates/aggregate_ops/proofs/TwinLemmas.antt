@@ -8,8 +8,8 @@ use Rattle.myrial_ast.specs.ScalarTrees.{scalar_tree_of}
 use Rattle.myrial_ast.specs.Scalars.{exact_value}
 use Rattle.myrial_ast.specs.Combinations.{Row, Rows, emitted}
 use Rattle.aggregate_ops.specs.declared.packed_columns.PackedColumn.{PackedColumn}
-use Rattle.aggregate_ops.specs.inner.Reading.{unpacked_row}
-use Rattle.aggregate_ops.specs.inner.Twins.{told, IsTold, AreTold}
+use Rattle.aggregate_ops.specs.inner.Reading.{unpacked_row, value_told}
+use Rattle.aggregate_ops.specs.inner.Twins.{IsTold, AreTold}
 
 -- where what one function gives decides what another gives, lists that are mapped alike are mapped alike by both
 pub maps-follow : {X Y Z : Type 0} (f g : X → Z) (h k : Y → Z) → ((x : X) (y : Y) → f x ≡ h y → g x ≡ k y) → (d : Z) (xs : List X) (ys : List Y) → map f xs ≡ map h ys → map g xs ≡ map k ys
@@ -31,9 +31,9 @@ module _ (columns : List PackedColumn) (picks : List Scalar) (others : List Pack
       let t = are.each k d e h in
       let low : t.place < length picks = rw are.long t.there in
       let own : k < length emits = rw many h in
-      get_or-map (λ c. told c word) others k d none h
+      get_or-map (λ c. value_told c word) others k d none h
       ∙ sym (t.column_is word d)
-      ∙ sym (get_or-map (λ c. told c word) columns t.place d none t.there)
+      ∙ sym (get_or-map (λ c. value_told c word) columns t.place d none t.there)
       ∙ ap (λ r. get_or r t.place none) is
       ∙ emitted-at picks t.place low
       ∙ ap (λ x. exact_value x row) (t.pick_is e)
@@ -52,11 +52,11 @@ told-row columns picks [] (e ∷ emits) many are word row is = absurd (omega (ar
 told-row columns picks (c ∷ others) [] many are word row is = absurd (omega (arith, many))
 told-row columns picks (c ∷ others) (e ∷ emits) many are word row is =
     ext_get_or (value.Bool false) (unpacked_row (c ∷ others) word) (emitted (map scalar_tree_of (e ∷ emits)) row) long
-    (λ k h. told-at columns picks (c ∷ others) (e ∷ emits) are word row is c e k many (omega (arith, h, length-map (c ∷ others) (λ x. told x word))))
+    (λ k h. told-at columns picks (c ∷ others) (e ∷ emits) are word row is c e k many (omega (arith, h, length-map (c ∷ others) (λ x. value_told x word))))
   where
     long : length (unpacked_row (c ∷ others) word) ≡ length (emitted (map scalar_tree_of (e ∷ emits)) row)
     long =
-        length-map (c ∷ others) (λ x. told x word) ∙ sym many
+        length-map (c ∷ others) (λ x. value_told x word) ∙ sym many
         ∙ sym (length-map (e ∷ emits) scalar_tree_of)
         ∙ sym (length-map (map scalar_tree_of (e ∷ emits)) (λ x. exact_value x row))
 
@@ -74,7 +74,7 @@ module _ (columns : List PackedColumn) (picks : List Scalar) (long : length pick
       record {
         place = t.place;
         there = rw (length-append columns (column ∷ [])) (omega (arith, t.there));
-        column_is = λ word d. ap (λ x. told x word) (get_or_append_left columns (column ∷ []) d t.place t.there) ∙ t.column_is word d;
+        column_is = λ word d. ap (λ x. value_told x word) (get_or_append_left columns (column ∷ []) d t.place t.there) ∙ t.column_is word d;
         pick_is = λ d. ap scalar_tree_of (get_or_append_left picks (made ∷ []) d t.place low) ∙ t.pick_is d;
       }
 
@@ -82,7 +82,7 @@ module _ (columns : List PackedColumn) (picks : List Scalar) (long : length pick
   IsTold-last same = record {
     place = length columns;
     there = rw (length-append columns (column ∷ [])) (omega arith);
-    column_is = λ word d. ap (λ x. told x word) (last columns column d);
+    column_is = λ word d. ap (λ x. value_told x word) (last columns column d);
     pick_is = λ d. ap scalar_tree_of (subst (λ (n : ℕ). get_or (picks ++ made ∷ []) n d ≡ made) long (last picks made d)) ∙ same;
   }
     where

@@ -10,7 +10,9 @@ use Rattle.relation_csv.specs.Faults.{fault_text}
 use Rattle.relation_csv.specs.Files.{relation_of_bytes, relation_with, row_of_record}
 use Rattle.relation_csv.specs.RecordTexts.{header_record, row_record}
 use Rattle.relation_csv.specs.RoundTrip.{file_text}
+use Rattle.relation_csv.specs.inner.PlainLines.{BeginsWithInt}
 use Rattle.relation_csv.proofs.OnLiterals.{files_on_literals}
+use Rattle.relation_csv.proofs.PlainLemmas.{BeginsWithField-comma}
 
 abbrev int_column : List ℕ → Column
 int_column name = record { name = name; kind = kind.Int }
@@ -191,3 +193,8 @@ file_of_three_rows : file_text (record { schema = int_column (codes "x") ∷ int
     ≡ codes "x:int,y:int\n3,1\n1,2\n2,5\n"
 unfolding files_on_literals
 file_of_three_rows = refl
+
+-- a number with a sign, behind which another field follows
+pub begins_with_minus_five : BeginsWithInt (codes "-5,7") (negsuc 4) true (codes "7")
+unfolding lib.Utf8.encode
+begins_with_minus_five = (codes "-5", (codes "-5", (refl, refl)), BeginsWithField-comma (codes "-5") (codes "7") refl, refl)

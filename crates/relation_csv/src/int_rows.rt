@@ -80,8 +80,8 @@ pub(crate) fn are_ints(schema: &Schema) -> bool
     true
 }
 
-/// The number that the first field of a text writes, whether another field follows it in its record,
-/// and what stands behind it.
+/// The number that the first field of a text writes, whether another field follows it in its
+/// record, and what stands behind it.
 #[inline(always)]
 fn first_int(text: &str) -> Option<(i64, bool, &str)>
     ensures { IfSome result

@@ -1,5 +1,6 @@
 -- Rows as they are read.
 --
+--   value_told column word        the value that a word tells in a column
 --   unpacked_row columns word     the row that is packed in a word
 --   row_of row                    the row that is lent, or packed
 --   rows_of rows                  the rows that are lent, or packed
@@ -17,9 +18,13 @@ use Rattle.aggregate_ops.specs.declared.reading.ReadValue.TheVariants as read
 use Rattle.aggregate_ops.specs.Columns.{rows_in}
 use Rattle.aggregate_ops.specs.inner.Words.{unpacked}
 
+-- the value that a word tells in a column
+abbrev pub value_told : PackedColumn → ℕ → Value
+value_told c word = unpacked c.shift c.mask c.least c.is_truth word
+
 -- the row that is packed in a word
 abbrev pub unpacked_row : List PackedColumn → ℕ → Row
-unpacked_row columns word = map (λ (c : PackedColumn). unpacked c.shift c.mask c.least c.is_truth word) columns
+unpacked_row columns word = map (λ c. value_told c word) columns
 
 -- the row that is lent, or packed
 abbrev pub row_of : GroupedRow → Row

@@ -44,7 +44,8 @@ BeginsWithValue nth column kind text value more rest =
 -- the text begins with a field of text that writes this number
 abbrev pub BeginsWithInt : List ℕ → ℤ → Bool → List ℕ → Type 0
 BeginsWithInt text number more rest =
-    (field : List ℕ) × IsUtf8 field × BeginsWithField text field more rest × (int_of_field field ≡ Some number)
+    (field : List ℕ) × IsUtf8 field × BeginsWithField text field more rest
+    × (int_of_field field ≡ Some number)
 
 -- the text begins with the fields of a record, which writes this row
 abbrev pub BeginsWithRow : List Column → ℕ → List ℕ → List Value → List ℕ → Type 0
