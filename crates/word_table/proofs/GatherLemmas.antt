@@ -1,17 +1,18 @@
 -- Values that are gathered one after another.
-use Rattle.std.proofs.Common.{◌≡◌, ℕ, ◌+◌, ◌<◌, false, List, [], ◌∷◌, ◌++◌, length, get_or, refl, ap, ◌∙◌, sym, subst, arith, inl, inr, length-append}
+use Rattle.std.proofs.Common.{◌≡◌, ◌≢◌, ℕ, ◌+◌, ◌<◌, ◌≤◌, false, List, [], ◌∷◌, ◌++◌, length, get_or, take, refl, ap, ◌∙◌, sym, subst, arith, inl, inr, All, length-append, get_or-set_other, get_or-set_same}
 use Rattle.std.specs.Prelude.{Contains}
-use Rattle.std.specs.List.{flat_map}
 use Rattle.std.proofs.lemmas.Bool.{cases_lt}
-use Rattle.std.proofs.lemmas.List.{get_or_append_left, get_or-append-add}
-use Rattle.std.proofs.lemmas.List.Concat.{flat_map-append}
+use Rattle.std.proofs.lemmas.List.{map-append, length-set, length-take-le, get_or-take, get_or_append_left, get_or-append-add}
 use Rattle.std.proofs.lemmas.List.Elements.{All-nil, All-push, Contains-append_left, Contains-append_right, Contains-push}
 use Rattle.std.proofs.lemmas.List.Quantifiers.{all_pairs_push}
+use Rattle.std.proofs.Math.ListN.{set}
 use Rattle.rel_base.specs.declared.values.Value.{Value}
 use Rattle.rel_base.specs.declared.values.Value.TheVariants as variant
 use Rattle.word_table.specs.Words.{strings_of_value, word_of, HasWord}
 use Rattle.word_table.specs.declared.numbering.Occurrence.{Occurrence}
-use Rattle.word_table.specs.inner.Gathered.{value_at, IsStringAt, IsNumber, AddsString, IsGathered}
+use Rattle.word_table.specs.declared.occurrences.GatheredColumn.{GatheredColumn}
+use Rattle.word_table.specs.declared.occurrences.GatheredPart.{GatheredPart}
+use Rattle.word_table.specs.inner.Gathered.{value_at, values_at, IsStringAt, IsNumber, AddsString, AddsStrings, IsGathered, AreColumnsOf, IsGatheredPart, AreGathered}
 
 -- the values before the last are as they were, and the last is the one that was added
 value_at-before : (done : List Value) (v : Value) (p : ℕ) → p < length done → value_at (done ++ v ∷ []) p ≡ value_at done p
@@ -39,26 +40,22 @@ IsStringAt-more done v q at =
       string = (at.string.0, value_at-before done v q within ∙ at.string.1);
     }
 
-strings-more : (done : List Value) (v : Value) (s : List ℕ) → Contains (flat_map strings_of_value done) s → Contains (flat_map strings_of_value (done ++ v ∷ [])) s
-strings-more done v s held =
-    subst (λ l. Contains l s) (sym (flat_map-append strings_of_value done (v ∷ [])))
-    (Contains-append_left (flat_map strings_of_value done) (flat_map strings_of_value (v ∷ [])) s held)
+-- a number is still one where occurrences are added
+IsNumber-kept : (found more : List Occurrence) (s : List ℕ) (n : ℕ) → length found ≤ length more → ((k : ℕ) (d : Occurrence) → k < length found → get_or more k d ≡ get_or found k d) → IsNumber found s n → IsNumber more s n
+IsNumber-kept found more s n longer_found kept is =
+    let low = is.within in
+    record {
+      within = omega arith;
+      string = λ d. ap (λ (o : Occurrence). o.string) (kept n d low) ∙ is.string d;
+    }
 
-strings-last : (done : List Value) (v : Value) (s : List ℕ) → v ≡ variant.Str s → Contains (flat_map strings_of_value (done ++ v ∷ [])) s
-strings-last done v s is =
-    subst (λ l. Contains l s) (sym (flat_map-append strings_of_value done (v ∷ [])))
-    (Contains-append_right (flat_map strings_of_value done) (flat_map strings_of_value (v ∷ [])) s
-    (subst (λ x. Contains (flat_map strings_of_value (x ∷ [])) s) (sym is) (0, omega arith, refl)))
-
-pub IsGathered-none : IsGathered [] [] [] []
-IsGathered-none = record {
+pub IsGathered-none : (found : List Occurrence) → IsGathered [] [] [] found
+IsGathered-none found = record {
   long = refl;
   plain = λ strings p h e. absurd (omega arith);
   strings = λ p s h e. absurd (omega arith);
   at_strings = All-nil (IsStringAt []);
   ascending = λ i j d h k. absurd (omega arith);
-  numbered = λ k d h. absurd (omega arith);
-  from_values = All-nil (λ (o : Occurrence). Contains (flat_map strings_of_value []) o.string);
 }
 
 module _ (done : List Value) (v : Value) (words places : List ℕ) (w : ℕ) (found : List Occurrence) (had : IsGathered done words places found) where
@@ -106,8 +103,6 @@ module _ (done : List Value) (v : Value) (words places : List ℕ) (w : ℕ) (fo
     ];
     at_strings = λ k d h. IsStringAt-more done v (get_or places k d) (had.at_strings k d h);
     ascending = had.ascending;
-    numbered = had.numbered;
-    from_values = λ k d h. strings-more done v (get_or found k d).string (had.from_values k d h);
   }
 
   -- a string has its number at its place
@@ -116,7 +111,7 @@ module _ (done : List Value) (v : Value) (words places : List ℕ) (w : ℕ) (fo
       let had_long = had.long in
       let own : IsStringAt (done ++ v ∷ []) (length words) = record { within = omega (arith, longer done v); string = (s, value_at-last done v (length words) had_long ∙ string) } in
       let still : (t : List ℕ) (n : ℕ) → IsNumber found t n → IsNumber more t n =
-      λ t n is. let low = is.within in let longer_found = added.longer in record { within = omega arith; string = λ d. ap (λ (o : Occurrence). o.string) (added.kept n d low) ∙ is.string d } in
+      λ t n is. IsNumber-kept found more t n added.longer added.kept is in
       record {
         long = long;
         plain = λ strings p h e. elim (cases_lt p (length done)) [
@@ -142,13 +137,6 @@ module _ (done : List Value) (v : Value) (words places : List ℕ) (w : ℕ) (fo
         ];
         at_strings = All-push (IsStringAt (done ++ v ∷ [])) places (length words) (λ k d h. IsStringAt-more done v (get_or places k d) (had.at_strings k d h)) own;
         ascending = all_pairs_push (λ p q. p < q) places (length words) had.ascending (λ k d h. let low = (had.at_strings k d h).within in omega arith);
-        numbered = added.numbered had.numbered;
-        from_values = λ k d h. elim (cases_lt k (length found)) [
-          | inl less ↦
-              subst (λ (o : Occurrence). Contains (flat_map strings_of_value (done ++ v ∷ [])) o.string) (sym (added.kept k d less))
-              (strings-more done v (get_or found k d).string (had.from_values k d less))
-          | inr new ↦ strings-last done v (get_or more k d).string (string ∙ ap variant.Str (sym (added.fresh k d new h)))
-        ];
       }
 
 -- ---- numbers of occurrences
@@ -186,3 +174,143 @@ AddsString-new found more s n at added = subst (λ l. AddsString found l s n) (s
     last k d e =
         let end : k ≡ length found + 0 = omega arith in
         ap (λ m. get_or (found ++ o ∷ []) m d) end ∙ get_or-append-add found (o ∷ []) 0 d
+
+-- ---- strings that are added one after another
+
+pub AddsStrings-none : (found : List Occurrence) → AddsStrings found found []
+AddsStrings-none found = record {
+  longer = omega arith;
+  kept = λ k d h. refl;
+  fresh = λ k d from to. absurd (omega arith);
+  numbered = λ are. are;
+}
+
+-- one string is added
+pub AddsStrings-one : (old new : List Occurrence) (s : List ℕ) (n : ℕ) → AddsString old new s n → AddsStrings old new (s ∷ [])
+AddsStrings-one old new s n added = record {
+  longer = added.longer;
+  kept = added.kept;
+  fresh = λ k d from to. (0, omega arith, sym (added.fresh k d from to));
+  numbered = added.numbered;
+}
+
+-- some strings, and then others
+pub AddsStrings-more : (old mid new : List Occurrence) (strings others : List (List ℕ)) → AddsStrings old mid strings → AddsStrings mid new others → AddsStrings old new (strings ++ others)
+AddsStrings-more old mid new strings others first then =
+    let longer_first = first.longer in
+    let longer_then = then.longer in
+    record {
+      longer = omega arith;
+      kept = λ k d h. then.kept k d (omega arith) ∙ first.kept k d h;
+      fresh = λ k d from to. elim (cases_lt k (length mid)) [
+        | inl less ↦
+            subst (λ (o : Occurrence). Contains (strings ++ others) o.string) (sym (then.kept k d less))
+            (Contains-append_left strings others (get_or mid k d).string (first.fresh k d from less))
+        | inr end ↦ Contains-append_right strings others (get_or new k d).string (then.fresh k d end to)
+      ];
+      numbered = λ are. then.numbered (first.numbered are);
+    }
+
+-- what was gathered is so under more occurrences
+pub IsGathered-kept : (values : List Value) (words places : List ℕ) (old new : List Occurrence) (strings : List (List ℕ)) → AddsStrings old new strings → IsGathered values words places old → IsGathered values words places new
+IsGathered-kept values words places old new strings added had = record {
+  long = had.long;
+  plain = had.plain;
+  strings = λ p s h e. let was = had.strings p s h e in (was.0, IsNumber-kept old new s (get_or words p 0) added.longer added.kept was.1);
+  at_strings = had.at_strings;
+  ascending = had.ascending;
+}
+
+-- ---- columns of rows
+
+-- columns without values
+pub AreColumnsOf-none : (columns : List GatheredColumn) → ((c : ℕ) (d : GatheredColumn) → c < length columns → ((get_or columns c d).words.items ≡ []) × ((get_or columns c d).places.items ≡ [])) → (found : List Occurrence) → AreColumnsOf [] columns found
+AreColumnsOf-none columns empty found c d h =
+    let own = empty c d h in
+    subst (λ (words : List ℕ). IsGathered [] words (get_or columns c d).places.items found) (sym own.0)
+    (subst (λ (places : List ℕ). IsGathered [] [] places found) (sym own.1) (IsGathered-none found))
+
+-- the values of a column of rows and of one row more
+values_at-more : (done : List (List Value)) (row : List Value) (c : ℕ) → values_at (done ++ row ∷ []) c ≡ values_at done c ++ value_at row c ∷ []
+values_at-more done row c = map-append (λ (r : List Value). value_at r c) done (row ∷ [])
+
+-- of the columns in front of a place the values of one row more, and of the others those of the rows so far
+pub record AreColumnsUpTo (done : List (List Value)) (row : List Value) (place : ℕ) (columns : List GatheredColumn) (found : List Occurrence) : Type 0 where
+  pub front : (c : ℕ) (d : GatheredColumn) → c < place → IsGathered (values_at (done ++ row ∷ []) c) (get_or columns c d).words.items (get_or columns c d).places.items found
+  pub rest : (c : ℕ) (d : GatheredColumn) → place ≤ c → c < length columns → IsGathered (values_at done c) (get_or columns c d).words.items (get_or columns c d).places.items found
+
+pub AreColumnsUpTo-none : (done : List (List Value)) (row : List Value) (columns : List GatheredColumn) (found : List Occurrence) → AreColumnsOf done columns found → AreColumnsUpTo done row 0 columns found
+AreColumnsUpTo-none done row columns found are = record {
+  front = λ c d h. absurd (omega arith);
+  rest = λ c d from to. are c d to;
+}
+
+-- the value of the next column is added
+pub AreColumnsUpTo-more : (done : List (List Value)) (row : List Value) (place : ℕ) (columns new : List GatheredColumn) (own : GatheredColumn) (old later : List Occurrence) (strings : List (List ℕ)) → place < length columns → new ≡ set columns place own → AddsStrings old later strings
+    → IsGathered (values_at done place ++ value_at row place ∷ []) own.words.items own.places.items later
+    → AreColumnsUpTo done row place columns old → AreColumnsUpTo done row (place + 1) new later
+AreColumnsUpTo-more done row place columns new own old later strings there is added got had = subst (λ (cs : List GatheredColumn). AreColumnsUpTo done row (place + 1) cs later) (sym is) (record {
+  front = λ c d h. elim (cases_lt c place) [
+    | inl less ↦
+        subst (λ (g : GatheredColumn). IsGathered (values_at (done ++ row ∷ []) c) g.words.items g.places.items later) (sym (other c d (λ (e : c ≡ place). omega arith)))
+        (IsGathered-kept (values_at (done ++ row ∷ []) c) (get_or columns c d).words.items (get_or columns c d).places.items old later strings added (had.front c d less))
+    | inr end ↦
+        let same : place ≡ c = omega arith in
+        subst (λ n. IsGathered (values_at (done ++ row ∷ []) n) (get_or (set columns place own) n d).words.items (get_or (set columns place own) n d).places.items later) same
+        (subst (λ (g : GatheredColumn). IsGathered (values_at (done ++ row ∷ []) place) g.words.items g.places.items later) (sym (get_or-set_same columns place own d there))
+        (subst (λ (vs : List Value). IsGathered vs own.words.items own.places.items later) (sym (values_at-more done row place)) got))
+  ];
+  rest = λ c d from to.
+      let within : c < length columns = omega (arith, length-set columns place own) in
+      subst (λ (g : GatheredColumn). IsGathered (values_at done c) g.words.items g.places.items later) (sym (other c d (λ (e : c ≡ place). omega arith)))
+      (IsGathered-kept (values_at done c) (get_or columns c d).words.items (get_or columns c d).places.items old later strings added (had.rest c d (omega arith) within));
+})
+  where
+    other : (c : ℕ) (d : GatheredColumn) → c ≢ place → get_or (set columns place own) c d ≡ get_or columns c d
+    other c d ne = get_or-set_other columns place c own d ne
+
+-- rows whose columns were gathered are so under more occurrences
+pub IsGatheredPart-kept : (rows : List (List Value)) (width : ℕ) (part : GatheredPart) (old new : List Occurrence) (strings : List (List ℕ)) → AddsStrings old new strings → IsGatheredPart rows width part old → IsGatheredPart rows width part new
+IsGatheredPart-kept rows width part old new strings added had = record {
+  wide = had.wide;
+  as_wide = had.as_wide;
+  counted = had.counted;
+  many = had.many;
+  columns = λ c d h. IsGathered-kept (values_at rows c) (get_or part.columns.items c d).words.items (get_or part.columns.items c d).places.items old new strings added (had.columns c d h);
+}
+
+-- one part more
+pub AreGathered-more : (widths : List ℕ) (parts : List (List (List Value))) (place : ℕ) (gathered : List GatheredPart) (part : GatheredPart) (old new : List Occurrence) (strings : List (List ℕ)) → place < length parts → AddsStrings old new strings
+    → IsGatheredPart (get_or parts place []) (get_or widths place 0) part new → AreGathered widths (take place parts) gathered old → AreGathered widths (take (place + 1) parts) (gathered ++ part ∷ []) new
+AreGathered-more widths parts place gathered part old new strings there added own had = record {
+  many = let many = had.many in omega (arith, length-append gathered (part ∷ []), so_far, with_next);
+  each = λ j d h. elim (cases_lt j place) [
+    | inl less ↦
+        let many = had.many in
+        let rows : get_or (take (place + 1) parts) j [] ≡ get_or (take place parts) j [] = get_or-take (place + 1) parts j [] (omega arith) ∙ sym (get_or-take place parts j [] less) in
+        subst (λ (g : GatheredPart). IsGatheredPart (get_or (take (place + 1) parts) j []) (get_or widths j 0) g new) (sym (get_or_append_left gathered (part ∷ []) d j (omega (arith, so_far))))
+        (subst (λ (rs : List (List Value)). IsGatheredPart rs (get_or widths j 0) (get_or gathered j d) new) (sym rows)
+        (IsGatheredPart-kept (get_or (take place parts) j []) (get_or widths j 0) (get_or gathered j d) old new strings added (had.each j d (omega (arith, so_far)))))
+    | inr end ↦
+        let many = had.many in
+        let same : place ≡ j = omega (arith, with_next) in
+        let at : j ≡ length gathered + 0 = omega (arith, so_far) in
+        let last : get_or (gathered ++ part ∷ []) j d ≡ part = ap (λ n. get_or (gathered ++ part ∷ []) n d) at ∙ get_or-append-add gathered (part ∷ []) 0 d in
+        let rows : get_or (take (place + 1) parts) j [] ≡ get_or parts j [] = get_or-take (place + 1) parts j [] (omega arith) in
+        subst (λ (g : GatheredPart). IsGatheredPart (get_or (take (place + 1) parts) j []) (get_or widths j 0) g new) (sym last)
+        (subst (λ (rs : List (List Value)). IsGatheredPart rs (get_or widths j 0) part new) (sym rows)
+        (subst (λ n. IsGatheredPart (get_or parts n []) (get_or widths n 0) part new) same own))
+  ];
+}
+  where
+    so_far : length (take place parts) ≡ place
+    so_far = length-take-le place parts (omega arith)
+
+    with_next : length (take (place + 1) parts) ≡ place + 1
+    with_next = length-take-le (place + 1) parts (omega arith)
+
+-- a row behind others has their width
+pub next_wide : (so_far left rows : List (List Value)) (row : List Value) (width : ℕ) → so_far ++ row ∷ left ≡ rows → All (λ r. length r ≡ width) rows → length row ≡ width
+next_wide so_far left rows row width is wide =
+    let all : All (λ r. length r ≡ width) (so_far ++ row ∷ left) = subst (All (λ (r : List Value). length r ≡ width)) (sym is) wide in
+    sym (ap length (get_or-append-add so_far (row ∷ left) 0 [])) ∙ all (length so_far + 0) [] (omega (arith, length-append so_far (row ∷ left)))

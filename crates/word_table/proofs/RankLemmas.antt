@@ -1,5 +1,5 @@
 -- Ranks of sorted occurrences: how they are found one after another, and that they are the words of the strings.
-use Rattle.std.proofs.Common.{◌≡◌, ◌≢◌, ℕ, zero, suc, ◌+◌, ◌-◌, ◌<◌, ◌≤◌, true, false, List, [], ◌∷◌, ◌++◌, length, get_or, take, map, refl, ap, ◌∙◌, sym, subst, All, arith, inl, inr, length-append, get_or-set_other, get_or-set_same}
+use Rattle.std.proofs.Common.{◌≡◌, ◌≢◌, ℕ, suc, ◌+◌, ◌-◌, ◌<◌, ◌≤◌, true, false, List, [], ◌∷◌, ◌++◌, length, get_or, take, map, refl, ap, ◌∙◌, sym, subst, All, arith, inl, inr, length-append, get_or-set_other, get_or-set_same}
 use Rattle.std.specs.Prelude.{Contains, AllPairs, IsPermutation}
 use Rattle.std.specs.List.{flat_map}
 use Rattle.std.specs.declared.cmp.Ordering.{Ordering}
@@ -8,16 +8,18 @@ use Rattle.std.specs.Ordering.{is_lt, ordering_reverse}
 use Rattle.std.proofs.lemmas.Bool.{cases_lt, cases_eq}
 use Rattle.std.proofs.lemmas.Cmp.{nat_list_cmp_total}
 use Rattle.std.proofs.lemmas.List.{get_or_append_left, get_or-append-add, get_or_default, get_or-map, get_or-take, length-map, length-take-le, ext_get_or, length-set}
-use Rattle.std.proofs.lemmas.List.Concat.{flat_map-append, flat_map-cons}
+use Rattle.std.proofs.lemmas.List.Concat.{flat_map-cons}
 use Rattle.std.proofs.lemmas.List.Elements.{Contains-append_cases, Contains-get_or}
 use Rattle.std.proofs.lemmas.List.Quantifiers.{all_pairs_push}
-use Rattle.std.proofs.lemmas.List.Sorted.{All-permutation, Contains-permutation}
+use Rattle.std.proofs.lemmas.List.Sorted.{All-permutation, Contains-permutation, length_permutation}
 use Rattle.std.proofs.Math.ListN.{set}
 use Rattle.rel_base.specs.declared.values.Value.{Value}
 use Rattle.rel_base.specs.declared.values.Value.TheVariants as variant
-use Rattle.word_table.specs.Words.{text_order, strings_of_value, strings_of_rows, strings_in, IsAscending, IsDictionaryOf, rank, word_of, HasWord}
+use Rattle.word_table.specs.Words.{text_order, strings_of_value, strings_of_row, strings_of_rows, strings_in, IsAscending, IsDictionaryOf, rank, word_of, HasWord}
 use Rattle.word_table.specs.declared.numbering.Occurrence.{Occurrence}
-use Rattle.word_table.specs.inner.Gathered.{value_at, StandsAt, IsNumber, AreNumbered, IsGathered, values_of_rows, values_in, Rise, IsLast, IsRanked, HasRanks}
+use Rattle.word_table.specs.declared.occurrences.GatheredColumn.{GatheredColumn}
+use Rattle.word_table.specs.declared.occurrences.GatheredPart.{GatheredPart}
+use Rattle.word_table.specs.inner.Gathered.{value_at, values_at, StandsAt, IsNumber, AreNumbered, AddsStrings, IsGathered, IsGatheredPart, AreGathered, Rise, IsLast, IsRanked, AreRanksOf, HasRanks}
 use Rattle.word_table.proofs.WordLemmas.{same_text, rank_at}
 
 pub IsRanked-none : (found : List Occurrence) (words : List ℕ) → IsRanked found 0 [] words words
@@ -153,37 +155,6 @@ string_from (variant.Str t) s held =
     let is : t ≡ s = sym (ap (λ k. get_or (t ∷ []) k s) first) ∙ held.2 in
     ap variant.Str is
 
--- flat lists of flat lists
-flat_map-flat_map : {X Y Z : Type 0} (f : X → List Y) (g : Y → List Z) (xs : List X) → flat_map g (flat_map f xs) ≡ flat_map (λ x. flat_map g (f x)) xs
-flat_map-flat_map f g [] = refl
-flat_map-flat_map f g (x ∷ xs) =
-    ap (flat_map g) (flat_map-cons f x xs) ∙ flat_map-append g (f x) (flat_map f xs) ∙ ap (λ l. flat_map g (f x) ++ l) (flat_map-flat_map f g xs) ∙ sym (flat_map-cons (λ y. flat_map g (f y)) x xs)
-
--- what holds of all of two lists holds of all of each
-All-front : {X : Type 0} (P : X → Type 0) (xs ys : List X) → All P (xs ++ ys) → All P xs
-All-front P xs ys all k d h = subst P (get_or_append_left xs ys d k h) (all k d (omega (arith, length-append xs ys)))
-
-All-back : {X : Type 0} (P : X → Type 0) (xs ys : List X) → All P (xs ++ ys) → All P ys
-All-back P xs ys all k d h = subst P (get_or-append-add xs ys k d) (all (length xs + k) d (omega (arith, length-append xs ys)))
-
--- what holds of all of a flat list holds of all of each item's
-All-from_flat_map : {X Y : Type 0} (P : Y → Type 0) (f : X → List Y) (xs : List X) → All P (flat_map f xs) → All (λ x. All P (f x)) xs
-All-from_flat_map P f [] all k d h = absurd (omega arith)
-All-from_flat_map P f (x ∷ xs) all zero d h = All-front P (f x) (flat_map f xs) (subst (All P) (flat_map-cons f x xs) all)
-All-from_flat_map P f (x ∷ xs) all (suc k) d h = All-from_flat_map P f xs (All-back P (f x) (flat_map f xs) (subst (All P) (flat_map-cons f x xs) all)) k d (omega arith)
-
--- the strings of parts are those of their values
-strings_of_values : (parts : List (List (List Value))) → strings_in parts ≡ flat_map strings_of_value (values_in parts)
-strings_of_values parts = sym (flat_map-flat_map values_of_rows strings_of_value parts ∙ inside parts)
-  where
-    rows : (l : List (List Value)) → flat_map strings_of_value (values_of_rows l) ≡ strings_of_rows l
-    rows l = flat_map-flat_map (λ row. row) strings_of_value l
-
-    inside : (l : List (List (List Value))) → flat_map (λ x. flat_map strings_of_value (values_of_rows x)) l ≡ flat_map strings_of_rows l
-    inside [] = refl
-    inside (x ∷ l) =
-        flat_map-cons (λ y. flat_map strings_of_value (values_of_rows y)) x l ∙ (λ i. rows x i ++ inside l i) ∙ sym (flat_map-cons strings_of_rows x l)
-
 -- ---- ranks in place of numbers
 
 pub HasRanks-none : (ranks words : List ℕ) → HasRanks [] ranks words words
@@ -259,91 +230,147 @@ stand-numbered found numbered k d h =
       is = ap (value_at (texts_of found)) place ∙ get_or-map (λ (o : Occurrence). variant.Str o.string) found k d (variant.Bool false) h;
     }
 
-module _ (parts : List (List (List Value))) (words places : List ℕ) (found sorted : List Occurrence) (gathered : IsGathered (values_in parts) words places found) (moved : IsPermutation found sorted)
-    (strings : List (List ℕ)) (zeros ranks : List ℕ) (ranked : IsRanked sorted (length sorted) strings zeros ranks) (new : List ℕ) (put : HasRanks places ranks words new) where
-  stand : All (StandsAt (texts_of found)) sorted
-  stand = All-permutation (StandsAt (texts_of found)) found sorted moved (stand-numbered found gathered.numbered)
+-- the rank of each number is the place of its string
+pub AreRanksOf-ranked : (found sorted : List Occurrence) → AreNumbered found → IsPermutation found sorted → (strings : List (List ℕ)) (zeros ranks : List ℕ) → length zeros ≡ length sorted → IsRanked sorted (length sorted) strings zeros ranks → AreRanksOf found ranks strings
+AreRanksOf-ranked found sorted numbered moved strings zeros ranks zeroed ranked = record {
+  ascending = ranked.ascending;
+  there = let long = ranked.long in let same = length_permutation found sorted moved in omega arith;
+  within = λ s n is. (of_number s n [] is).0;
+  string = λ s n d is. (of_number s n d is).1;
+}
+  where
+    stand : All (StandsAt (texts_of found)) sorted
+    stand = All-permutation (StandsAt (texts_of found)) found sorted moved (stand-numbered found numbered)
 
-  -- a number's rank is the place of its string
-  rank_of_number : (s : List ℕ) (n : ℕ) (d : List ℕ) → IsNumber found s n → (get_or ranks n 0 < length strings) × (get_or strings (get_or ranks n 0) d ≡ s)
-  rank_of_number s n d is =
-      let none : Occurrence = record { string = []; place = 0 } in
-      let low = is.within in
-      let o : Occurrence = get_or found n none in
-      let there = Contains-permutation found sorted o moved (Contains-get_or found n none low) in
-      let at : get_or sorted there.0 o ≡ o = there.2 in
-      let rank = ranked.ranked (texts_of found) stand there.0 o d there.1 in
-      let place : (get_or sorted there.0 o).place ≡ n = ap (λ (x : Occurrence). x.place) at ∙ gathered.numbered n none low in
-      let string : (get_or sorted there.0 o).string ≡ s = ap (λ (x : Occurrence). x.string) at ∙ is.string none in
-      (subst (λ m. get_or ranks m 0 < length strings) place rank.0, ap (λ m. get_or strings (get_or ranks m 0) d) (sym place) ∙ rank.1 ∙ string)
+    of_number : (s : List ℕ) (n : ℕ) (d : List ℕ) → IsNumber found s n → (get_or ranks n 0 < length strings) × (get_or strings (get_or ranks n 0) d ≡ s)
+    of_number s n d is =
+        let none : Occurrence = record { string = []; place = 0 } in
+        let low = is.within in
+        let o : Occurrence = get_or found n none in
+        let there = Contains-permutation found sorted o moved (Contains-get_or found n none low) in
+        let at : get_or sorted there.0 o ≡ o = there.2 in
+        let rank = ranked.ranked (texts_of found) stand there.0 o d there.1 in
+        let place : (get_or sorted there.0 o).place ≡ n = ap (λ (x : Occurrence). x.place) at ∙ numbered n none low in
+        let string : (get_or sorted there.0 o).string ≡ s = ap (λ (x : Occurrence). x.string) at ∙ is.string none in
+        (subst (λ m. get_or ranks m 0 < length strings) place rank.0, ap (λ m. get_or strings (get_or ranks m 0) d) (sym place) ∙ rank.1 ∙ string)
 
-  -- a string's word is its place among the strings
-  word_of_string : (p : ℕ) (s : List ℕ) → p < length (values_in parts) → value_at (values_in parts) p ≡ variant.Str s → (get_or new p 0 < length strings) × (get_or strings (get_or new p 0) s ≡ s)
-  word_of_string p s h is =
-      let number = gathered.strings p s h is in
-      let there : (k : ℕ) × (k < length places) × (get_or places k p ≡ p) = number.0 in
-      let word : get_or new p 0 ≡ get_or ranks (get_or words p 0) 0 =
-      ap (λ n. get_or new n 0) (sym there.2) ∙ put.ranked there.0 p there.1 ∙ ap (λ n. get_or ranks (get_or words n 0) 0) there.2 in
-      let rank = rank_of_number s (get_or words p 0) s number.1 in
-      (subst (λ n. n < length strings) (sym word) rank.0, ap (λ n. get_or strings n s) word ∙ rank.1)
+-- ---- the words of gathered values
 
-  pub ranked-dictionary : IsDictionaryOf parts strings
-  ranked-dictionary = record {
-    ascending = ranked.ascending;
-    whole = λ s. (
-      (λ (in_strings : Contains strings s). subst (λ l. Contains l s) (sym (strings_of_values parts)) (from_strings s in_strings)),
-      (λ (in_parts : Contains (strings_in parts) s). to_strings s (subst (λ l. Contains l s) (strings_of_values parts) in_parts)),
-    );
-  }
+module _ (values : List Value) (words places : List ℕ) (found : List Occurrence) (strings : List (List ℕ)) (ranks : List ℕ) (gathered : IsGathered values words places found) (are : AreRanksOf found ranks strings) where
+  -- each place has a number that has a rank
+  pub gathered-within : All (λ q. q < length words) places
+  gathered-within k d h = let low = (gathered.at_strings k d h).within in let long = gathered.long in omega arith
+
+  pub gathered-numbers : All (λ q. get_or words q 0 < length ranks) places
+  gathered-numbers k d h =
+      let at = gathered.at_strings k d h in
+      let number = (gathered.strings (get_or places k d) at.string.0 at.within at.string.1).1 in
+      let low = number.within in
+      let there = are.there in
+      omega arith
+
+  -- each value has a word
+  pub gathered-has : (p : ℕ) → p < length values → HasWord strings (value_at values p)
+  gathered-has p h = by (value_at values p) refl
     where
-      from_strings : (s : List ℕ) → Contains strings s → Contains (flat_map strings_of_value (values_in parts)) s
-      from_strings s held =
-          let none : Occurrence = record { string = []; place = 0 } in
-          let from = ranked.earlier held.0 s none held.1 in
-          let all : All (λ (o : Occurrence). Contains (flat_map strings_of_value (values_in parts)) o.string) sorted =
-          All-permutation (λ (o : Occurrence). Contains (flat_map strings_of_value (values_in parts)) o.string) found sorted moved gathered.from_values in
-          subst (Contains (flat_map strings_of_value (values_in parts))) (sym from.2 ∙ held.2) (all from.0 none from.1)
-
-      to_strings : (s : List ℕ) → Contains (flat_map strings_of_value (values_in parts)) s → Contains strings s
-      to_strings s held =
-          let at = Contains-from_flat_map strings_of_value (values_in parts) (variant.Bool false) s held in
-          let is : value_at (values_in parts) at.0 ≡ variant.Str s = string_from (value_at (values_in parts) at.0) s at.2 in
-          let word = word_of_string at.0 s at.1 is in
-          (get_or new at.0 0, word.0, word.1)
-
-  -- a value that is no string keeps its word
-  plain : (p : ℕ) → p < length (values_in parts) → strings_of_value (value_at (values_in parts) p) ≡ [] → HasWord strings (value_at (values_in parts) p) × (get_or new p 0 ≡ word_of strings (value_at (values_in parts) p))
-  plain p h none =
-      let own = gathered.plain strings p h none in
-      let nowhere : (k d : ℕ) → k < length places → get_or places k d ≢ p =
-      λ k d low. λ (e : get_or places k d ≡ p).
-      let at = (gathered.at_strings k d low).string in
-      let is : value_at (values_in parts) p ≡ variant.Str at.0 = ap (value_at (values_in parts)) (sym e) ∙ at.1 in
-      let some : at.0 ∷ [] ≡ [] = sym (ap strings_of_value is) ∙ none in
-      absurd (cc) in
-      (own.0, put.others p nowhere ∙ own.1)
-
-  -- each value has its word
-  pub ranked-word : (p : ℕ) → p < length (values_in parts) → HasWord strings (value_at (values_in parts) p) × (get_or new p 0 ≡ word_of strings (value_at (values_in parts) p))
-  ranked-word p h = by (value_at (values_in parts) p) refl
-    where
-      by : (v : Value) → value_at (values_in parts) p ≡ v → HasWord strings (value_at (values_in parts) p) × (get_or new p 0 ≡ word_of strings (value_at (values_in parts) p))
-      by (variant.Int n) is = plain p h (ap strings_of_value is)
-      by (variant.Bool b) is = plain p h (ap strings_of_value is)
+      by : (v : Value) → value_at values p ≡ v → HasWord strings (value_at values p)
+      by (variant.Int n) is = (gathered.plain strings p h (ap strings_of_value is)).0
+      by (variant.Bool b) is = (gathered.plain strings p h (ap strings_of_value is)).0
       by (variant.Str s) is =
-          let word = word_of_string p s h is in
-          let rank : rank strings s ≡ get_or new p 0 = rank_at strings s (get_or new p 0) ranked.ascending word.0 word.1 in
-          (subst (HasWord strings) (sym is) (get_or new p 0, word.0, word.1), sym rank ∙ ap (word_of strings) (sym is))
+          let number = (gathered.strings p s h is).1 in
+          subst (HasWord strings) (sym is) (get_or ranks (get_or words p 0) 0, are.within s (get_or words p 0) number, are.string s (get_or words p 0) s number)
 
-  pub ranked-words : new ≡ map (word_of strings) (values_in parts)
-  ranked-words =
-      let long : length new ≡ length (values_in parts) = put.long ∙ gathered.long in
-      ext_get_or 0 new (map (word_of strings) (values_in parts)) (long ∙ sym (length-map (values_in parts) (word_of strings)))
-      (λ p h. let there : p < length (values_in parts) = rw (← long) h in
-      (ranked-word p there).1 ∙ sym (get_or-map (word_of strings) (values_in parts) p (variant.Bool false) 0 there))
+  module _ (new : List ℕ) (put : HasRanks places ranks words new) where
+    -- a value that is no string keeps its word
+    plain : (p : ℕ) → p < length values → strings_of_value (value_at values p) ≡ [] → get_or new p 0 ≡ word_of strings (value_at values p)
+    plain p h none =
+        let own = gathered.plain strings p h none in
+        let nowhere : (k d : ℕ) → k < length places → get_or places k d ≢ p =
+        λ k d low. λ (e : get_or places k d ≡ p).
+        let at = (gathered.at_strings k d low).string in
+        let is : value_at values p ≡ variant.Str at.0 = ap (value_at values) (sym e) ∙ at.1 in
+        let some : at.0 ∷ [] ≡ [] = sym (ap strings_of_value is) ∙ none in
+        absurd (cc) in
+        put.others p nowhere ∙ own.1
 
-  pub ranked-have_words : All (All (All (HasWord strings))) parts
-  ranked-have_words =
-      let all : All (HasWord strings) (values_in parts) =
-      λ p d h. subst (HasWord strings) (get_or_default (values_in parts) p (variant.Bool false) d h) ((ranked-word p h).0) in
-      λ j rows h. All-from_flat_map (HasWord strings) (λ row. row) (get_or parts j rows) (All-from_flat_map (HasWord strings) values_of_rows parts all j rows h)
+    -- each value's word
+    word : (p : ℕ) → p < length values → get_or new p 0 ≡ word_of strings (value_at values p)
+    word p h = by (value_at values p) refl
+      where
+        by : (v : Value) → value_at values p ≡ v → get_or new p 0 ≡ word_of strings (value_at values p)
+        by (variant.Int n) is = plain p h (ap strings_of_value is)
+        by (variant.Bool b) is = plain p h (ap strings_of_value is)
+        by (variant.Str s) is =
+            let own = gathered.strings p s h is in
+            let at : (k : ℕ) × (k < length places) × (get_or places k p ≡ p) = own.0 in
+            let n = get_or words p 0 in
+            let put_there : get_or new p 0 ≡ get_or ranks n 0 =
+            ap (λ m. get_or new m 0) (sym at.2) ∙ put.ranked at.0 p at.1 ∙ ap (λ m. get_or ranks (get_or words m 0) 0) at.2 in
+            let rank : rank strings s ≡ get_or ranks n 0 = rank_at strings s (get_or ranks n 0) are.ascending (are.within s n own.1) (are.string s n s own.1) in
+            put_there ∙ sym rank ∙ ap (word_of strings) (sym is)
+
+    pub ranked-words : new ≡ map (word_of strings) values
+    ranked-words =
+        let long : length new ≡ length values = put.long ∙ gathered.long in
+        ext_get_or 0 new (map (word_of strings) values) (long ∙ sym (length-map values (word_of strings)))
+        (λ p h. let there : p < length values = rw (← long) h in
+        word p there ∙ sym (get_or-map (word_of strings) values p (variant.Bool false) 0 there))
+
+-- ---- the dictionary of gathered parts
+
+-- an item of a list that has one
+some_item : {X : Type 0} (xs : List X) → 0 < length xs → X
+some_item [] some = absurd (omega arith)
+some_item (x ∷ xs) some = x
+
+-- each value of gathered parts has a word
+pub ranked-have_words : (widths : List ℕ) (parts : List (List (List Value))) (gathered : List GatheredPart) (found : List Occurrence) (ranks : List ℕ) (strings : List (List ℕ)) → AreGathered widths parts gathered found → AreRanksOf found ranks strings
+    → All (All (All (HasWord strings))) parts
+ranked-have_words widths parts gathered found ranks strings have are j d h i e there c v low =
+    let many = have.many in
+    let part : GatheredPart = get_or gathered j (some_item gathered (omega arith)) in
+    let own : IsGatheredPart (get_or parts j []) (get_or widths j 0) part found = have.each j (some_item gathered (omega arith)) h in
+    let same : get_or parts j d ≡ get_or parts j [] = get_or_default parts j d [] h in
+    has_word (get_or parts j []) (get_or widths j 0) part own (get_or parts j d) same i e there c v low
+  where
+    has_word : (rows : List (List Value)) (width : ℕ) (part : GatheredPart) → IsGatheredPart rows width part found → (own : List (List Value)) → own ≡ rows
+        → (k : ℕ) (row : List Value) → k < length own → (n : ℕ) (value : Value) → n < length (get_or own k row) → HasWord strings (get_or (get_or own k row) n value)
+    has_word rows width part got own same k row inside n value within =
+        let there_k : k < length rows = omega (arith, ap length same) in
+        let line : get_or own k row ≡ get_or rows k [] = ap (λ (l : List (List Value)). get_or l k row) same ∙ get_or_default rows k row [] there_k in
+        let wide : length (get_or rows k []) ≡ width = got.wide k [] there_k in
+        let at : n < length (get_or rows k []) = omega (arith, ap length line) in
+        let many_columns = got.many in
+        let column : GatheredColumn = some_item part.columns.items (omega arith) in
+        let values = values_at rows n in
+        let place : k < length values = omega (arith, length-map rows (λ r. value_at r n)) in
+        let is : value_at values k ≡ get_or (get_or own k row) n value =
+        get_or-map (λ r. value_at r n) rows k [] (variant.Bool false) there_k
+        ∙ get_or_default (get_or rows k []) n (variant.Bool false) value at
+        ∙ ap (λ (l : List Value). get_or l n value) (sym line) in
+        subst (HasWord strings) is
+        (gathered-has values (get_or part.columns.items n column).words.items (get_or part.columns.items n column).places.items found strings ranks (got.columns n column (omega arith)) are k place)
+
+-- the strings are those of the parts
+pub ranked-dictionary : (parts : List (List (List Value))) (found sorted : List Occurrence) → AddsStrings [] found (strings_in parts) → IsPermutation found sorted → (strings : List (List ℕ)) (zeros ranks : List ℕ) → IsRanked sorted (length sorted) strings zeros ranks
+    → All (All (All (HasWord strings))) parts → IsDictionaryOf parts strings
+ranked-dictionary parts found sorted added moved strings zeros ranks ranked has = record {
+  ascending = ranked.ascending;
+  whole = λ s. (from_strings s, to_strings s);
+}
+  where
+    from_strings : (s : List ℕ) → Contains strings s → Contains (strings_in parts) s
+    from_strings s held =
+        let none : Occurrence = record { string = []; place = 0 } in
+        let from = ranked.earlier held.0 s none held.1 in
+        let all : All (λ (o : Occurrence). Contains (strings_in parts) o.string) sorted =
+        All-permutation (λ (o : Occurrence). Contains (strings_in parts) o.string) found sorted moved (λ k d h. added.fresh k d (omega arith) h) in
+        subst (Contains (strings_in parts)) (sym from.2 ∙ held.2) (all from.0 none from.1)
+
+    to_strings : (s : List ℕ) → Contains (strings_in parts) s → Contains strings s
+    to_strings s held =
+        let part = Contains-from_flat_map strings_of_rows parts [] s held in
+        let row = Contains-from_flat_map strings_of_row (get_or parts part.0 []) [] s part.2 in
+        let at = Contains-from_flat_map strings_of_value (get_or (get_or parts part.0 []) row.0 []) (variant.Bool false) s row.2 in
+        let is = string_from (get_or (get_or (get_or parts part.0 []) row.0 []) at.0 (variant.Bool false)) s at.2 in
+        subst (HasWord strings) is (has part.0 [] part.1 row.0 [] row.1 at.0 (variant.Bool false) at.1)

@@ -113,7 +113,7 @@ pub second_of_the_first : word_at ((5 ∷ 6 ∷ []) ∷ (7 ∷ 8 ∷ []) ∷ [])
 second_of_the_first = refl
 
 -- the same words, column after column
-pub two_rows_by_columns : (table_by_columns 2 2 (5 ∷ 7 ∷ 6 ∷ 8 ∷ [])).rows ≡ (5 ∷ 6 ∷ []) ∷ (7 ∷ 8 ∷ []) ∷ []
+pub two_rows_by_columns : (table_by_columns 2 2 ((5 ∷ 7 ∷ []) ∷ (6 ∷ 8 ∷ []) ∷ [])).rows ≡ (5 ∷ 6 ∷ []) ∷ (7 ∷ 8 ∷ []) ∷ []
 two_rows_by_columns = refl
 
 -- of the words 7, 5, 7 the least is 5 and the greatest 7

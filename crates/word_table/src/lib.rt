@@ -3,9 +3,8 @@
 //! Stands on `rel_base`. Nothing here reads, writes or waits. A dictionary is built once over all
 //! rows that are to be joined, and keeps their strings one behind another in one piece of memory,
 //! from which it lends them; each value then has a word of 64 bits, and words of one type compare
-//! as their values do. A table is rows of such words in one flat list, column after column, so
-//! that a join compares numbers that stand side by side; it knows each column's least and greatest
-//! word.
+//! as their values do. A table is rows of such words, in a flat list for each column, so that a
+//! join compares numbers that stand side by side; it knows each column's least and greatest word.
 //!
 //! Promises: a dictionary has exactly the strings of the rows that it was built over, each once
 //! and in byte order; a word is undone by `value`; a table has the words of its rows, in their
@@ -24,7 +23,7 @@ mod keyed;
 mod numbering;
 mod occurrences;
 mod ranking;
-mod shared_words;
+mod shared_columns;
 mod tables;
 mod text_keys;
 mod texts;

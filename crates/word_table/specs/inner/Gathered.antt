@@ -1,24 +1,30 @@
 -- Values that are gathered as words, and the ranks that their strings get.
 --
 --   value_at values place                   the value of this place
+--   values_at rows column                   the values of one column, row by row
 --   IsStringAt values place                 a string stands at this place
 --   StandsAt values o                       the string of an occurrence stands at its place
 --   IsNumber found s n                      a string has this number
 --   AreNumbered found                       the numbers of occurrences are their places
 --   AddsString old new s n                  a string has this number, which may be a new one
+--   AddsStrings old new strings             all new occurrences are of these strings
 --   IsGathered values words places found    the words of values, with numbers in place of strings
---   rows_in parts, values_in parts          the rows and the values of the parts, one after another
+--   AreColumnsOf rows columns found         of each column the words of its values
+--   IsGatheredPart rows width part found    the words of rows with so many columns
+--   AreGathered widths parts gathered found    the words of parts
 --   Rise found                              no string of an occurrence is below one in front of it
 --   IsLast strings s                        the last of the strings is this one
 --   IsRanked found done strings old new     the strings of the first occurrences, and their ranks
+--   AreRanksOf found ranks strings          for each number the place of its string
 --   HasRanks places ranks old new           ranks in place of the numbers at these places
-use Rattle.std.specs.Prelude.{◌≡◌, ◌≢◌, ℕ, ◌-◌, ◌<◌, ◌≤◌, false, List, [], length, All, AllPairs, Contains, slice_index, slice_index_or}
-use Rattle.std.specs.List.{flat_map}
+use Rattle.std.specs.Prelude.{◌≡◌, ◌≢◌, ℕ, ◌-◌, ◌<◌, ◌≤◌, false, List, [], length, map, All, AllPairs, Contains, slice_index, slice_index_or}
 use Rattle.std.specs.Ordering.{is_lt}
 use Rattle.rel_base.specs.declared.values.Value.{Value}
 use Rattle.rel_base.specs.declared.values.Value.TheVariants as variant
 use Rattle.word_table.specs.Words.{text_order, strings_of_value, IsAscending, word_of, HasWord}
 use Rattle.word_table.specs.declared.numbering.Occurrence.{Occurrence}
+use Rattle.word_table.specs.declared.occurrences.GatheredColumn.{GatheredColumn}
+use Rattle.word_table.specs.declared.occurrences.GatheredPart.{GatheredPart}
 
 -- the value of this place; past the end no string
 abbrev pub value_at : List Value → ℕ → Value
@@ -53,8 +59,17 @@ pub record AddsString (old new : List Occurrence) (s : List ℕ) (n : ℕ) : Typ
   pub numbered : AreNumbered old → AreNumbered new
   pub number : IsNumber new s n
 
+-- the occurrences are still there, and each new one is of one of the strings
+pub record AddsStrings (old new : List Occurrence) (strings : List (List ℕ)) : Type 0 where
+  pub longer : length old ≤ length new
+  pub kept : (k : ℕ) (d : Occurrence) → k < length old
+      → slice_index_or new k d ≡ slice_index_or old k d
+  pub fresh : (k : ℕ) (d : Occurrence) → length old ≤ k → k < length new
+      → Contains strings (slice_index_or new k d).string
+  pub numbered : AreNumbered old → AreNumbered new
+
 -- under any strings, each value that is no string has the word that stands in its place; in the place of
--- each string there is its number, and those places ascend; all occurrences are of strings of the values
+-- each string there is its number, and those places ascend
 pub record IsGathered (values : List Value) (words places : List ℕ) (found : List Occurrence)
     : Type 0 where
   pub long : length words ≡ length values
@@ -65,16 +80,35 @@ pub record IsGathered (values : List Value) (words places : List ℕ) (found : L
       → Contains places p × IsNumber found s (slice_index words p)
   pub at_strings : All (IsStringAt values) places
   pub ascending : AllPairs (λ p q. p < q) places
-  pub numbered : AreNumbered found
-  pub from_values : All (λ (o : Occurrence). Contains (flat_map strings_of_value values) o.string)
-      found
 
--- the values of rows and of parts, one after another
-abbrev pub values_of_rows : List (List Value) → List Value
-values_of_rows = flat_map (λ row. row)
+-- the value of this column in each row
+abbrev pub values_at : List (List Value) → ℕ → List Value
+values_at rows column = map (λ row. value_at row column) rows
 
-abbrev pub values_in : List (List (List Value)) → List Value
-values_in = flat_map values_of_rows
+-- the words of each column of the rows
+abbrev pub AreColumnsOf : List (List Value) → List GatheredColumn → List Occurrence → Type 0
+AreColumnsOf rows columns found = (c : ℕ) (d : GatheredColumn) → c < length columns
+    → IsGathered (values_at rows c) (slice_index_or columns c d).words.items
+    (slice_index_or columns c d).places.items found
+
+-- rows of this width, how many they are, and the words of each of their columns
+pub record IsGatheredPart
+    (rows : List (List Value)) (width : ℕ) (part : GatheredPart) (found : List Occurrence)
+    : Type 0 where
+  pub wide : All (λ row. length row ≡ width) rows
+  pub as_wide : part.width ≡ width
+  pub counted : part.count ≡ length rows
+  pub many : length part.columns.items ≡ width
+  pub columns : AreColumnsOf rows part.columns.items found
+
+-- the words of each part
+pub record AreGathered
+    (widths : List ℕ) (parts : List (List (List Value))) (gathered : List GatheredPart)
+    (found : List Occurrence) : Type 0 where
+  pub many : length gathered ≡ length parts
+  pub each : (j : ℕ) (d : GatheredPart) → j < length parts
+      → IsGatheredPart (slice_index_or parts j []) (slice_index widths j)
+      (slice_index_or gathered j d) found
 
 -- no string of an occurrence is below one in front of it
 pub record Rise (found : List Occurrence) : Type 0 where
@@ -94,6 +128,16 @@ pub record IsRanked (found : List Occurrence) (done : ℕ) (strings : List (List
       → (slice_index new (slice_index_or found j o).place < length strings)
       × (slice_index_or strings (slice_index new (slice_index_or found j o).place) d ≡ (slice_index_or found j o).string)
   pub others : (p : ℕ) → ((j : ℕ) (o : Occurrence) → j < done → (slice_index_or found j o).place ≢ p) → slice_index new p ≡ slice_index old p
+
+-- the rank of each number is the place of its string among strings that ascend
+pub record AreRanksOf (found : List Occurrence) (ranks : List ℕ) (strings : List (List ℕ))
+    : Type 0 where
+  pub ascending : IsAscending strings
+  pub there : length found ≤ length ranks
+  pub within : (s : List ℕ) (n : ℕ) → IsNumber found s n
+      → slice_index ranks n < length strings
+  pub string : (s : List ℕ) (n : ℕ) (d : List ℕ) → IsNumber found s n
+      → slice_index_or strings (slice_index ranks n) d ≡ s
 
 -- at each of the places there is the rank of the number that was there, and elsewhere the word as before
 pub record HasRanks (places ranks old new : List ℕ) : Type 0 where
