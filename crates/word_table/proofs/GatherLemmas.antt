@@ -12,7 +12,7 @@ use Rattle.word_table.specs.Words.{strings_of_value, word_of, HasWord}
 use Rattle.word_table.specs.declared.numbering.Occurrence.{Occurrence}
 use Rattle.word_table.specs.declared.occurrences.GatheredColumn.{GatheredColumn}
 use Rattle.word_table.specs.declared.occurrences.GatheredPart.{GatheredPart}
-use Rattle.word_table.specs.inner.Gathered.{value_at, values_at, IsStringAt, IsNumber, AddsString, AddsStrings, IsGathered, AreColumnsOf, IsGatheredPart, AreGathered}
+use Rattle.word_table.specs.inner.Gathered.{value_at, values_at, IsStringAt, IsNumber, AddsString, AddsStrings, IsGathered, AreColumnsOf, AreColumnsUpTo, IsGatheredPart, AreGathered}
 
 -- the values before the last are as they were, and the last is the one that was added
 value_at-before : (done : List Value) (v : Value) (p : ℕ) → p < length done → value_at (done ++ v ∷ []) p ≡ value_at done p
@@ -233,11 +233,6 @@ AreColumnsOf-none columns empty found c d h =
 -- the values of a column of rows and of one row more
 values_at-more : (done : List (List Value)) (row : List Value) (c : ℕ) → values_at (done ++ row ∷ []) c ≡ values_at done c ++ value_at row c ∷ []
 values_at-more done row c = map-append (λ (r : List Value). value_at r c) done (row ∷ [])
-
--- of the columns in front of a place the values of one row more, and of the others those of the rows so far
-pub record AreColumnsUpTo (done : List (List Value)) (row : List Value) (place : ℕ) (columns : List GatheredColumn) (found : List Occurrence) : Type 0 where
-  pub front : (c : ℕ) (d : GatheredColumn) → c < place → IsGathered (values_at (done ++ row ∷ []) c) (get_or columns c d).words.items (get_or columns c d).places.items found
-  pub rest : (c : ℕ) (d : GatheredColumn) → place ≤ c → c < length columns → IsGathered (values_at done c) (get_or columns c d).words.items (get_or columns c d).places.items found
 
 pub AreColumnsUpTo-none : (done : List (List Value)) (row : List Value) (columns : List GatheredColumn) (found : List Occurrence) → AreColumnsOf done columns found → AreColumnsUpTo done row 0 columns found
 AreColumnsUpTo-none done row columns found are = record {

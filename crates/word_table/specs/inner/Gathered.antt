@@ -10,6 +10,7 @@
 --   AddsStrings old new strings             all new occurrences are of these strings
 --   IsGathered values words places found    the words of values, with numbers in place of strings
 --   AreColumnsOf rows columns found         of each column the words of its values
+--   AreColumnsUpTo rows row place columns found    the same, while the values of a row more are added
 --   IsGatheredPart rows width part found    the words of rows with so many columns
 --   AreGathered widths parts gathered found    the words of parts
 --   Rise found                              no string of an occurrence is below one in front of it
@@ -17,7 +18,7 @@
 --   IsRanked found done strings old new     the strings of the first occurrences, and their ranks
 --   AreRanksOf found ranks strings          for each number the place of its string
 --   HasRanks places ranks old new           ranks in place of the numbers at these places
-use Rattle.std.specs.Prelude.{◌≡◌, ◌≢◌, ℕ, ◌-◌, ◌<◌, ◌≤◌, false, List, [], length, map, All, AllPairs, Contains, slice_index, slice_index_or}
+use Rattle.std.specs.Prelude.{◌≡◌, ◌≢◌, ℕ, ◌-◌, ◌<◌, ◌≤◌, false, List, [], ◌∷◌, ◌++◌, length, map, All, AllPairs, Contains, slice_index, slice_index_or}
 use Rattle.std.specs.Ordering.{is_lt}
 use Rattle.rel_base.specs.declared.values.Value.{Value}
 use Rattle.rel_base.specs.declared.values.Value.TheVariants as variant
@@ -90,6 +91,17 @@ abbrev pub AreColumnsOf : List (List Value) → List GatheredColumn → List Occ
 AreColumnsOf rows columns found = (c : ℕ) (d : GatheredColumn) → c < length columns
     → IsGathered (values_at rows c) (slice_index_or columns c d).words.items
     (slice_index_or columns c d).places.items found
+
+-- in front of a place the columns of the rows and of one row more, and from there on those of the rows
+pub record AreColumnsUpTo
+    (rows : List (List Value)) (row : List Value) (place : ℕ) (columns : List GatheredColumn)
+    (found : List Occurrence) : Type 0 where
+  pub front : (c : ℕ) (d : GatheredColumn) → c < place
+      → IsGathered (values_at (rows ++ row ∷ []) c) (slice_index_or columns c d).words.items
+      (slice_index_or columns c d).places.items found
+  pub rest : (c : ℕ) (d : GatheredColumn) → place ≤ c → c < length columns
+      → IsGathered (values_at rows c) (slice_index_or columns c d).words.items
+      (slice_index_or columns c d).places.items found
 
 -- rows of this width, how many they are, and the words of each of their columns
 pub record IsGatheredPart
