@@ -12,7 +12,7 @@ use Rattle.word_table.specs.Words.{strings_of_value, word_of, HasWord}
 use Rattle.word_table.specs.declared.numbering.Occurrence.{Occurrence}
 use Rattle.word_table.specs.declared.occurrences.GatheredColumn.{GatheredColumn}
 use Rattle.word_table.specs.declared.occurrences.GatheredPart.{GatheredPart}
-use Rattle.word_table.specs.inner.Gathered.{value_at, values_at, IsStringAt, IsNumber, AddsString, AddsStrings, IsGathered, AreColumnsOf, AreColumnsUpTo, IsGatheredPart, AreGathered}
+use Rattle.word_table.specs.inner.Gathered.{value_at, values_at, IsStringAt, IsNumber, AddsString, AddsStrings, IsGathered, AreGatheredColumns, AreGatheredUpTo, IsGatheredPart, AreGathered}
 
 -- the values before the last are as they were, and the last is the one that was added
 value_at-before : (done : List Value) (v : Value) (p : ℕ) → p < length done → value_at (done ++ v ∷ []) p ≡ value_at done p
@@ -224,8 +224,8 @@ IsGathered-kept values words places old new strings added had = record {
 -- ---- columns of rows
 
 -- columns without values
-pub AreColumnsOf-none : (columns : List GatheredColumn) → ((c : ℕ) (d : GatheredColumn) → c < length columns → ((get_or columns c d).words.items ≡ []) × ((get_or columns c d).places.items ≡ [])) → (found : List Occurrence) → AreColumnsOf [] columns found
-AreColumnsOf-none columns empty found c d h =
+pub AreGatheredColumns-none : (columns : List GatheredColumn) → ((c : ℕ) (d : GatheredColumn) → c < length columns → ((get_or columns c d).words.items ≡ []) × ((get_or columns c d).places.items ≡ [])) → (found : List Occurrence) → AreGatheredColumns [] columns found
+AreGatheredColumns-none columns empty found c d h =
     let own = empty c d h in
     subst (λ (words : List ℕ). IsGathered [] words (get_or columns c d).places.items found) (sym own.0)
     (subst (λ (places : List ℕ). IsGathered [] [] places found) (sym own.1) (IsGathered-none found))
@@ -234,17 +234,17 @@ AreColumnsOf-none columns empty found c d h =
 values_at-more : (done : List (List Value)) (row : List Value) (c : ℕ) → values_at (done ++ row ∷ []) c ≡ values_at done c ++ value_at row c ∷ []
 values_at-more done row c = map-append (λ (r : List Value). value_at r c) done (row ∷ [])
 
-pub AreColumnsUpTo-none : (done : List (List Value)) (row : List Value) (columns : List GatheredColumn) (found : List Occurrence) → AreColumnsOf done columns found → AreColumnsUpTo done row 0 columns found
-AreColumnsUpTo-none done row columns found are = record {
+pub AreGatheredUpTo-none : (done : List (List Value)) (row : List Value) (columns : List GatheredColumn) (found : List Occurrence) → AreGatheredColumns done columns found → AreGatheredUpTo done row 0 columns found
+AreGatheredUpTo-none done row columns found are = record {
   front = λ c d h. absurd (omega arith);
   rest = λ c d from to. are c d to;
 }
 
 -- the value of the next column is added
-pub AreColumnsUpTo-more : (done : List (List Value)) (row : List Value) (place : ℕ) (columns new : List GatheredColumn) (own : GatheredColumn) (old later : List Occurrence) (strings : List (List ℕ)) → place < length columns → new ≡ set columns place own → AddsStrings old later strings
+pub AreGatheredUpTo-more : (done : List (List Value)) (row : List Value) (place : ℕ) (columns new : List GatheredColumn) (own : GatheredColumn) (old later : List Occurrence) (strings : List (List ℕ)) → place < length columns → new ≡ set columns place own → AddsStrings old later strings
     → IsGathered (values_at done place ++ value_at row place ∷ []) own.words.items own.places.items later
-    → AreColumnsUpTo done row place columns old → AreColumnsUpTo done row (place + 1) new later
-AreColumnsUpTo-more done row place columns new own old later strings there is added got had = subst (λ (cs : List GatheredColumn). AreColumnsUpTo done row (place + 1) cs later) (sym is) (record {
+    → AreGatheredUpTo done row place columns old → AreGatheredUpTo done row (place + 1) new later
+AreGatheredUpTo-more done row place columns new own old later strings there is added got had = subst (λ (cs : List GatheredColumn). AreGatheredUpTo done row (place + 1) cs later) (sym is) (record {
   front = λ c d h. elim (cases_lt c place) [
     | inl less ↦
         subst (λ (g : GatheredColumn). IsGathered (values_at (done ++ row ∷ []) c) g.words.items g.places.items later) (sym (other c d (λ (e : c ≡ place). omega arith)))

@@ -11,11 +11,11 @@ use Rattle.word_table.specs.WordTables.{word_at, column_of, cut_into, table_by_c
 use Rattle.word_table.specs.Words.{text_order, strings_in, IsDictionaryOf, IsHeld, int_word, word_of}
 use Rattle.word_table.specs.declared.numbering.Occurrence.{Occurrence}
 use Rattle.word_table.specs.declared.occurrences.GatheredPart.{GatheredPart}
-use Rattle.word_table.specs.inner.Gathered.{values_at, IsNumber, AddsStrings, IsGathered, AreColumnsUpTo, IsGatheredPart, AreGathered, AreRanksOf}
+use Rattle.word_table.specs.inner.Gathered.{values_at, IsNumber, AddsStrings, IsGathered, AreGatheredUpTo, IsGatheredPart, AreGathered, AreRanksOf}
 use Rattle.word_table.specs.inner.Texts.{texts_in}
 use Rattle.word_table.specs.inner.Unlike.{AreUnlike}
 use Rattle.word_table.proofs.ColumnLemmas.{IsStored-of}
-use Rattle.word_table.proofs.GatherLemmas.{IsGathered-none, IsGathered-plain, IsGathered-string, AddsString-new, AddsStrings-one, AddsStrings-more, AreColumnsUpTo-none}
+use Rattle.word_table.proofs.GatherLemmas.{IsGathered-none, IsGathered-plain, IsGathered-string, AddsString-new, AddsStrings-one, AddsStrings-more, AreGatheredUpTo-none}
 use Rattle.word_table.proofs.UnlikeLemmas.{AreUnlike-none, AreUnlike-known, AreUnlike-new}
 
 -- one part, whose rows have a number and a string each
@@ -230,8 +230,8 @@ ranks_of_b_and_a = record {
     string s (suc (suc n)) d is = let low = is.within in absurd (omega (arith, low))
 
 -- in front of the first place no column has the row's value, and the columns are those of the rows so far
-pub none_begun : AreColumnsUpTo [] (variant.Bool true ∷ []) 0 [] []
-none_begun = AreColumnsUpTo-none [] (variant.Bool true ∷ []) [] [] (λ c d h. absurd (omega (arith, h)))
+pub none_begun : AreGatheredUpTo [] (variant.Bool true ∷ []) 0 [] []
+none_begun = AreGatheredUpTo-none [] (variant.Bool true ∷ []) [] [] (λ c d h. absurd (omega (arith, h)))
 
 -- no parts, and a part without rows and columns
 pub no_parts : AreGathered [] [] [] []

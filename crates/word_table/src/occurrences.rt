@@ -4,7 +4,7 @@ ghost use Rattle.std.specs.Prelude.{◌≡◌, ◌^◌, ◌<◌, ◌∷◌, ◌+
 ghost use Rattle.rel_base.specs.declared.values.Value.{Value as Datum};
 ghost use Rattle.word_table.specs.declared.numbering.Occurrence.{Occurrence as Found};
 ghost use Rattle.word_table.specs.Words.{strings_of_value, strings_of_row, strings_of_rows, strings_in, word_of};
-ghost use Rattle.word_table.specs.inner.Gathered.{AddsStrings, AreColumnsOf, AreGathered, AreRanksOf, IsGathered, IsGatheredPart};
+ghost use Rattle.word_table.specs.inner.Gathered.{AddsStrings, AreGatheredColumns, AreGathered, AreRanksOf, IsGathered, IsGatheredPart};
 ghost use Rattle.word_table.specs.inner.Unlike.{parts_in};
 ghost use Rattle.word_table.specs.Encodings.{AreWide};
 
@@ -130,7 +130,7 @@ impl GatheredPart {
 /// Columns without values, each with room for so many.
 fn no_values(alloc: Global, width: u32, count: u32) -> Result<Vec<GatheredColumn>, Memory>
     ensures many { IfOk result (λ made. length made.items ≡ width) }
-    ensures none { IfOk result (λ made. (found : List Found) → AreColumnsOf [] made.items found) }
+    ensures none { IfOk result (λ made. (found : List Found) → AreGatheredColumns [] made.items found) }
 {
     let mut columns = Vec::with_capacity(alloc, width as usize)?;
     for _ in 0..width {
@@ -150,8 +150,8 @@ fn add_row<'a>(
     ensures strings { OnOk result (AddsStrings
         strings.old.found.items strings.new.found.items (strings_of_row row.now)) }
     ensures gathered { OnOk result ((done : List (List Datum))
-        → AreColumnsOf done columns.old.items strings.old.found.items
-        → AreColumnsOf (done ++ row.now ∷ []) columns.new.items strings.new.found.items) }
+        → AreGatheredColumns done columns.old.items strings.old.found.items
+        → AreGatheredColumns (done ++ row.now ∷ []) columns.new.items strings.new.found.items) }
 {
     for place in 0..row.len() {
         columns[place].add(&row[place], strings)?;

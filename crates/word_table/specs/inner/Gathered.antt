@@ -9,8 +9,8 @@
 --   AddsString old new s n                  a string has this number, which may be a new one
 --   AddsStrings old new strings             all new occurrences are of these strings
 --   IsGathered values words places found    the words of values, with numbers in place of strings
---   AreColumnsOf rows columns found         of each column the words of its values
---   AreColumnsUpTo rows row place columns found    the same, while the values of a row more are added
+--   AreGatheredColumns rows columns found         of each column the words of its values
+--   AreGatheredUpTo rows row place columns found    the same, while the values of a row more are added
 --   IsGatheredPart rows width part found    the words of rows with so many columns
 --   AreGathered widths parts gathered found    the words of parts
 --   Rise found                              no string of an occurrence is below one in front of it
@@ -87,13 +87,13 @@ abbrev pub values_at : List (List Value) → ℕ → List Value
 values_at rows column = map (λ row. value_at row column) rows
 
 -- the words of each column of the rows
-abbrev pub AreColumnsOf : List (List Value) → List GatheredColumn → List Occurrence → Type 0
-AreColumnsOf rows columns found = (c : ℕ) (d : GatheredColumn) → c < length columns
+abbrev pub AreGatheredColumns : List (List Value) → List GatheredColumn → List Occurrence → Type 0
+AreGatheredColumns rows columns found = (c : ℕ) (d : GatheredColumn) → c < length columns
     → IsGathered (values_at rows c) (slice_index_or columns c d).words.items
     (slice_index_or columns c d).places.items found
 
 -- in front of a place the columns of the rows and of one row more, and from there on those of the rows
-pub record AreColumnsUpTo
+pub record AreGatheredUpTo
     (rows : List (List Value)) (row : List Value) (place : ℕ) (columns : List GatheredColumn)
     (found : List Occurrence) : Type 0 where
   pub front : (c : ℕ) (d : GatheredColumn) → c < place
@@ -111,7 +111,7 @@ pub record IsGatheredPart
   pub as_wide : part.width ≡ width
   pub counted : part.count ≡ length rows
   pub many : length part.columns.items ≡ width
-  pub columns : AreColumnsOf rows part.columns.items found
+  pub columns : AreGatheredColumns rows part.columns.items found
 
 -- the words of each part
 pub record AreGathered

@@ -2,7 +2,7 @@ use Rattle.std.proofs.Common.{◌≡◌, ◌∷◌, ◌++◌, [], List, refl, ap
 use Rattle.std.proofs.lemmas.List.Concat.{flat_map-append, flat_map-cons}
 use Rattle.rel_base.specs.declared.values.Value.{Value}
 use Rattle.word_table.specs.Words.{strings_of_row, strings_of_rows}
-use Rattle.word_table.specs.inner.Gathered.{AddsStrings, AreColumnsOf}
+use Rattle.word_table.specs.inner.Gathered.{AddsStrings, AreGatheredColumns}
 use Rattle.word_table.proofs.GatherLemmas.{AddsStrings-none, AddsStrings-more, next_wide}
 use Rattle.word_table.proofs.occurrences.GatheredPart.of_rows.Goals as goal
 
@@ -59,5 +59,5 @@ returns-clause-gathered c =
       as_wide = refl;
       counted = c.len-2.ensures;
       many = inv.2;
-      columns = subst (λ rs. AreColumnsOf rs c.loop-row.columns.items c.loop-row.strings.found.items) all inv.3.3;
+      columns = subst (λ rs. AreGatheredColumns rs c.loop-row.columns.items c.loop-row.strings.found.items) all inv.3.3;
     }

@@ -2,7 +2,7 @@
 use Rattle.std.proofs.Common.{◌≡◌, ◌++◌, List, length}
 use Rattle.rel_base.specs.declared.values.Value.{Value}
 use Rattle.word_table.specs.Words.{strings_of_rows}
-use Rattle.word_table.specs.inner.Gathered.{AddsStrings, AreColumnsOf}
+use Rattle.word_table.specs.inner.Gathered.{AddsStrings, AreGatheredColumns}
 use Rattle.word_table.proofs.occurrences.GatheredPart.of_rows.Given as goal
 
 abbrev pub invariant-loop-row : goal.invariant-loop-row
@@ -11,4 +11,4 @@ invariant-loop-row l =
     × (length l.columns.items ≡ l.width)
     × ((so_far : List (List Value)) × (so_far ++ l.row-iterator ≡ l.rows)
     × AddsStrings l.initial.strings.found.items l.strings.found.items (strings_of_rows so_far)
-    × AreColumnsOf so_far l.columns.items l.strings.found.items)
+    × AreGatheredColumns so_far l.columns.items l.strings.found.items)
