@@ -1,5 +1,6 @@
 pub mod ColumnLemmas
 pub mod RunLemmas
+pub mod RisingLemmas
 pub mod CellLemmas
 pub mod BagLemmas
 pub mod StepLemmas

@@ -8,7 +8,8 @@ ghost use Rattle.aggregate_ops.specs.Columns.{rows_in};
 ghost use Rattle.aggregate_ops.specs.inner.Runs.{IsRun, IsBelow, begins};
 
 use crate::ordering::rows_in_order;
-use crate::packed_bags::packed_difference;
+use crate::packed_bags::PackedOperands;
+use crate::packed_rows::PackedRows;
 use rel_base::{Duplicate, Memory, Row, Rows, Value};
 use std::alloc::Global;
 
@@ -82,24 +83,35 @@ fn without(alloc: Global, rows: &[&[Value]], others: &[&[Value]]) -> Result<Rows
 
 /// Each row of the first list that the second doesn't have, once, in ascending order.
 ///
-/// A row goes however often either list has it. Time is n log n in the rows of both.
-pub fn difference(alloc: Global, a: &Rows, b: &Rows) -> Result<Rows, Memory>
-    ensures { IfOk result (λ made. SameBag (difference a.now b.now) made) }
+/// A row goes however often either list has it. Time is n log n in the rows of both. Rows that can be
+/// packed in words are let go before others are made of these.
+pub fn difference(alloc: Global, a: Rows, b: Rows) -> Result<Rows, Memory>
+    ensures { IfOk result (λ made. SameBag (difference a b) made) }
 {
-    if let Some(made) = packed_difference(alloc, a, b)? {
-        return Ok(made);
+    if let Some(packed) = PackedOperands::of(alloc, &a, &b)? {
+        drop(a);
+        drop(b);
+        return packed.difference(alloc);
     }
-    let rows = rows_in_order(alloc, a)?;
-    let others = rows_in_order(alloc, b)?;
+    let rows = rows_in_order(alloc, &a)?;
+    let others = rows_in_order(alloc, &b)?;
     let made = without(alloc, &rows, &others)?;
     Ok(made)
 }
 
 /// Each row once, in ascending order.
-pub fn distinct(alloc: Global, rows: &Rows) -> Result<Rows, Memory>
-    ensures { IfOk result (λ made. SameBag (distinct rows.now) made) }
+///
+/// Rows that can be packed in words are let go before others are made of these.
+pub fn distinct(alloc: Global, rows: Rows) -> Result<Rows, Memory>
+    ensures { IfOk result (λ made. SameBag (distinct rows) made) }
 {
-    difference(alloc, rows, &Rows::new(alloc))
+    if let Some(packed) = PackedRows::each_once(alloc, &rows)? {
+        drop(rows);
+        return packed.unpacked(alloc);
+    }
+    let sorted = rows_in_order(alloc, &rows)?;
+    let made = without(alloc, &sorted, &[])?;
+    Ok(made)
 }
 
 /// The rows of the first list and then those of the second. None that is shared is copied.

@@ -26,6 +26,7 @@ mod laws;
 mod ordering;
 mod packed_bags;
 mod packed_columns;
+mod packed_rows;
 mod packing;
 mod partials;
 mod picking;

@@ -1,5 +1,5 @@
 //! The operators on bags, over rows that are packed in words.
-ghost use Rattle.std.specs.Prelude.{◌≡◌, ◌-◌, ◌<◌, ◌^◌, ◌++◌, ◌∷◌, [], if◌then◌else◌, map, length, OnOk, IfOk, IfSome, IsSorted, ⊤};
+ghost use Rattle.std.specs.Prelude.{◌≡◌, ◌-◌, ◌<◌, ◌^◌, ◌++◌, ◌∷◌, [], if◌then◌else◌, map, length, OnOk, IfOk, IfSome, IsTrue, IsSorted, ⊤};
 ghost use Rattle.rel_base.specs.Bags.{SameBag};
 ghost use Rattle.rel_base.specs.Values.{row_order};
 ghost use Rattle.myrial_ast.specs.Bags.{difference};
@@ -16,7 +16,7 @@ use std::marker::Model;
 
 /// A word, as the row that it tells.
 #[derive(Drop)]
-struct WordRow<'a> {
+pub struct WordRow<'a> {
     columns: &'a [PackedColumn],
     word: u64,
 }
@@ -36,7 +36,7 @@ impl<'a> Model for WordRow<'a> {
 impl<'a> WordRow<'a> {
     /// The row that a word tells in these columns.
     #[inline(always)]
-    fn of(columns: &'a [PackedColumn], word: u64) -> WordRow<'a>
+    pub fn of(columns: &'a [PackedColumn], word: u64) -> WordRow<'a>
         requires { length columns.now < 2 ^ 32 }
         ensures { result ≡ unpacked_row columns.entry.now word }
     {
@@ -92,6 +92,8 @@ fn put_unless(
 }
 
 /// Each row of the words that the others don't have, once; both stand in ascending order.
+///
+/// Inlined, so that there is code of its own for each number of columns that its caller knows.
 #[inline(always)]
 fn without(
     alloc: Global,
@@ -121,86 +123,102 @@ fn without(
     Ok(made)
 }
 
-/// Each row of the words that the others don't have, once, in ascending order; none where the words
-/// in order are not the rows in order.
-///
-/// Inlined, so that there is code of its own for each number of columns that its caller knows.
-#[inline(always)]
-fn difference_in(
-    alloc: Global,
-    columns: &[PackedColumn],
-    words: &[u64],
-    others: &[u64],
-) -> Result<Option<Rows>, Memory>
-    requires columns { length columns.now < 2 ^ 32 }
-    requires few { length words.now < 2 ^ 32 }
-    ensures { IfOk result (λ found. IfSome found (λ made. made
-        ≡ difference (map (unpacked_row columns.now) words.now)
-        (map (unpacked_row columns.now) others.now))) }
-{
-    if !are_in_order(columns, words) || !are_in_order(columns, others) {
-        return Ok(None);
-    }
-    let made = without(alloc, columns, words, others)?;
-    Ok(Some(made))
-}
-
-/// Each row of the words that the others don't have, once, in ascending order; none where the words
-/// in order are not the rows in order.
-fn difference_of_words(
-    alloc: Global,
-    columns: &[PackedColumn],
-    words: &[u64],
-    others: &[u64],
-) -> Result<Option<Rows>, Memory>
-    requires columns { length columns.now < 2 ^ 32 }
-    requires few { length words.now < 2 ^ 32 }
-    ensures { IfOk result (λ found. IfSome found (λ made. made
-        ≡ difference (map (unpacked_row columns.now) words.now)
-        (map (unpacked_row columns.now) others.now))) }
+/// Whether the rows of the words stand in ascending order, by code of its own for a few columns.
+fn stand_in_order(columns: &[PackedColumn], words: &[u64]) -> bool
+    ensures { IsTrue result → IsSorted row_order (map (unpacked_row columns.now) words.now) }
 {
     match columns {
-        [a] => difference_in(alloc, &[*a], words, others),
-        [a, b] => difference_in(alloc, &[*a, *b], words, others),
-        [a, b, c] => difference_in(alloc, &[*a, *b, *c], words, others),
-        _ => difference_in(alloc, columns, words, others),
+        [a] => are_in_order(&[*a], words),
+        [a, b] => are_in_order(&[*a, *b], words),
+        [a, b, c] => are_in_order(&[*a, *b, *c], words),
+        _ => are_in_order(columns, words),
     }
 }
 
-/// Each row of the first list that the second doesn't have, once, in ascending order; none where a
-/// row doesn't fit these columns.
-fn difference_by(
-    alloc: Global,
-    a: &Rows,
-    b: &Rows,
-    scanned: &[ScannedColumn],
-) -> Result<Option<Rows>, Memory>
-    ensures { IfOk result (λ found. IfSome found (λ made. SameBag (difference a.now b.now) made)) }
-{
-    let columns = packed_columns(alloc, scanned, &[])?;
-    if columns.len() > MOST_COLUMNS as usize {
-        return Ok(None);
-    }
-    let Some(words) = words_of(alloc, Emits::Whole, a, &columns)? else {
-        return Ok(None);
-    };
-    let Some(others) = words_of(alloc, Emits::Whole, b, &columns)? else {
-        return Ok(None);
-    };
-    let words = in_order(words, &columns);
-    let others = in_order(others, &columns);
-    difference_of_words(alloc, &columns, &words, &others)
+/// Two lists of rows in ascending order that are packed in words, by the same columns. Contracts see
+/// the rows of both.
+#[derive(Drop)]
+pub struct PackedOperands {
+    columns: Vec<PackedColumn>,
+    words: Vec<u64>,
+    others: Vec<u64>,
 }
 
-/// Each row of the first list that the second doesn't have, once, in ascending order; none where
-/// the rows can't be packed.
-pub fn packed_difference(alloc: Global, a: &Rows, b: &Rows) -> Result<Option<Rows>, Memory>
-    ensures { IfOk result (λ found. IfSome found (λ made. SameBag (difference a.now b.now) made)) }
-{
-    let guessed = guessed_columns(alloc, Emits::Whole, a, b)?;
-    if let Some(made) = difference_by(alloc, a, b, &guessed)? {
-        return Ok(Some(made));
+impl Model for PackedOperands {
+    ghost use Rattle.std.specs.Prelude.{List, ◌<◌, ◌^◌, map, length, IsSorted};
+    ghost use Rattle.rel_base.specs.declared.values.Value.{Value as Datum};
+    ghost use Rattle.rel_base.specs.Values.{row_order};
+    ghost use Rattle.aggregate_ops.specs.inner.Reading.{unpacked_row};
+
+    ghost Value = { List (List Datum) × List (List Datum) };
+
+    ghost view = { λ p. (
+      map (unpacked_row p.columns.items) p.words.items,
+      map (unpacked_row p.columns.items) p.others.items,
+    ) };
+
+    ghost invariant = { λ p. (length p.columns.items < 2 ^ 32) × (length p.words.items < 2 ^ 32)
+        × IsSorted row_order (map (unpacked_row p.columns.items) p.words.items)
+        × IsSorted row_order (map (unpacked_row p.columns.items) p.others.items) };
+}
+
+impl PackedOperands {
+    /// The rows of both lists, in ascending order; none where they can't be packed.
+    pub fn of(alloc: Global, a: &Rows, b: &Rows) -> Result<Option<PackedOperands>, Memory>
+        ensures { IfOk result (λ found. IfSome found
+            (λ made. SameBag a.now made.0 × SameBag b.now made.1)) }
+    {
+        let guessed = guessed_columns(alloc, Emits::Whole, a, b)?;
+        if let Some(packed) = PackedOperands::packed_by(alloc, a, b, &guessed)? {
+            return Ok(Some(packed));
+        }
+        let scanned = scanned_columns(alloc, Emits::Whole, a, b)?;
+        PackedOperands::packed_by(alloc, a, b, &scanned)
     }
-    let scanned = scanned_columns(alloc, Emits::Whole, a, b)?;
-    difference_by(alloc, a, b, &scanned)
+
+    /// The rows of both lists, in ascending order; none where a row doesn't fit these columns, or
+    /// the words in order are not the rows in order.
+    fn packed_by(
+        alloc: Global,
+        a: &Rows,
+        b: &Rows,
+        scanned: &[ScannedColumn],
+    ) -> Result<Option<PackedOperands>, Memory>
+        ensures { IfOk result (λ found. IfSome found
+            (λ made. SameBag a.now made.0 × SameBag b.now made.1)) }
+    {
+        let columns = packed_columns(alloc, scanned, &[])?;
+        if columns.len() > MOST_COLUMNS as usize {
+            return Ok(None);
+        }
+        let Some(words) = words_of(alloc, Emits::Whole, a, &columns)? else {
+            return Ok(None);
+        };
+        let Some(others) = words_of(alloc, Emits::Whole, b, &columns)? else {
+            return Ok(None);
+        };
+        let words = in_order(words, &columns);
+        let others = in_order(others, &columns);
+        if !stand_in_order(&columns, &words) || !stand_in_order(&columns, &others) {
+            return Ok(None);
+        }
+        Ok(Some(PackedOperands {
+            columns,
+            words,
+            others,
+        }))
+    }
+
+    /// Each row of the first list that the second doesn't have, once, in ascending order.
+    pub fn difference(&self, alloc: Global) -> Result<Rows, Memory>
+        ensures { IfOk result (λ made. made ≡ difference self.now.0 self.now.1) }
+    {
+        let (words, others) = (self.words.as_slice(), self.others.as_slice());
+        match self.columns.as_slice() {
+            [a] => without(alloc, &[*a], words, others),
+            [a, b] => without(alloc, &[*a, *b], words, others),
+            [a, b, c] => without(alloc, &[*a, *b, *c], words, others),
+            columns => without(alloc, columns, words, others),
+        }
+    }
 }

@@ -5,7 +5,7 @@
 ghost use Rattle.std.specs.Prelude.{◌≡◌, ◌<◌, IsTrue, IsSorted, map, length};
 ghost use Rattle.rel_base.specs.Values.{row_order};
 ghost use Rattle.aggregate_ops.specs.inner.Reading.{unpacked_row};
-ghost use Rattle.aggregate_ops.specs.inner.Runs.{IsRun, IsBelow, begins};
+ghost use Rattle.aggregate_ops.specs.inner.Runs.{AreRising, IsRun, IsBelow, begins};
 
 use crate::packed_columns::PackedColumn;
 use std::cmp::Ordering;
@@ -36,6 +36,21 @@ pub fn are_in_order(columns: &[PackedColumn], words: &[u64]) -> bool
     let mut count = 1;
     while count < words.len() {
         if word_order(columns, words[count], words[count - 1]).is_lt() {
+            return false;
+        }
+        count += 1;
+    }
+    true
+}
+
+/// Whether the row of each word comes before that of the next.
+#[inline(always)]
+pub fn are_rising(columns: &[PackedColumn], words: &[u64]) -> bool
+    ensures { IsTrue result → AreRising (map (unpacked_row columns.now) words.now) }
+{
+    let mut count = 1;
+    while count < words.len() {
+        if !word_order(columns, words[count - 1], words[count]).is_lt() {
             return false;
         }
         count += 1;

@@ -55,7 +55,7 @@ use Rattle.engine.specs.declared.noted.Noted.{Noted}
 use Rattle.engine.specs.declared.runs.Ran.{Ran}
 use Rattle.engine.specs.Runs.{run_exchanges, IsRan, AreStoredAt, no_store, a_store, prefixes_of, fault_of, IsRunFault}
 use Rattle.engine.specs.inner.Held.{IsHeld, parts_held, value_held, UsedAreHeld, IsJoinable, HasJoinable, IsRunnable}
-use Rattle.engine.proofs.UsedLemmas.{ready-among, used-with-one-more, used-without-last, stores-among}
+use Rattle.engine.proofs.UsedLemmas.{ready-among, used-with-one-more, used-without-last, used-in-turn, stores-among}
 use Rattle.engine.specs.inner.Steps.{held_exchanges, IsStepDone, numbered_exchanges, bare_exchanges, AreRun, schema_at, held_store}
 
 -- ---- lists
@@ -167,7 +167,7 @@ module _ {T : Type 0} (s : Settings) (files : List File) (c : CheckedTree) (of_f
       (as-meant.fault (prefixes_of s.shuffle) ∙ h))
 
   module _ (after_held : Held) (after_noted : Noted) (after : List T) (fair : AreFair totals tag middle after)
-      (done : IsStepDone s x held after_held noted after_noted totals tag middle after) where
+      (done : IsStepDone s x c.stores later held after_held noted after_noted totals tag middle after) where
     abbrev exchanges : List PlacedExchange
     exchanges = term_exchanges p x.statement value x.term
 
@@ -213,8 +213,10 @@ module _ {T : Type 0} (s : Settings) (files : List File) (c : CheckedTree) (of_f
           (sym done.files)
           (one_more_is_held p files c of_files held.files run.every i a l run.made_as_meant done.made result.rows);
       used =
-          subst (UsedAreHeld c.stores later (run.every ++ (x.statement, done.made) ∷ [])) (sym done.results)
-          (used-with-one-more c.stores run.every held.results.items pushed later ((x.statement, done.made) ∷ []) run.used);
+          used-in-turn c.stores later (run.every ++ (x.statement, done.made) ∷ [])
+          (held.results.items ++ (x.statement, done.made) ∷ []) after_held.results.items
+          (used-with-one-more c.stores run.every held.results.items pushed later ((x.statement, done.made) ∷ []) run.used)
+          done.results;
       plan =
           done.plan ∙ (λ k. run.plan k ++ sym (result.lines s.local) k)
           ∙ sym (flat-more (step_notes p s.local value) (needed c) i a l);
@@ -343,6 +345,10 @@ module _ (files : List File) (checked : Checked) (of_files : IsTrue (is_of files
         abbrev later : List StepTree
         later = drop (i + 1) (map step_tree_of steps)
 
+        behind-left : (left : List Step) → left ≡ drop i steps → drop 1 (map step_tree_of left) ≡ later
+        behind-left left same =
+            ap (drop 1) (ap (map step_tree_of) same ∙ sym (drop-map step_tree_of i steps) ∙ first-left)
+
         run-from : AreRun s files script (take i (needed script)) (step_tree_of pushed ∷ later) held noted totals tag before middle
         run-from =
             subst (λ left. AreRun s files script (take i (needed script)) left held noted totals tag before middle)
@@ -366,12 +372,14 @@ module _ (files : List File) (checked : Checked) (of_files : IsTrue (is_of files
             held noted before middle run-from e)
 
         pub turn-done : (after_held : Held) (after_noted : Noted) (after : List T) → AreFair totals tag middle after
-            → IsStepDone s (step_tree_of step) held after_held noted after_noted totals tag middle after
-            → (kept_held : Held) → kept_held.files ≡ after_held.files → (left : List Step) → left ≡ drop i steps
+            → (left : List Step) → left ≡ drop i steps
+            → IsStepDone s (step_tree_of step) planned.stores (drop 1 (map step_tree_of left)) held after_held noted after_noted totals
+            tag middle after
+            → (kept_held : Held) → kept_held.files ≡ after_held.files
             → kept_held.results.items ≡ filter (λ (r : ℕ × List Rows).
             not (is_last_use r.0 planned.stores (map step_tree_of left))) after_held.results.items
             → AreRun s files script (take (i + 1) (needed script)) later kept_held after_noted totals tag before after
-        turn-done after_held after_noted after fair done kept_held same_files left same_left kept =
+        turn-done after_held after_noted after fair left same_left done kept_held same_files kept =
             let t = turn step found in
             let of_left : List StoreStep → List StepTree → List (ℕ × List Rows) =
             λ stores left. filter (λ (r : ℕ × List Rows). not (is_last_use r.0 stores left)) after_held.results.items in
@@ -379,7 +387,11 @@ module _ (files : List File) (checked : Checked) (of_files : IsTrue (is_of files
             tag before after
             (one-more s files script of_files typed totals tag i (step_tree_of step) t.low (step_tree_of pushed) later t.alike held
             noted before middle run-from after_held after_noted after fair
-            (subst (λ x. IsStepDone s x held after_held noted after_noted totals tag middle after) (sym t.own) done))
+            (subst (λ x. IsStepDone s x script.stores later held after_held noted after_noted totals tag middle after) (sym t.own)
+            (subst (λ behind. IsStepDone s (step_tree_of step) script.stores behind held after_held noted after_noted totals tag middle
+            after) (behind-left left same_left)
+            (subst (λ stores. IsStepDone s (step_tree_of step) stores (drop 1 (map step_tree_of left)) held after_held noted after_noted
+            totals tag middle after) same-stores done))))
             same_files
             (kept ∙ ap (λ (stores : List StoreStep). of_left stores (map step_tree_of left)) same-stores
             ∙ ap (of_left script.stores) (ap (map step_tree_of) same_left ∙ sym (drop-map step_tree_of i steps) ∙ first-left))

@@ -1,5 +1,5 @@
 -- What is held is found as long as it is used.
-use Rattle.std.proofs.Common.{◌≡◌, ℕ, ◌==◌, Bool, true, false, cond, not, IsTrue, List, [], ◌∷◌, ◌++◌, map, length, get_or, refl, sym, ap, subst, ◌∙◌, Option, Some, inl, inr}
+use Rattle.std.proofs.Common.{◌≡◌, ℕ, ◌==◌, Bool, true, false, cond, not, IsTrue, List, [], ◌∷◌, ◌++◌, map, drop, length, get_or, refl, sym, ap, subst, ◌∙◌, Option, Some, inl, inr}
 use Rattle.std.specs.Prelude.{All, IsSome, filter, find, option_map, unwrap_or}
 use Rattle.std.specs.List.{list_any}
 use Rattle.std.specs.Option.{option_or}
@@ -81,6 +81,11 @@ used-behind number stores step later h =
       | inr taken ↦ or_right (list_any (λ (t : StoreStep). is_result number t.source) stores) _
           (or_right (uses number step) (list_any (uses number) later) taken)
     ]
+
+-- what is found among some as among more, which is found there as among all
+pub used-in-turn : (stores : List StoreStep) (left : List StepTree) (every more some : List (ℕ × List Rows))
+    → UsedAreHeld stores left every more → UsedAreHeld stores left more some → UsedAreHeld stores left every some
+used-in-turn stores left every more some h k number u = k number u ∙ h number u
 
 module _ (stores : List StoreStep) (every some : List (ℕ × List Rows)) where
   -- one result more, after a step
@@ -217,3 +222,26 @@ ready-among p files c dealt every some x y later alike used h =
       ready-step (parts_in dealt every) (parts_in dealt some) p files c x
           (λ k d l. same-parts dealt every some (get_or (sources_of x.term) k d) (each k d l)) h.1,
     )
+
+-- what is used is found behind the let-go of those that the first of the steps is the last one to use
+used_let_go : (stores : List StoreStep) (steps : List StepTree) (every : List (ℕ × List Rows))
+    → UsedAreHeld stores (drop 1 steps) every (filter (λ r. not (is_last_use r.0 stores steps)) every)
+used_let_go stores [] every number used = found-among-kept (λ n. not (is_last_use n stores [])) number refl every
+used_let_go stores (step ∷ later) every number used = used-without-last stores every every step later (λ number used. refl) number used
+
+-- where nothing is let go, all is found
+pub used_itself : (stores : List StoreStep) (steps : List StepTree) (every : List (ℕ × List Rows))
+    → UsedAreHeld stores steps every every
+used_itself stores steps every number used = refl
+
+pub used_by_let_go : (stores : List StoreStep) (steps : List StepTree) (every some : List (ℕ × List Rows))
+    → some ≡ filter (λ (r : ℕ × List Rows). not (is_last_use r.0 stores steps)) every → UsedAreHeld stores (drop 1 steps) every some
+used_by_let_go stores steps every some kept =
+    subst (UsedAreHeld stores (drop 1 steps) every) (sym kept) (used_let_go stores steps every)
+
+-- what is found among some as among more is found so with the same results behind
+pub used_with_more : (stores : List StoreStep) (steps : List StepTree) (every some more after : List (ℕ × List Rows))
+    → UsedAreHeld stores steps every some → after ≡ some ++ more → UsedAreHeld stores steps (every ++ more) after
+used_with_more stores steps every some more after h is number used =
+    ap (λ (results : List (ℕ × List Rows)). find (λ (r : ℕ × List Rows). r.0 == number) results) is
+    ∙ found-behind some every more number (h number used)

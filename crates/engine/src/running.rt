@@ -94,9 +94,14 @@ fn run_steps<R: Threads + Wait + Sync, T: Tap + Send>(
         let Some(step) = step_of(checked, pushed.statement) else {
             unreachable!()
         };
-        let run = RunStep { step, pushed };
+        let run = RunStep {
+            step,
+            pushed,
+            stores: &planned.stores,
+            steps: &steps[place..],
+        };
         run_step(rt, alloc, &run, settings, &mut held, &mut noted, taps)?;
-        held.let_go(&planned.stores, &steps[place..]);
+        held.let_go(run.stores, run.steps);
     }
     Ok((held, noted))
 }

@@ -5,13 +5,13 @@ ghost use Rattle.algebra.specs.CheckedTrees.{term_tree_of};
 ghost use Rattle.algebra.specs.Rewriting.{IsSameTerm};
 ghost use Rattle.placement.specs.Layouts.{by_worker, together};
 ghost use Rattle.placement.specs.Plans.{usual_placing, term_notes};
-ghost use Rattle.engine.specs.inner.Held.{IsHeld, IsRunnable, parts_held, value_held};
-ghost use Rattle.engine.specs.inner.Terms.{IsStepRun, IsUnionFault};
+ghost use Rattle.engine.specs.inner.Held.{IsHeld, IsRunnable, UsedAreHeld, parts_held, value_held};
+ghost use Rattle.engine.specs.inner.Terms.{IsStepRun, IsUnionFault, later_in};
 
 use crate::groups::run_step_group;
 use crate::held::Held;
 use crate::joins::{StepJoin, at_rest, rows_in, run_step_join};
-use algebra::{JoinShape, PlanNotes, Settings, Sources, Step, Term};
+use algebra::{JoinShape, PlanNotes, Settings, Sources, Step, Stores, Term};
 use keyed_terms::{Operands, empty_parts, run_diff, run_distinct, union_parts};
 use rel_base::{Duplicate, MOST_ROWS, Memory, RunFault, Spread};
 use rel_io::Tap;
@@ -27,29 +27,40 @@ pub(crate) struct RunStep<'a> {
     pub(crate) step: &'a Step,
     /// The same step, in whose join the tests of one atom are that atom's keeps.
     pub(crate) pushed: &'a Step,
+    /// What is stored when all steps have run.
+    pub(crate) stores: &'a Stores,
+    /// The steps from this one on, with tests pushed.
+    pub(crate) steps: &'a [Step],
 }
 
 /// Runs the term of a step over what is held, and adds the lines below the step's own to the plan.
 /// It may wait as long as its threads do.
+///
+/// What a `distinct` or a `diff` is the last to use is held no more while it runs, so that rows are
+/// let go before others are made of them.
+#[tactic(auto, using(crate::proofs::UsedLemmas::used_itself))]
 pub(crate) fn run_term<R: Threads + Wait + Sync, T: Tap + Send>(
     rt: &R,
     alloc: Global,
     run: &RunStep<'_>,
-    held: &Held,
+    held: &mut Held,
     settings: &Settings,
     lines: &mut PlanNotes,
     taps: &mut Vec<T>,
 ) -> Result<Moved, RunFault>
-    requires runnable { IsRunnable settings.now.workers (length run.now.step.now.schema) held.now
+    requires runnable { IsRunnable settings.now.workers (length run.now.step.now.schema) held.old
         (term_tree_of run.now.step.now.term) }
     requires same { IsSameTerm (term_tree_of run.now.step.now.term)
         (term_tree_of run.now.pushed.now.term) }
     requires taps { 2 * settings.now.workers ≤ vec_len taps.old }
-    ensures run { IsStepRun settings.now run.now.step.now.statement (value_held held.now)
+    ensures files { held.new.files ≡ held.old.files }
+    ensures used { UsedAreHeld run.now.stores.now (later_in run.now)
+        held.old.results.items held.new.results.items }
+    ensures run { IsStepRun settings.now run.now.step.now.statement (value_held held.old)
         (term_tree_of run.now.step.now.term) T.totals T.tag taps.old.items taps.new.items result }
     ensures lines { OnOk result (lines.new ≡ lines.old
         ++ term_notes (usual_placing settings.now) settings.now.local run.now.step.now.statement
-        (value_held held.now) (term_tree_of run.now.step.now.term)) }
+        (value_held held.old) (term_tree_of run.now.step.now.term)) }
 {
     let statement = run.step.statement;
     match (&run.step.term, &run.pushed.term) {
@@ -66,14 +77,17 @@ pub(crate) fn run_term<R: Threads + Wait + Sync, T: Tap + Send>(
         }
         (Term::Diff(left, right), _) => {
             let width = run.step.schema.len();
-            let (left, right) = (held.parts_of(*left), held.parts_of(*right));
+            let left = held.parts_of(*left).copy(alloc)?;
+            let right = held.parts_of(*right).copy(alloc)?;
+            held.let_go(run.stores, run.steps);
             let operands = Operands { left, right, width };
-            let moved = run_diff(rt, alloc, statement, &operands, settings, taps)?;
+            let moved = run_diff(rt, alloc, statement, operands, settings, taps)?;
             Ok(moved)
         }
         (Term::Distinct(source), _) => {
             let width = run.step.schema.len();
-            let parts = held.parts_of(*source);
+            let parts = held.parts_of(*source).copy(alloc)?;
+            held.let_go(run.stores, run.steps);
             let moved = run_distinct(rt, alloc, statement, parts, width, settings, taps)?;
             Ok(moved)
         }

@@ -21,31 +21,34 @@ use std::thread::Threads;
 use term_runs::{Moved, have_room, seconds_of};
 
 /// The operands of a `diff`: a list of rows for each worker, each of which has `width` columns.
-#[derive(Clone, Copy)]
-pub struct Operands<'a> {
-    pub left: &'a Spread,
-    pub right: &'a Spread,
+#[derive(Drop)]
+pub struct Operands {
+    pub left: Spread,
+    pub right: Spread,
     pub width: u32,
 }
 
 /// Each row of the left operand that the right one doesn't have, once: all rows of both go to the
 /// homes of all their columns, in one exchange with a receipt for each operand. It may wait as long
 /// as the threads of its exchange do.
+///
+/// The operands are let go with the exchange, so that where nothing else shares their rows these
+/// don't stand beside the ones that are made.
 pub fn run_diff<R: Threads + Wait + Sync, T: Tap + Send>(
     rt: &R,
     alloc: Global,
     statement: u32,
-    operands: &Operands<'_>,
+    operands: Operands,
     settings: &Settings,
     taps: &mut Vec<T>,
 ) -> Result<Moved, Memory>
-    requires left { length operands.now.left.now ≡ settings.now.workers }
-    requires right { length operands.now.right.now ≡ settings.now.workers }
-    requires left_width { AreOfWidth operands.now.width operands.now.left.now }
-    requires right_width { AreOfWidth operands.now.width operands.now.right.now }
+    requires left { length operands.left ≡ settings.now.workers }
+    requires right { length operands.right ≡ settings.now.workers }
+    requires left_width { AreOfWidth operands.width operands.left }
+    requires right_width { AreOfWidth operands.width operands.right }
     requires taps { 2 * settings.now.workers ≤ vec_len taps.old }
-    ensures { let left = operands.now.left.now in
-        let right = operands.now.right.now in
+    ensures { let left = operands.left in
+        let right = operands.right in
         IsTermRun settings.now statement (diff_parts settings.now left right)
         (diff_exchanges settings.now left right) T.totals T.tag IsRefused
         taps.old.items taps.new.items result }
@@ -55,8 +58,9 @@ pub fn run_diff<R: Threads + Wait + Sync, T: Tap + Send>(
     }
     let since = seconds_of(alloc, taps.as_slice(), settings.workers)?;
     let columns = all_columns(alloc, operands.width)?;
-    let (met, others, receipts) = meet(rt, alloc, operands, &columns, settings, taps)?;
-    let made = difference_each(rt, alloc, &met, &others)?;
+    let (met, others, receipts) = meet(rt, alloc, &operands, &columns, settings, taps)?;
+    drop(operands);
+    let made = difference_each(rt, alloc, met, others)?;
     conclude(
         alloc,
         statement,
@@ -73,27 +77,27 @@ pub fn run_diff<R: Threads + Wait + Sync, T: Tap + Send>(
 fn meet<R: Threads + Wait + Sync, T: Tap + Send>(
     rt: &R,
     alloc: Global,
-    operands: &Operands<'_>,
+    operands: &Operands,
     columns: &Places,
     settings: &Settings,
     taps: &mut Vec<T>,
 ) -> Result<(Spread, Spread, Receipts), Memory>
-    requires left { length operands.now.left.now ≡ settings.now.workers }
-    requires right { length operands.now.right.now ≡ settings.now.workers }
-    requires left_width { AreOfWidth operands.now.width operands.now.left.now }
-    requires right_width { AreOfWidth operands.now.width operands.now.right.now }
+    requires left { length operands.now.left ≡ settings.now.workers }
+    requires right { length operands.now.right ≡ settings.now.workers }
+    requires left_width { AreOfWidth operands.now.width operands.now.left }
+    requires right_width { AreOfWidth operands.now.width operands.now.right }
     requires columns { columns.now ≡ range_with_len 0 operands.now.width }
     requires taps { 2 * settings.now.workers ≤ vec_len taps.old }
     requires low { All (λ t. AreLow (T.totals t)) taps.old.items }
     requires unlisted { All (λ t. IsLow (T.totals t)) taps.old.items }
-    ensures { IsMeeting settings.now operands.now.left.now operands.now.right.now T.totals T.tag
+    ensures { IsMeeting settings.now operands.now.left operands.now.right T.totals T.tag
         taps.old.items taps.new.items result }
 {
-    let (met, first) = spread_by_key(rt, alloc, operands.left, columns, settings, taps)?;
+    let (met, first) = spread_by_key(rt, alloc, &operands.left, columns, settings, taps)?;
     if !have_room(taps.as_slice()) {
         return Err(Memory);
     }
-    let (others, second) = spread_by_key(rt, alloc, operands.right, columns, settings, taps)?;
+    let (others, second) = spread_by_key(rt, alloc, &operands.right, columns, settings, taps)?;
     let receipts = two_receipts(alloc, first, second)?;
     Ok((met, others, receipts))
 }

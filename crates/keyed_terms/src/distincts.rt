@@ -19,21 +19,23 @@ use term_runs::{Moved, have_room, seconds_of};
 /// Each row once: all rows go to the homes of all their columns, where each worker drops what it
 /// has twice. It may wait as long as the threads of its exchange do.
 ///
-/// `parts` holds a list of rows for each worker, each of which has `width` columns.
+/// `parts` holds a list of rows for each worker, each of which has `width` columns. They are let go
+/// with the exchange, so that where nothing else shares their rows these don't stand beside the
+/// ones that are made.
 pub fn run_distinct<R: Threads + Wait + Sync, T: Tap + Send>(
     rt: &R,
     alloc: Global,
     statement: u32,
-    parts: &Spread,
+    parts: Spread,
     width: u32,
     settings: &Settings,
     taps: &mut Vec<T>,
 ) -> Result<Moved, Memory>
-    requires workers { length parts.now ≡ settings.now.workers }
-    requires width { AreOfWidth width parts.now }
+    requires workers { length parts ≡ settings.now.workers }
+    requires width { AreOfWidth width parts }
     requires taps { 2 * settings.now.workers ≤ vec_len taps.old }
-    ensures { IsTermRun settings.now statement (distinct_parts settings.now parts.now)
-        (distinct_exchanges settings.now parts.now) T.totals T.tag IsRefused
+    ensures { IsTermRun settings.now statement (distinct_parts settings.now parts)
+        (distinct_exchanges settings.now parts) T.totals T.tag IsRefused
         taps.old.items taps.new.items result }
 {
     if !have_room(taps.as_slice()) {
@@ -41,8 +43,9 @@ pub fn run_distinct<R: Threads + Wait + Sync, T: Tap + Send>(
     }
     let since = seconds_of(alloc, taps.as_slice(), settings.workers)?;
     let columns = all_columns(alloc, width)?;
-    let (met, receipt) = spread_by_key(rt, alloc, parts, &columns, settings, taps)?;
-    let made = distinct_each(rt, alloc, &met)?;
+    let (met, receipt) = spread_by_key(rt, alloc, &parts, &columns, settings, taps)?;
+    drop(parts);
+    let made = distinct_each(rt, alloc, met)?;
     let receipts = one_receipt(alloc, receipt)?;
     conclude(
         alloc,

@@ -4,6 +4,7 @@ ghost use Rattle.std.specs.List.{list_all};
 ghost use Rattle.rel_base.specs.Bags.{SameBag};
 ghost use Rattle.rel_base.specs.Limits.{most_workers};
 ghost use Rattle.myrial_ast.specs.Bags.{distinct, difference};
+ghost use Rattle.myrial_ast.specs.Combinations.{Rows as RowList};
 ghost use Rattle.myrial_ast.specs.CandidateFaults.{all_fit};
 ghost use Rattle.myrial_ast.specs.ScalarTrees.{scalar_tree_of};
 ghost use Rattle.myrial_ast.specs.Partials.{partial_kinds, partial_rows, merged};
@@ -22,46 +23,75 @@ use algebra::EmitKinds;
 use myrial_ast::Scalars;
 use rel_base::{Memory, Rows, Spread};
 use std::alloc::Global;
-use std::thread::{Threads, map_indices};
+use std::thread::{Threads, map_indices, map_vec};
 
-/// At each worker each row once.
+/// At each worker each row once. Its rows are let go as soon as they are packed.
 pub(crate) fn distinct_each<R: Threads + Sync>(
     rt: &R,
     alloc: Global,
-    parts: &Spread,
+    parts: Spread,
 ) -> Result<Spread, Memory>
-    ensures { IfOk result (AreMadeBy (length parts.entry.now)
-        (λ w. distinct (slice_index_or parts.entry.now w []))) }
+    ensures { IfOk result (AreMadeBy (length parts)
+        (λ w. distinct (slice_index_or parts w []))) }
 {
-    let workers = parts.as_slice();
-    let at = |worker: usize| -> Result<Rows, Memory>
-        requires { worker < length workers.now }
-        ensures { IfOk result (SameBag (distinct (slice_index_or workers.entry.now worker []))) }
-    { distinct(alloc, &workers[worker]) };
-    let all = map_indices(rt, alloc, workers.len(), &at)?;
+    let own = taken_apart(alloc, parts)?;
+    let at = |rows: Rows| -> Result<Rows, Memory>
+        ensures { IfOk result (SameBag (distinct rows)) }
+    { distinct(alloc, rows) };
+    let all = map_vec(rt, own, &at)?;
     gather(alloc, all)
 }
 
-/// At each worker each row of the first that the second doesn't have, once.
+/// The rows of each worker, to be handed to its job. None is copied.
+fn taken_apart(alloc: Global, parts: Spread) -> Result<Vec<Rows>, Memory>
+    ensures { IfOk result (λ made. made.items ≡ parts) }
+{
+    let mut parts = parts;
+    let mut own = Vec::with_capacity(alloc, parts.len() as usize)?;
+    while let Some(rows) = parts.pop() {
+        own.push(rows)?;
+    }
+    own.reverse();
+    Ok(own)
+}
+
+/// At each worker each row of the first that the second doesn't have, once. The rows of both are
+/// let go as soon as they are packed.
 pub(crate) fn difference_each<R: Threads + Sync>(
     rt: &R,
     alloc: Global,
-    parts: &Spread,
-    others: &Spread,
+    parts: Spread,
+    others: Spread,
 ) -> Result<Spread, Memory>
-    requires { length parts.now ≡ length others.now }
-    ensures { IfOk result (AreMadeBy (length parts.entry.now) (λ w. difference
-        (slice_index_or parts.entry.now w []) (slice_index_or others.entry.now w []))) }
+    requires { length parts ≡ length others }
+    ensures { IfOk result (AreMadeBy (length parts) (λ w. difference
+        (slice_index_or parts w []) (slice_index_or others w []))) }
 {
-    let workers = parts.as_slice();
-    let others = others.as_slice();
-    let at = |worker: usize| -> Result<Rows, Memory>
-        requires { (worker < length workers.now) × (worker < length others.now) }
-        ensures { IfOk result (SameBag (difference (slice_index_or workers.entry.now worker [])
-            (slice_index_or others.entry.now worker []))) }
-    { difference(alloc, &workers[worker], &others[worker]) };
-    let all = map_indices(rt, alloc, workers.len(), &at)?;
+    let own = pairs_apart(alloc, parts, others)?;
+    let at = |(rows, others): (Rows, Rows)| -> Result<Rows, Memory>
+        ensures { IfOk result (SameBag (difference rows others)) }
+    { difference(alloc, rows, others) };
+    let all = map_vec(rt, own, &at)?;
     gather(alloc, all)
+}
+
+/// The rows of each worker in both, to be handed to its job. None is copied.
+fn pairs_apart(alloc: Global, parts: Spread, others: Spread) -> Result<Vec<(Rows, Rows)>, Memory>
+    requires { length parts ≡ length others }
+    ensures parts { IfOk result (λ made. map (λ (p : RowList × RowList). p.0) made.items ≡ parts) }
+    ensures others { IfOk result (λ made. map (λ (p : RowList × RowList). p.1) made.items ≡ others) }
+{
+    let mut parts = parts;
+    let mut others = others;
+    let mut own = Vec::with_capacity(alloc, parts.len() as usize)?;
+    while let Some(rows) = parts.pop() {
+        let Some(other) = others.pop() else {
+            unreachable!()
+        };
+        own.push((rows, other))?;
+    }
+    own.reverse();
+    Ok(own)
 }
 
 /// At each worker a partial row for each of its groups. So few rows are listed that every count of

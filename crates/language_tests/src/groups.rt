@@ -7,7 +7,7 @@ ghost use Rattle.algebra.specs.declared.shapes.EmitKind.TheVariants as emit;
 use aggregate_ops::{AggFault, append, difference, distinct, group, merge, partial, partial_keys};
 use algebra::{EmitKind, EmitKinds};
 use myrial_ast::AggOp;
-use rel_base::{Memory, Row, Rows, Text, Value};
+use rel_base::{Duplicate, Memory, Row, Rows, Text, Value};
 use std::alloc::Global;
 
 /// A row of a text and a number.
@@ -83,13 +83,16 @@ fn double_pay(alloc: Global) -> Result<Rows, Memory> {
 #[test]
 fn rows_are_kept_once(rt: HostRuntime) -> Result<(), Memory> {
     let rows = double_pay(rt.alloc())?;
-    assert_eq!(rt; distinct(rt.alloc(), &rows)?.len(), 2);
+    assert_eq!(rt; distinct(rt.alloc(), rows)?.len(), 2);
     Ok(())
 }
 
 #[test]
 fn rows_that_the_other_list_has_are_left_out(rt: HostRuntime) -> Result<(), Memory> {
     let rows = double_pay(rt.alloc())?;
-    assert_eq!(rt; difference(rt.alloc(), &rows, &rows)?.len(), 0);
+    assert_eq!(rt;
+        difference(rt.alloc(), rows.copy(rt.alloc())?, rows)?.len(),
+        0
+    );
     Ok(())
 }

@@ -1,9 +1,14 @@
 -- Runs of equal rows, and rows that come before a row.
-use Rattle.std.specs.Prelude.{◌≡◌, ℕ, ◌<◌, ◌≤◌, Bool, true, false, [], ◌∷◌, length, slice_index_or}
+use Rattle.std.specs.Prelude.{◌≡◌, ℕ, ◌+◌, ◌<◌, ◌≤◌, Bool, true, false, [], ◌∷◌, length, slice_index_or}
 use Rattle.std.specs.Ordering.{is_lt}
 use Rattle.rel_base.specs.Values.{row_order}
 use Rattle.myrial_ast.specs.Combinations.{Row, Rows}
 use Rattle.myrial_ast.specs.Bags.{same_row}
+
+-- each row comes before the next
+abbrev pub AreRising : Rows → Type 0
+AreRising rows = (k : ℕ) → k + 1 < length rows
+    → is_lt (row_order (slice_index_or rows k []) (slice_index_or rows (k + 1) [])) ≡ true
 
 -- so many rows at the front are the first one, and the next, if there is one, is another
 pub record IsRun (rows : Rows) (count : ℕ) : Type 0 where

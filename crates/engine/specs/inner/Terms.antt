@@ -2,20 +2,23 @@
 --
 --   IsUnionFault statement rows fault    a `unionall` of so many rows has this fault, or memory was refused
 --   IsStepRun ..                         what running the term of a step does, whatever it answers
-use Rattle.std.specs.Prelude.{◌≡◌, ⊤, ℕ, ◌<◌, List, Result}
+--   later_in run                         the steps behind the one that is run
+use Rattle.std.specs.Prelude.{◌≡◌, ⊤, ℕ, ◌<◌, List, Result, map, drop}
 use Rattle.rel_base.specs.Limits.{most_rows}
 use Rattle.rel_base.specs.declared.faults.RunFault.{RunFault}
 use Rattle.rel_base.specs.declared.faults.RunFault.TheVariants as fault
 use Rattle.rel_io.specs.declared.taps.Totals.{Totals}
 use Rattle.algebra.specs.declared.settings.Settings.{Settings}
 use Rattle.algebra.specs.declared.terms.Source.{Source}
-use Rattle.algebra.specs.Trees.{TermTree}
+use Rattle.algebra.specs.CheckedTrees.{step_tree_of}
+use Rattle.algebra.specs.Trees.{StepTree, TermTree}
 use Rattle.algebra.specs.Meanings.{term_fault}
 use Rattle.placement.specs.Exchanges.{term_exchanges}
 use Rattle.placement.specs.Layouts.{PlacedRelation, term_parts}
 use Rattle.placement.specs.Plans.{usual_placing}
 use Rattle.term_runs.specs.declared.moved.Moved.{Moved}
 use Rattle.engine.specs.Runs.{prefixes_of}
+use Rattle.engine.specs.declared.terms.RunStep.{RunStep}
 use Rattle.engine.specs.inner.Joins.{IsTold}
 
 -- there are too many rows, or memory was refused
@@ -30,3 +33,7 @@ IsStepRun s number value t totals tag before after answer =
     let p = usual_placing s in
     IsTold s number (term_parts p number value t) (term_exchanges p number value t)
     (term_fault (prefixes_of s.shuffle) number (λ o. (value o).relation.rows) t) totals tag before after answer
+
+-- the steps behind the one that is run
+abbrev pub later_in : RunStep → List StepTree
+later_in run = drop 1 (map step_tree_of run.steps.now)

@@ -1,14 +1,28 @@
-use Rattle.std.proofs.Common.{◌≡◌, ◌∙◌, ap, subst}
-use Rattle.std.proofs.lemmas.Result.{IfOk-weaker}
-use Rattle.rel_base.specs.Bags.{SameBag}
-use Rattle.myrial_ast.specs.Combinations.{Rows}
+use Rattle.std.proofs.Common.{◌≡◌, ◌∙◌, [], ap, arith, length}
+use Rattle.std.proofs.lemmas.List.{length-map}
+use Rattle.std.proofs.lemmas.List.Sorted.{length_permutation}
+use Rattle.std.specs.Borrow.{Bor}
+use Rattle.myrial_ast.specs.Combinations.{Row}
 use Rattle.myrial_ast.specs.Bags.{difference, distinct}
+use Rattle.bag_laws.proofs.RowPermutations.{distinct-same}
+use Rattle.aggregate_ops.specs.Columns.{rows_in}
 use Rattle.aggregate_ops.proofs.BagLemmas.{difference-none}
 use Rattle.aggregate_ops.proofs.bags.distinct.Goals as goal
 
+pub without-requires-clause-few : goal.without-requires-clause-few
+without-requires-clause-few c =
+    let rows = c.in_ok-sorted.sorted.items in
+    omega (
+      arith,
+      c.in_ok-sorted.ensures.few,
+      ap length c.deref.ensures.value,
+      length-map rows (λ (r : Bor Row). r.now),
+      length_permutation c.args.rows (rows_in rows) c.in_ok-sorted.ensures.order.same_rows,
+    )
+
 pub returns : goal.returns
 returns c =
-    let rows = c.args.rows.now in
-    let each : difference rows c.new.result ≡ distinct rows = ap (difference rows) c.new.ensures ∙ difference-none rows in
-    IfOk-weaker c.difference-2.result (λ made. SameBag (difference rows c.new.result) made) (λ made. SameBag (distinct rows) made)
-    (λ made p. subst (λ (bag : Rows). SameBag bag made) each p) c.difference-2.ensures
+    let rows = rows_in c.in_ok-sorted.sorted.items in
+    let made : c.in_ok-made.made ≡ distinct rows =
+    c.in_ok-made.ensures ∙ (λ i. difference (rows_in (c.deref.ensures.value i)) []) ∙ difference-none rows in
+    rw made (distinct-same c.args.rows rows c.in_ok-sorted.ensures.order.same_rows)

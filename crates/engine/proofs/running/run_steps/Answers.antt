@@ -66,9 +66,10 @@ loop-place-preserved g c =
           c.loop-place-test.true c.index-steps-place.is c.args.settings.now c.requires.typed g.T.Tap.totals g.T.Tap.tag c.loop-place.held
           c.loop-place.noted c.args.taps.now.items c.loop-place.taps.items c.loop-place.invariant.run
           c.in-Some.step.now c.in-Some.ensures
-          c.run_step.new.held c.run_step.new.noted c.run_step.new.taps.items c.in_ok-run_step.ensures.fair c.in_ok-run_step.ensures.ok
-          c.let_go.new.self c.let_go.ensures.files (take (length steps - place) (drop place steps))
-          (take_all (length steps - place) (drop place steps) (omega (arith, length-drop place steps))) c.let_go.ensures.results;
+          c.run_step.new.held c.run_step.new.noted c.run_step.new.taps.items c.in_ok-run_step.ensures.fair
+          (take (length steps - place) (drop place steps))
+          (take_all (length steps - place) (drop place steps) (omega (arith, length-drop place steps))) c.in_ok-run_step.ensures.ok
+          c.let_go.new.self c.let_go.ensures.files c.let_go.ensures.results;
       fair =
           fair-both g.T.Tap.totals g.T.Tap.tag c.args.taps.now.items c.loop-place.taps.items c.run_step.new.taps.items
           c.loop-place.invariant.fair c.in_ok-run_step.ensures.fair;

@@ -1,27 +1,31 @@
-use Rattle.std.proofs.Common.{length, ◌∙◌}
+use Rattle.std.proofs.Common.{length, map, ◌∙◌}
 use Rattle.rel_base.specs.declared.failure.Memory.{Memory}
 use Rattle.engine.proofs.TermLemmas.{join-known, group-known, left-long, left-wide, right-wide, source-wide, same-run, empty-run, union-run, diff-run, distinct-run, join-run, join-lines, group-run, group-lines}
+use Rattle.algebra.specs.CheckedTrees.{step_tree_of}
+use Rattle.engine.proofs.UsedLemmas.{used_by_let_go}
 use Rattle.engine.proofs.terms.run_term.Goals as goal
 
 pub run_diff-requires-clause-left_width : goal.run_diff-requires-clause-left_width
 run_diff-requires-clause-left_width g c κs within =
     let step = c.args.run.now.step.now in
     left-wide c.args.held.now (length step.schema) step.term c.requires.runnable.wide c.in-Diff-default.left c.in-Diff-default.right
-    c.in-Diff-default.is-0 c.parts_of-left.result.now c.parts_of-left.ensures c.len-width.result c.len-width.ensures
+    c.in-Diff-default.is-0 c.in_ok-left-in-Diff-default.left (c.in_ok-left-in-Diff-default.ensures ∙ c.parts_of-in-Diff-default.ensures)
+    c.len-width.result c.len-width.ensures
 
 pub run_diff-requires-clause-right_width : goal.run_diff-requires-clause-right_width
 run_diff-requires-clause-right_width g c κs within =
     let step = c.args.run.now.step.now in
     right-wide c.args.held.now (length step.schema) step.term c.requires.runnable.wide c.in-Diff-default.left
-    c.in-Diff-default.right c.in-Diff-default.is-0 c.parts_of-right.result.now c.parts_of-right.ensures
-    c.len-width.result c.len-width.ensures
+    c.in-Diff-default.right c.in-Diff-default.is-0 c.in_ok-right-in-Diff-default.right
+    (c.in_ok-right-in-Diff-default.ensures ∙ c.parts_of-in-Diff-default-2.ensures) c.len-width.result c.len-width.ensures
 
 pub run_distinct-requires-clause-width : goal.run_distinct-requires-clause-width
 run_distinct-requires-clause-width g c κs within =
     let step = c.args.run.now.step.now in
     source-wide c.args.held.now (length step.schema) step.term c.requires.runnable.wide c.in-Distinct-default.source
-    c.in-Distinct-default.is-0 c.parts_of-parts.result.now c.parts_of-parts.ensures c.len-width-in-Distinct-default.result
-    c.len-width-in-Distinct-default.ensures
+    c.in-Distinct-default.is-0 c.in_ok-parts-in-Distinct-default.parts
+    (c.in_ok-parts-in-Distinct-default.ensures ∙ c.parts_of-in-Distinct-default.ensures)
+    c.len-width-in-Distinct-default.result c.len-width-in-Distinct-default.ensures
 
 pub returns-in_ok-copy-in-Same-default-clause-run : goal.returns-in_ok-copy-in-Same-default-clause-run
 returns-in_ok-copy-in-Same-default-clause-run g c =
@@ -55,15 +59,17 @@ pub returns-in_ok-moved-in-Diff-default-clause-run : goal.returns-in_ok-moved-in
 returns-in_ok-moved-in-Diff-default-clause-run g c =
     let step = c.args.run.now.step.now in
     diff-run c.args.settings.now step.statement c.args.held.now g.T.Tap.totals g.T.Tap.tag step.term (λ (f : Memory). Unit)
-    c.in-Diff-default.left c.in-Diff-default.right c.in-Diff-default.is-0 c.parts_of-left.result.now c.parts_of-right.result.now
-    c.parts_of-left.ensures c.parts_of-right.ensures c.args.taps.now.items c.run_diff.new.taps.items
+    c.in-Diff-default.left c.in-Diff-default.right c.in-Diff-default.is-0 c.in_ok-left-in-Diff-default.left c.in_ok-right-in-Diff-default.right
+    (c.in_ok-left-in-Diff-default.ensures ∙ c.parts_of-in-Diff-default.ensures) (c.in_ok-right-in-Diff-default.ensures ∙ c.parts_of-in-Diff-default-2.ensures)
+    c.args.taps.now.items c.run_diff.new.taps.items
     c.in_ok-moved-in-Diff-default.moved c.in_ok-moved-in-Diff-default.ensures
 
 pub returns-in_ok-moved-in-Distinct-default-clause-run : goal.returns-in_ok-moved-in-Distinct-default-clause-run
 returns-in_ok-moved-in-Distinct-default-clause-run g c =
     let step = c.args.run.now.step.now in
     distinct-run c.args.settings.now step.statement c.args.held.now g.T.Tap.totals g.T.Tap.tag step.term (λ (f : Memory). Unit)
-    c.in-Distinct-default.source c.in-Distinct-default.is-0 c.parts_of-parts.result.now c.parts_of-parts.ensures
+    c.in-Distinct-default.source c.in-Distinct-default.is-0 c.in_ok-parts-in-Distinct-default.parts
+    (c.in_ok-parts-in-Distinct-default.ensures ∙ c.parts_of-in-Distinct-default.ensures)
     c.args.taps.now.items c.run_distinct.new.taps.items c.in_ok-moved-in-Distinct-default.moved
     c.in_ok-moved-in-Distinct-default.ensures
 
@@ -114,3 +120,31 @@ returns-in_ok-join-in-Group-Group-clause-lines g c =
     over.ensures.parts c.in-Group-Group.kinds c.in-Group-Group.is-0 c.run_step_group.result
     c.args.lines.now c.run_step_group.new.lines
     c.run_step_group.ensures.lines
+
+pub returns-in_err-moved-in-Diff-default-clause-used :
+    goal.returns-in_err-moved-in-Diff-default-clause-used
+returns-in_err-moved-in-Diff-default-clause-used g c =
+    let run = c.args.run.now in
+    used_by_let_go run.stores.now (map step_tree_of run.steps.now) c.args.held.now.results.items
+    c.let_go.new.self.results.items c.let_go.ensures.results
+
+pub returns-in_err-moved-in-Distinct-default-clause-used :
+    goal.returns-in_err-moved-in-Distinct-default-clause-used
+returns-in_err-moved-in-Distinct-default-clause-used g c =
+    let run = c.args.run.now in
+    used_by_let_go run.stores.now (map step_tree_of run.steps.now) c.args.held.now.results.items
+    c.let_go-in-Distinct-default.new.self.results.items c.let_go-in-Distinct-default.ensures.results
+
+pub returns-in_ok-moved-in-Diff-default-clause-used :
+    goal.returns-in_ok-moved-in-Diff-default-clause-used
+returns-in_ok-moved-in-Diff-default-clause-used g c =
+    let run = c.args.run.now in
+    used_by_let_go run.stores.now (map step_tree_of run.steps.now) c.args.held.now.results.items
+    c.let_go.new.self.results.items c.let_go.ensures.results
+
+pub returns-in_ok-moved-in-Distinct-default-clause-used :
+    goal.returns-in_ok-moved-in-Distinct-default-clause-used
+returns-in_ok-moved-in-Distinct-default-clause-used g c =
+    let run = c.args.run.now in
+    used_by_let_go run.stores.now (map step_tree_of run.steps.now) c.args.held.now.results.items
+    c.let_go-in-Distinct-default.new.self.results.items c.let_go-in-Distinct-default.ensures.results

@@ -12,13 +12,13 @@ use Rattle.keyed_terms.proofs.diffs.meet.Goals as goal
 
 pub spread_by_key-requires-clause-columns : goal.spread_by_key-requires-clause-columns
 spread_by_key-requires-clause-columns g c κs within =
-    subst (λ (columns : List ℕ). All (All (HasColumns columns)) c.args.operands.now.left.now) (sym c.requires.columns)
-    (whole-columns c.args.operands.now.width c.args.operands.now.left.now c.requires.left_width)
+    subst (λ (columns : List ℕ). All (All (HasColumns columns)) c.args.operands.now.left) (sym c.requires.columns)
+    (whole-columns c.args.operands.now.width c.args.operands.now.left c.requires.left_width)
 
 pub spread_by_key-requires-2-clause-columns : goal.spread_by_key-requires-2-clause-columns
 spread_by_key-requires-2-clause-columns g c κs within =
-    subst (λ (columns : List ℕ). All (All (HasColumns columns)) c.args.operands.now.right.now) (sym c.requires.columns)
-    (whole-columns c.args.operands.now.width c.args.operands.now.right.now c.requires.right_width)
+    subst (λ (columns : List ℕ). All (All (HasColumns columns)) c.args.operands.now.right) (sym c.requires.columns)
+    (whole-columns c.args.operands.now.width c.args.operands.now.right c.requires.right_width)
 
 pub returns-in_err-met : goal.returns-in_err-met
 returns-in_err-met g c =
@@ -30,7 +30,7 @@ returns-in_err-met g c =
     let middle = c.spread_by_key.new.taps.items in
     let x = c.spread_by_key.ensures in
     let room : 2 * s.workers ≤ length before = omega (arith, c.requires.taps, a.taps.now.ok.0) in
-    meeting-failed s a.operands.now.left.now a.operands.now.right.now totals tag before middle c.from_residual.result (search rules)
+    meeting-failed s a.operands.now.left a.operands.now.right totals tag before middle c.from_residual.result (search rules)
     (told-fair totals tag s.workers x.sent_by x.got_by before middle room x.told)
     (told-low totals tag s.workers x.sent_by x.got_by before middle x.told c.requires.unlisted)
 
@@ -44,7 +44,7 @@ returns-then-not-have_room g c =
     let middle = c.spread_by_key.new.taps.items in
     let x = c.spread_by_key.ensures in
     let room : 2 * s.workers ≤ length before = omega (arith, c.requires.taps, a.taps.now.ok.0) in
-    meeting-failed s a.operands.now.left.now a.operands.now.right.now totals tag before middle _ (search rules)
+    meeting-failed s a.operands.now.left a.operands.now.right totals tag before middle _ (search rules)
     (told-fair totals tag s.workers x.sent_by x.got_by before middle room x.told)
     (told-low totals tag s.workers x.sent_by x.got_by before middle x.told c.requires.unlisted)
 
@@ -61,7 +61,7 @@ returns-in_err-others g c =
     let y = c.spread_by_key-2.ensures in
     let room : 2 * s.workers ≤ length before = omega (arith, c.requires.taps, a.taps.now.ok.0) in
     let there : 2 * s.workers ≤ length middle = omega (arith, room, x.told.count) in
-    meeting-failed s a.operands.now.left.now a.operands.now.right.now totals tag before after c.from_residual-in_err-others.result (search rules)
+    meeting-failed s a.operands.now.left a.operands.now.right totals tag before after c.from_residual-in_err-others.result (search rules)
     (fair-both totals tag before middle after (told-fair totals tag s.workers x.sent_by x.got_by before middle room x.told)
     (told-fair totals tag s.workers y.sent_by y.got_by middle after there y.told))
     (told-low totals tag s.workers y.sent_by y.got_by middle after y.told
@@ -80,7 +80,7 @@ returns-in_err-receipts g c =
     let y = c.spread_by_key-2.ensures in
     let room : 2 * s.workers ≤ length before = omega (arith, c.requires.taps, a.taps.now.ok.0) in
     let there : 2 * s.workers ≤ length middle = omega (arith, room, x.told.count) in
-    meeting-failed s a.operands.now.left.now a.operands.now.right.now totals tag before after c.from_residual-in_err-receipts.result (search rules)
+    meeting-failed s a.operands.now.left a.operands.now.right totals tag before after c.from_residual-in_err-receipts.result (search rules)
     (fair-both totals tag before middle after (told-fair totals tag s.workers x.sent_by x.got_by before middle room x.told)
     (told-fair totals tag s.workers y.sent_by y.got_by middle after there y.told))
     (told-low totals tag s.workers y.sent_by y.got_by middle after y.told
@@ -91,8 +91,8 @@ returns g c =
     let a = c.args in
     let s = a.settings.now in
     let width = a.operands.now.width in
-    let left = a.operands.now.left.now in
-    let right = a.operands.now.right.now in
+    let left = a.operands.now.left in
+    let right = a.operands.now.right in
     let totals = g.T.Tap.totals in
     let tag = g.T.Tap.tag in
     let home : Row → ℕ = λ row. home_of s.seed row s.workers in

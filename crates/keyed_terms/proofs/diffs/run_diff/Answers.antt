@@ -20,8 +20,8 @@ pub returns : goal.returns
 returns g c =
     let a = c.args in
     let s = a.settings.now in
-    let left = a.operands.now.left.now in
-    let right = a.operands.now.right.now in
+    let left = a.operands.left in
+    let right = a.operands.right in
     let totals = g.T.Tap.totals in
     let tag = g.T.Tap.tag in
     let home : Row → ℕ = λ row. home_of s.seed row s.workers in

@@ -23,15 +23,15 @@ use Rattle.keyed_terms.proofs.distincts.run_distinct.Goals as goal
 
 pub spread_by_key-requires-clause-columns : goal.spread_by_key-requires-clause-columns
 spread_by_key-requires-clause-columns g c κs within =
-    subst (λ (columns : List ℕ). All (All (HasColumns columns)) c.args.parts.now) (sym c.in_ok-columns.ensures)
-    (whole-columns c.args.width c.args.parts.now c.requires.width)
+    subst (λ (columns : List ℕ). All (All (HasColumns columns)) c.args.parts) (sym c.in_ok-columns.ensures)
+    (whole-columns c.args.width c.args.parts c.requires.width)
 
 pub returns-in_err-met : goal.returns-in_err-met
 returns-in_err-met g c =
     let a = c.args in
     let s = a.settings.now in
     let x = c.spread_by_key.ensures in
-    run-refused s a.statement (distinct_parts s a.parts.now) (distinct_exchanges s a.parts.now) g.T.Tap.totals g.T.Tap.tag a.taps.now.items c.spread_by_key.new.taps.items
+    run-refused s a.statement (distinct_parts s a.parts) (distinct_exchanges s a.parts) g.T.Tap.totals g.T.Tap.tag a.taps.now.items c.spread_by_key.new.taps.items
     c.from_residual-in_err-met.result (search rules)
     (told-fair g.T.Tap.totals g.T.Tap.tag s.workers x.sent_by x.got_by a.taps.now.items c.spread_by_key.new.taps.items (omega (arith, c.requires.taps, a.taps.now.ok.0)) x.told)
 
@@ -40,7 +40,7 @@ returns-in_err-made g c =
     let a = c.args in
     let s = a.settings.now in
     let x = c.spread_by_key.ensures in
-    run-refused s a.statement (distinct_parts s a.parts.now) (distinct_exchanges s a.parts.now) g.T.Tap.totals g.T.Tap.tag a.taps.now.items c.spread_by_key.new.taps.items
+    run-refused s a.statement (distinct_parts s a.parts) (distinct_exchanges s a.parts) g.T.Tap.totals g.T.Tap.tag a.taps.now.items c.spread_by_key.new.taps.items
     c.from_residual-in_err-made.result (search rules)
     (told-fair g.T.Tap.totals g.T.Tap.tag s.workers x.sent_by x.got_by a.taps.now.items c.spread_by_key.new.taps.items (omega (arith, c.requires.taps, a.taps.now.ok.0)) x.told)
 
@@ -49,7 +49,7 @@ returns-in_err-receipts g c =
     let a = c.args in
     let s = a.settings.now in
     let x = c.spread_by_key.ensures in
-    run-refused s a.statement (distinct_parts s a.parts.now) (distinct_exchanges s a.parts.now) g.T.Tap.totals g.T.Tap.tag a.taps.now.items c.spread_by_key.new.taps.items
+    run-refused s a.statement (distinct_parts s a.parts) (distinct_exchanges s a.parts) g.T.Tap.totals g.T.Tap.tag a.taps.now.items c.spread_by_key.new.taps.items
     c.from_residual-in_err-receipts.result (search rules)
     (told-fair g.T.Tap.totals g.T.Tap.tag s.workers x.sent_by x.got_by a.taps.now.items c.spread_by_key.new.taps.items (omega (arith, c.requires.taps, a.taps.now.ok.0)) x.told)
 
@@ -78,7 +78,7 @@ pub returns : goal.returns
 returns g c =
     let a = c.args in
     let s = a.settings.now in
-    let parts = a.parts.now in
+    let parts = a.parts in
     let totals = g.T.Tap.totals in
     let tag = g.T.Tap.tag in
     let home : Row → ℕ = λ row. home_of s.seed row s.workers in

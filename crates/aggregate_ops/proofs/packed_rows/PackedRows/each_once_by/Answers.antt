@@ -1,0 +1,24 @@
+use Rattle.std.proofs.Common.{◌≡◌, ◌∙◌, refl, subst, map}
+use Rattle.std.proofs.lemmas.List.Sorted.{IsPermutation-map}
+use Rattle.rel_base.specs.Bags.{SameBag}
+use Rattle.myrial_ast.specs.Combinations.{Rows}
+use Rattle.aggregate_ops.specs.declared.emits.Emits.TheVariants.{Whole}
+use Rattle.aggregate_ops.specs.inner.Emitted.{all_emitted}
+use Rattle.aggregate_ops.specs.inner.Reading.{unpacked_row}
+use Rattle.aggregate_ops.specs.inner.Runs.{AreRising}
+use Rattle.aggregate_ops.proofs.EmitLemmas.{whole-rows}
+use Rattle.aggregate_ops.proofs.RisingLemmas.{each-once}
+use Rattle.aggregate_ops.proofs.packed_rows.PackedRows.each_once_by.Goals as goal
+
+pub returns : goal.returns
+returns c =
+    let row = unpacked_row c.in_ok-columns.columns.items in
+    let ordered = c.in_order-words.result.items in
+    let packed : map row c.in-Some.words.items ≡ all_emitted Whole c.args.rows.now =
+    rw (c.in-Some.is, c.deref.ensures.value) at c.in_ok-words.ensures.words in
+    let same : SameBag c.args.rows.now (map row ordered) =
+    subst (λ (rows : Rows). SameBag rows (map row ordered)) (packed ∙ whole-rows c.args.rows.now)
+    (IsPermutation-map row _ _ c.in_order-words.ensures.same) in
+    let up : AreRising (map row c.dedup.new.self.items) =
+    rw (c.deref-3.ensures.value, c.deref-4.ensures.value) at (c.if-not-rise.ensures refl) in
+    each-once row c.args.rows.now ordered c.dedup.new.self.items same c.dedup.ensures.filtered up
