@@ -20,7 +20,7 @@ ghost use Rattle.relation_csv.specs.inner.RecordsLeft.{records_after};
 use crate::RelFault;
 use crate::fields::{leading_number, value_of};
 use crate::int_rows::{are_ints, push_ints_of};
-use memchr::memchr2;
+use memchr::{memchr_iter, memchr2};
 use rel_base::{ColType, MOST_ROWS, Memory, Row, Rows, Schema, Value};
 use std::alloc::Global;
 use std::str;
@@ -140,7 +140,7 @@ pub(crate) fn rows_of_lines(
     ensures { IfOk result (λ found. IfSome found (λ rows.
         rows_of_records schema.now (records_after state.StartRecord text.now) ≡ Ok rows)) }
 {
-    let mut rows = Rows::new(alloc);
+    let mut rows = no_rows(alloc, schema, text);
     let mut room = RowRoom::of(alloc, schema)?;
     let mut left = text;
     'rows: loop {
@@ -158,6 +158,19 @@ pub(crate) fn rows_of_lines(
             return Ok(None);
         };
         left = rest;
+    }
+}
+
+/// No rows, with room for one of each line of a text if there is memory for it. A list that grows
+/// copies what it has, and the room that it leaves lies idle while the file is read.
+fn no_rows(alloc: Global, schema: &Schema, text: &str) -> Rows
+    ensures { result ≡ [] }
+{
+    let ends = memchr_iter(b'\n', text.as_bytes()).count();
+    let lines = ends.min(MOST_ROWS as usize - 1) + 1;
+    match Rows::with_capacity(alloc, lines as u32, schema.len()) {
+        Ok(rows) => rows,
+        Err(Memory) => Rows::new(alloc),
     }
 }
 
