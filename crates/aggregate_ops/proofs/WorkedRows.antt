@@ -1,9 +1,11 @@
 -- Worked cases of this crate's words, each proved by computing.
-use Rattle.std.proofs.Common.{◌≡◌, ◌+◌, ◌*◌, false, pos, [], ◌∷◌, refl, arith}
+use Rattle.std.proofs.Common.{◌≡◌, ◌+◌, ◌*◌, zero, suc, false, pos, [], ◌∷◌, refl, arith}
+use Rattle.std.proofs.lemmas.Bool.{false≢true}
 use Rattle.rel_base.specs.declared.values.Value.TheVariants as value
 use Rattle.myrial_ast.specs.declared.scalars.Scalar.TheVariants as pick
 use Rattle.aggregate_ops.specs.declared.packed_columns.PackedColumn.{PackedColumn}
 use Rattle.aggregate_ops.specs.inner.Reading.{unpacked_row}
+use Rattle.aggregate_ops.specs.inner.Runs.{AreRising}
 use Rattle.aggregate_ops.specs.inner.Twins.{IsTold}
 
 -- numbers from 10 on, in the three digits behind the lowest three
@@ -21,3 +23,12 @@ two_values_told = refl
 -- the second of two columns tells its twin, behind whichever column that stands
 pub second_tells : IsTold (tens ∷ ones ∷ []) (pick.At 2 ∷ pick.At 0 ∷ []) ones (pick.At 0)
 second_tells = record { place = 1; there = omega arith; column_is = λ word d. refl; pick_is = λ d. refl }
+
+-- 1 and then 2 rise
+pub two_rise : AreRising ((value.Int (pos 1) ∷ []) ∷ (value.Int (pos 2) ∷ []) ∷ [])
+two_rise zero h = refl
+two_rise (suc k) h = absurd (omega (arith, h))
+
+-- one row twice doesn't
+pub twice_falls : AreRising ((value.Int (pos 1) ∷ []) ∷ (value.Int (pos 1) ∷ []) ∷ []) → ⊥
+twice_falls rise = false≢true (rise 0 (omega arith))

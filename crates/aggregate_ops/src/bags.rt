@@ -83,8 +83,8 @@ fn without(alloc: Global, rows: &[&[Value]], others: &[&[Value]]) -> Result<Rows
 
 /// Each row of the first list that the second doesn't have, once, in ascending order.
 ///
-/// A row goes however often either list has it. Time is n log n in the rows of both. Rows that can be
-/// packed in words are let go before others are made of these.
+/// A row goes however often either list has it. Time is n log n in the rows of both. Rows that can
+/// be packed in words are let go before others are made of these.
 pub fn difference(alloc: Global, a: Rows, b: Rows) -> Result<Rows, Memory>
     ensures { IfOk result (λ made. SameBag (difference a b) made) }
 {

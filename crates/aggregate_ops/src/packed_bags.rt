@@ -135,8 +135,8 @@ fn stand_in_order(columns: &[PackedColumn], words: &[u64]) -> bool
     }
 }
 
-/// Two lists of rows in ascending order that are packed in words, by the same columns. Contracts see
-/// the rows of both.
+/// Two lists of rows in ascending order that are packed in words, by the same columns. Contracts
+/// see the rows of both.
 #[derive(Drop)]
 pub struct PackedOperands {
     columns: Vec<PackedColumn>,

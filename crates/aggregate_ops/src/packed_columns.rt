@@ -52,7 +52,7 @@ impl PackedColumn {
     #[inline(always)]
     pub fn bits_of(self, value: &Value) -> u64 {
         let distance = match value {
-            Value::Int(number) => number.abs_diff(self.least),
+            Value::Int(number) => number.wrapping_sub(self.least).cast_unsigned(),
             Value::Bool(truth) => u64::from(*truth),
             Value::Str(_) => 0,
         };

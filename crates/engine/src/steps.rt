@@ -37,7 +37,8 @@ pub(crate) fn run_step<R: Threads + Wait + Sync, T: Tap + Send>(
         (term_tree_of run.now.pushed.now.term) }
     requires taps { 2 * settings.now.workers ≤ vec_len taps.old }
     ensures { IsStep settings.now (step_tree_of run.now.step.now) run.now.stores.now
-        (later_in run.now) held.old held.new noted.old noted.new T.totals T.tag taps.old.items taps.new.items result }
+        (later_in run.now) held.old held.new noted.old noted.new T.totals T.tag taps.old.items
+        taps.new.items result }
 {
     let mut lines = PlanNotes::new(alloc);
     let Moved {

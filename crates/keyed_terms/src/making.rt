@@ -4,7 +4,6 @@ ghost use Rattle.std.specs.List.{list_all};
 ghost use Rattle.rel_base.specs.Bags.{SameBag};
 ghost use Rattle.rel_base.specs.Limits.{most_workers};
 ghost use Rattle.myrial_ast.specs.Bags.{distinct, difference};
-ghost use Rattle.myrial_ast.specs.Combinations.{Rows as RowList};
 ghost use Rattle.myrial_ast.specs.CandidateFaults.{all_fit};
 ghost use Rattle.myrial_ast.specs.ScalarTrees.{scalar_tree_of};
 ghost use Rattle.myrial_ast.specs.Partials.{partial_kinds, partial_rows, merged};
@@ -15,7 +14,7 @@ ghost use Rattle.aggregate_ops.specs.Forms.{merged_fits};
 ghost use Rattle.aggregate_ops.specs.Picks.{are_picks};
 ghost use Rattle.placement.specs.Layouts.{together};
 ghost use Rattle.keyed_terms.specs.KeyedTerms.{emitted_parts};
-ghost use Rattle.keyed_terms.specs.inner.Making.{AreMadeBy, IsPicked, IsMerged};
+ghost use Rattle.keyed_terms.specs.inner.Making.{AreMadeBy, IsPicked, IsMerged, left_rows, right_rows};
 
 use crate::gathering::{gather, gather_merged};
 use aggregate_ops::{AggFault, difference, distinct, merge, partial, partial_of_picks};
@@ -78,8 +77,8 @@ pub(crate) fn difference_each<R: Threads + Sync>(
 /// The rows of each worker in both, to be handed to its job. None is copied.
 fn pairs_apart(alloc: Global, parts: Spread, others: Spread) -> Result<Vec<(Rows, Rows)>, Memory>
     requires { length parts ≡ length others }
-    ensures parts { IfOk result (λ made. map (λ (p : RowList × RowList). p.0) made.items ≡ parts) }
-    ensures others { IfOk result (λ made. map (λ (p : RowList × RowList). p.1) made.items ≡ others) }
+    ensures parts { IfOk result (λ made. left_rows made.items ≡ parts) }
+    ensures others { IfOk result (λ made. right_rows made.items ≡ others) }
 {
     let mut parts = parts;
     let mut others = others;

@@ -130,7 +130,8 @@ impl GatheredPart {
 /// Columns without values, each with room for so many.
 fn no_values(alloc: Global, width: u32, count: u32) -> Result<Vec<GatheredColumn>, Memory>
     ensures many { IfOk result (λ made. length made.items ≡ width) }
-    ensures none { IfOk result (λ made. (found : List Found) → AreGatheredColumns [] made.items found) }
+    ensures none { IfOk result
+        (λ made. (found : List Found) → AreGatheredColumns [] made.items found) }
 {
     let mut columns = Vec::with_capacity(alloc, width as usize)?;
     for _ in 0..width {

@@ -40,15 +40,17 @@ use Rattle.engine.specs.inner.Held.{parts_held, value_held, UsedAreHeld}
 abbrev pub held_exchanges : Settings → Held → StepTree → List PlacedExchange
 held_exchanges s held t = term_exchanges (usual_placing s) t.statement (value_held held) t.term
 
--- the result of a step is held, as bags, with those that a store or a later step uses; its line with its rows and the lines below it, the notes and the receipts of its
--- exchanges stand behind those before; and the taps rose by its exchanges
-pub record IsStepDone {T : Type 0} (s : Settings) (t : StepTree) (stores : List StoreStep) (later : List StepTree) (held : Held)
-    (after_held : Held)
-    (noted after_noted : Noted) (totals : T → Totals) (tag : T → ℕ) (before after : List T) : Type 0 where
+-- the result of a step is held, as bags, with those that a store or a later step uses; its line
+-- with its rows and the lines below it, the notes and the receipts of its exchanges stand behind
+-- those before; and the taps rose by its exchanges
+pub record IsStepDone {T : Type 0} (s : Settings) (t : StepTree) (stores : List StoreStep)
+    (later : List StepTree) (held after_held : Held) (noted after_noted : Noted)
+    (totals : T → Totals) (tag : T → ℕ) (before after : List T) : Type 0 where
   pub made : List Rows
   pub receipts : List ReceiptState
   pub files : after_held.files ≡ held.files
-  pub results : UsedAreHeld stores later (held.results.items ++ (t.statement, made) ∷ []) after_held.results.items
+  pub results : UsedAreHeld stores later (held.results.items ++ (t.statement, made) ∷ [])
+      after_held.results.items
   pub parts : SameTables (term_parts (usual_placing s) t.statement (value_held held) t.term) made
   pub plan : after_noted.plan ≡ noted.plan ++ note.Statement t.statement (plan_kind t.term) (length (together made))
       ∷ term_notes (usual_placing s) s.local t.statement (value_held held) t.term
@@ -60,11 +62,13 @@ pub record IsStepDone {T : Type 0} (s : Settings) (t : StepTree) (stores : List 
   pub sound : term_fault (prefixes_of s.shuffle) t.statement (λ o. (value_held held o).relation.rows) t.term ≡ None
 
 -- what running a step over what is held does
-pub record IsStep {T : Type 0} (s : Settings) (t : StepTree) (stores : List StoreStep) (later : List StepTree) (held : Held)
-    (after_held : Held) (noted after_noted : Noted) (totals : T → Totals) (tag : T → ℕ) (before after : List T)
-    (answer : Result ⊤ RunFault) : Type 0 where
+pub record IsStep {T : Type 0} (s : Settings) (t : StepTree) (stores : List StoreStep)
+    (later : List StepTree) (held after_held : Held) (noted after_noted : Noted)
+    (totals : T → Totals) (tag : T → ℕ) (before after : List T) (answer : Result ⊤ RunFault)
+    : Type 0 where
   pub fair : AreFair totals tag before after
-  pub ok : OnOk answer (IsStepDone s t stores later held after_held noted after_noted totals tag before after)
+  pub ok : OnOk answer
+      (IsStepDone s t stores later held after_held noted after_noted totals tag before after)
   pub err : IfErr answer
       (IsRunFault (term_fault (prefixes_of s.shuffle) t.statement (λ o. (value_held held o).relation.rows) t.term))
 

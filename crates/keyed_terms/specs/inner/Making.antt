@@ -15,6 +15,13 @@ use Rattle.aggregate_ops.specs.Forms.{merged_fits}
 use Rattle.aggregate_ops.specs.declared.faults.AggFault.{AggFault}
 use Rattle.aggregate_ops.specs.declared.faults.AggFault.TheVariants as fault
 
+-- of pairs of lists of rows the first of each, and the second
+abbrev pub left_rows : List (Rows × Rows) → List Rows
+left_rows pairs = map (λ (p : Rows × Rows). p.0) pairs
+
+abbrev pub right_rows : List (Rows × Rows) → List Rows
+right_rows pairs = map (λ (p : Rows × Rows). p.1) pairs
+
 -- a list for each of n workers, with these rows, as bags
 pub record AreMadeBy (n : ℕ) (rows : ℕ → Rows) (made : List Rows) : Type 0 where
   pub count : length made ≡ n

@@ -9,8 +9,9 @@
 --   AddsString old new s n                  a string has this number, which may be a new one
 --   AddsStrings old new strings             all new occurrences are of these strings
 --   IsGathered values words places found    the words of values, with numbers in place of strings
---   AreGatheredColumns rows columns found         of each column the words of its values
---   AreGatheredUpTo rows row place columns found    the same, while the values of a row more are added
+--   AreGatheredColumns rows columns found   of each column the words of its values
+--   AreGatheredUpTo rows row place columns found
+--                                           the same, while the values of a row more are added
 --   IsGatheredPart rows width part found    the words of rows with so many columns
 --   AreGathered widths parts gathered found    the words of parts
 --   Rise found                              no string of an occurrence is below one in front of it
@@ -92,7 +93,8 @@ AreGatheredColumns rows columns found = (c : ℕ) (d : GatheredColumn) → c < l
     → IsGathered (values_at rows c) (slice_index_or columns c d).words.items
     (slice_index_or columns c d).places.items found
 
--- in front of a place the columns of the rows and of one row more, and from there on those of the rows
+-- in front of a place the columns of the rows and of one row more, and from there on those of the
+-- rows
 pub record AreGatheredUpTo
     (rows : List (List Value)) (row : List Value) (place : ℕ) (columns : List GatheredColumn)
     (found : List Occurrence) : Type 0 where
