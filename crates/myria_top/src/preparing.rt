@@ -83,7 +83,7 @@ fn prepared_trial<R: Threads + Wait + Sync, T: Tap + Send>(
         Ok(files) => files,
         Err(_) => return Err(Outcome::Memory),
     };
-    text_of_run(rt, alloc, request, &script, &files, taps)
+    text_of_run(rt, alloc, request, &script, files, taps)
 }
 
 /// What a request of a script comes to.
@@ -140,7 +140,7 @@ fn prepared_files<R: Threads + Wait + Sync, F: Shelf, T: Tap + Send>(
         Ok(files) => files,
         Err(refusal) => return Err(refusal),
     };
-    text_of_run(rt, alloc, request, script, &files, taps)
+    text_of_run(rt, alloc, request, script, files, taps)
 }
 
 /// In how many jobs a long file is read: as many as there are workers, and one in a check, which

@@ -48,27 +48,30 @@ pub struct Unprinted {
 }
 
 /// What the run of a script over its files comes to.
+///
+/// The files are let go before the text is made, which may then stand where they stood: what is
+/// stored shares the rows that it needs.
 pub fn text_of_run<R: Threads + Wait + Sync, T: Tap + Send>(
     rt: &R,
     alloc: Global,
     request: &Request,
     script: &Script,
-    files: &Files,
+    files: Files,
     taps: &mut Vec<T>,
 ) -> Result<Unprinted, Outcome>
-    requires formed { IsTrue (have_forms files.now (trees_of script.now)) }
-    requires typed { AreTyped files.now }
+    requires formed { IsTrue (have_forms files (trees_of script.now)) }
+    requires typed { AreTyped files }
     requires taps { vec_len taps.old ≡ tap_count }
-    ensures agrees { read.Agrees (run_verdict request.now (trees_of script.now) files.now)
+    ensures agrees { read.Agrees (run_verdict request.now (trees_of script.now) files)
         (text_of result) }
     ensures kind { IfErr result IsOfTexts }
     ensures fair { AreFair T.totals T.tag taps.old.items taps.new.items }
     ensures moved { IfOk result (λ made. (c : CheckedTree)
-        → checked_of files.now (trees_of script.now) ≡ Ok c
-        → HasMoved request.now files.now c T.totals T.tag taps.old.items taps.new.items
+        → checked_of files (trees_of script.now) ≡ Ok c
+        → HasMoved request.now files c T.totals T.tag taps.old.items taps.new.items
         made.receipts) }
 {
-    let checked = match check(alloc, script, files) {
+    let checked = match check(alloc, script, &files) {
         Ok(checked) => checked,
         Err(fault) => return Err(Outcome::from(fault)),
     };
@@ -89,17 +92,18 @@ pub fn text_of_run<R: Threads + Wait + Sync, T: Tap + Send>(
 }
 
 /// What a script with a meaning comes to without workers.
-fn text_of_evaluation(alloc: Global, script: &Script, files: &Files) -> Result<Unprinted, Outcome>
-    requires { IsTrue (has_meaning files.now (trees_of script.now)) }
-    ensures agrees { read.Agrees (evaluated_verdict (trees_of script.now) files.now)
+fn text_of_evaluation(alloc: Global, script: &Script, files: Files) -> Result<Unprinted, Outcome>
+    requires { IsTrue (has_meaning files (trees_of script.now)) }
+    ensures agrees { read.Agrees (evaluated_verdict (trees_of script.now) files)
         (text_of result) }
     ensures kind { IfErr result IsOfTexts }
     ensures moved { IfOk result (λ made. made.receipts ≡ []) }
 {
-    let stored = match evaluate(alloc, script, files) {
+    let stored = match evaluate(alloc, script, &files) {
         Ok(stored) => stored,
         Err(fault) => return Err(Outcome::from(fault)),
     };
+    drop(files);
     // Law: their rows are in ascending order, so that they are printed as they stand.
     sorted_lines_are_the_text();
     let mut text = Pieces::new(alloc);
@@ -114,24 +118,25 @@ fn text_at_workers<R: Threads + Wait + Sync, T: Tap + Send>(
     alloc: Global,
     request: &Request,
     checked: &Checked,
-    files: &Files,
+    files: Files,
     taps: &mut Vec<T>,
 ) -> Result<Unprinted, Outcome>
     requires workers { is_check request.now.mode ≡ false }
-    requires of { IsTrue (is_of files.now (checked_tree_of checked.now)) }
-    requires typed { AreTyped files.now }
+    requires of { IsTrue (is_of files (checked_tree_of checked.now)) }
+    requires typed { AreTyped files }
     requires taps { vec_len taps.old ≡ tap_count }
     ensures agrees { read.Agrees
-        (checked_verdict request.now files.now (checked_tree_of checked.now)) (text_of result) }
+        (checked_verdict request.now files (checked_tree_of checked.now)) (text_of result) }
     ensures kind { IfErr result IsOfTexts }
     ensures fair { AreFair T.totals T.tag taps.old.items taps.new.items }
-    ensures moved { IfOk result (λ made. HasMoved request.now files.now
+    ensures moved { IfOk result (λ made. HasMoved request.now files
         (checked_tree_of checked.now) T.totals T.tag taps.old.items taps.new.items made.receipts) }
 {
-    let ran = match run_script(rt, alloc, checked, files, &request.settings, taps) {
+    let ran = match run_script(rt, alloc, checked, &files, &request.settings, taps) {
         Ok(ran) => ran,
         Err(fault) => return Err(Outcome::from(fault)),
     };
+    drop(files);
     let text = match text_of_ran(rt, alloc, request, &ran) {
         Ok(text) => text,
         Err(_) => return Err(Outcome::Memory),

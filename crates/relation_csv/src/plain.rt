@@ -161,17 +161,27 @@ pub(crate) fn rows_of_lines(
     }
 }
 
-/// No rows, with room for one of each line of a text if there is memory for it. A list that grows
-/// copies what it has, and the room that it leaves lies idle while the file is read.
+/// No rows, with room for about as many as a text has lines, if there is memory for them. A list
+/// that grows copies what it has, and the room that it leaves lies idle while the file is read.
 fn no_rows(alloc: Global, schema: &Schema, text: &str) -> Rows
     ensures { result ≡ [] }
 {
-    let ends = memchr_iter(b'\n', text.as_bytes()).count();
-    let lines = ends.min(MOST_ROWS as usize - 1) + 1;
-    match Rows::with_capacity(alloc, lines as u32, schema.len()) {
+    match Rows::with_capacity(alloc, line_guess(text.as_bytes()), schema.len()) {
         Ok(rows) => rows,
         Err(Memory) => Rows::new(alloc),
     }
+}
+
+/// How many bytes at the front of a text are looked at where its lines are guessed.
+const SAMPLED: usize = 65_536;
+
+/// How many lines a text seems to have, if they are all as long as the first of them; rather too
+/// many, and never more than a relation has rows.
+fn line_guess(text: &[u8]) -> u32 {
+    let sample = &text[..text.len().min(SAMPLED)];
+    let lines = memchr_iter(b'\n', sample).count() + 1;
+    let samples = text.len() / SAMPLED + 1;
+    lines.saturating_mul(samples).min(MOST_ROWS as usize) as u32
 }
 
 /// The text from its first line on that is not empty.

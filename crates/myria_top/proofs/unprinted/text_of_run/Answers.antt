@@ -14,16 +14,16 @@ use Rattle.myria_top.proofs.unprinted.text_of_run.Goals as goal
 
 pub text_of_evaluation-requires : goal.text_of_evaluation-requires
 text_of_evaluation-requires g c =
-    c.typed_scripts_have_meaning.ensures c.args.files.now (trees_of c.args.script.now) _ c.requires.formed c.in-Ok.ensures.checked
+    c.typed_scripts_have_meaning.ensures c.args.files (trees_of c.args.script.now) _ c.requires.formed c.in-Ok.ensures.checked
 
 pub text_at_workers-requires-clause-of : goal.text_at_workers-requires-clause-of
 text_at_workers-requires-clause-of g c κs within =
-    c.steps_are_of_the_files.ensures c.args.files.now (trees_of c.args.script.now) _ c.requires.formed c.in-Ok.ensures.checked
+    c.steps_are_of_the_files.ensures c.args.files (trees_of c.args.script.now) _ c.requires.formed c.in-Ok.ensures.checked
 
 pub returns-in-Check-clause-agrees : goal.returns-in-Check-clause-agrees
 returns-in-Check-clause-agrees g c =
     let r = c.args.request.now in
-    let files = c.args.files.now in
+    let files = c.args.files in
     let script = trees_of c.args.script.now in
     let checked = checked_tree_of c.in-Ok.checked in
     let same : evaluated_verdict script files ≡ run_verdict r script files =
@@ -33,13 +33,13 @@ returns-in-Check-clause-agrees g c =
 pub returns-in-Check-clause-moved : goal.returns-in-Check-clause-moved
 returns-in-Check-clause-moved g c =
     carried-ok c.text_of_evaluation.result
-    (λ made none d is. nothing-moved c.args.request.now c.args.files.now d g.T.Tap.totals g.T.Tap.tag c.args.taps.now.items made.receipts
+    (λ made none d is. nothing-moved c.args.request.now c.args.files d g.T.Tap.totals g.T.Tap.tag c.args.taps.now.items made.receipts
     (cc) none) c.text_of_evaluation.ensures.moved
 
 pub returns-clause-agrees : goal.returns-clause-agrees
 returns-clause-agrees g c =
     let r = c.args.request.now in
-    let files = c.args.files.now in
+    let files = c.args.files in
     let script = trees_of c.args.script.now in
     let checked = checked_tree_of c.in-Ok.checked in
     let same : checked_verdict r files checked ≡ run_verdict r script files =
@@ -49,7 +49,7 @@ returns-clause-agrees g c =
 
 pub returns-clause-moved : goal.returns-clause-moved
 returns-clause-moved g c =
-    let files = c.args.files.now in
+    let files = c.args.files in
     carried-ok c.text_at_workers.result
     (λ made moved other is.
     subst (λ (d : CheckedTree). HasMoved c.args.request.now files d g.T.Tap.totals g.T.Tap.tag c.args.taps.now.items
@@ -59,4 +59,4 @@ returns-clause-moved g c =
 
 pub returns-in-Err-clause-agrees : goal.returns-in-Err-clause-agrees
 returns-in-Err-clause-agrees g c =
-    typing_refuses c.args.request.now (trees_of c.args.script.now) c.args.files.now c.in-Err.fault c.from.result c.from.ensures c.in-Err.ensures.fault
+    typing_refuses c.args.request.now (trees_of c.args.script.now) c.args.files c.in-Err.fault c.from.result c.from.ensures c.in-Err.ensures.fault
