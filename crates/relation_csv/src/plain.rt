@@ -20,7 +20,7 @@ ghost use Rattle.relation_csv.specs.inner.RecordsLeft.{records_after};
 use crate::RelFault;
 use crate::fields::{leading_number, value_of};
 use crate::int_rows::{are_ints, push_ints_of};
-use memchr::{memchr_iter, memchr2};
+use memchr::memchr2;
 use rel_base::{ColType, MOST_ROWS, Memory, Row, Rows, Schema, Value};
 use std::alloc::Global;
 use std::str;
@@ -140,7 +140,7 @@ pub(crate) fn rows_of_lines(
     ensures { IfOk result (λ found. IfSome found (λ rows.
         rows_of_records schema.now (records_after state.StartRecord text.now) ≡ Ok rows)) }
 {
-    let mut rows = no_rows(alloc, schema, text);
+    let mut rows = Rows::new(alloc);
     let mut room = RowRoom::of(alloc, schema)?;
     let mut left = text;
     'rows: loop {
@@ -159,29 +159,6 @@ pub(crate) fn rows_of_lines(
         };
         left = rest;
     }
-}
-
-/// No rows, with room for about as many as a text has lines, if there is memory for them. A list
-/// that grows copies what it has, and the room that it leaves lies idle while the file is read.
-fn no_rows(alloc: Global, schema: &Schema, text: &str) -> Rows
-    ensures { result ≡ [] }
-{
-    match Rows::with_capacity(alloc, line_guess(text.as_bytes()), schema.len()) {
-        Ok(rows) => rows,
-        Err(Memory) => Rows::new(alloc),
-    }
-}
-
-/// How many bytes at the front of a text are looked at where its lines are guessed.
-const SAMPLED: usize = 65_536;
-
-/// How many lines a text seems to have, if they are all as long as the first of them; rather too
-/// many, and never more than a relation has rows.
-fn line_guess(text: &[u8]) -> u32 {
-    let sample = &text[..text.len().min(SAMPLED)];
-    let lines = memchr_iter(b'\n', sample).count() + 1;
-    let samples = text.len() / SAMPLED + 1;
-    lines.saturating_mul(samples).min(MOST_ROWS as usize) as u32
 }
 
 /// The text from its first line on that is not empty.
