@@ -1,4 +1,5 @@
 -- Laws of what the crate promises.
 pub mod CollectLemmas
+pub mod CutLemmas
 pub mod MergeLemmas
 pub mod SortingLemmas

@@ -63,7 +63,7 @@ module _ {T : Type 0} (order : T → T → Ordering) (partial : T → T → Opti
 abbrev pub Merge : Type 0 → Type 0
 Merge T = KMergeBy (IntoIter T Global) KMergeLt Global T
 
-map_same : {X : Type 0} (xs : List X) → map (λ x. x) xs ≡ xs
+pub map_same : {X : Type 0} (xs : List X) → map (λ x. x) xs ≡ xs
 map_same [] = refl
 map_same (x ∷ xs) = ap (λ ys. x ∷ ys) (map_same xs)
 

@@ -1,7 +1,11 @@
 -- What compares by keys of rows, and what was compared each with the next.
-use Rattle.std.proofs.Common.{◌≡◌, ◌∙◌, ◌+◌, ◌<◌, List, length, All, Some, true, false, refl, ap, arith, is_lt}
+use Rattle.std.proofs.Common.{◌≡◌, ◌∙◌, ◌+◌, ◌<◌, List, get_or, length, All, Some, true, false, refl, sym, ap, subst, arith, is_lt}
 use Rattle.std.specs.Borrow.{Bor}
 use Rattle.std.specs.List.{AllAdjacentBelow}
+use Rattle.std.specs.Iterator.{YieldsFirstRef}
+use Rattle.std.specs.Iterator.Runs.{Run, YieldsRun}
+use Rattle.std.proofs.lemmas.Iterator.{items_from_drains}
+use Rattle.std.proofs.lemmas.Iterator.Consumers.{YieldsList-from_first}
 use Rattle.std.proofs.lemmas.List.{get_or-map, length-map}
 use Rattle.std.specs.Prelude.{IsSorted}
 use Rattle.std.specs.declared.cmp.Ordering.{Ordering}
@@ -13,7 +17,7 @@ use Rattle.rel_base.specs.declared.values.Value.{Value}
 use Rattle.rel_base.specs.Values.{value_order, row_order}
 use Rattle.rel_base.specs.ValueLaws.{row_order_total}
 use Rattle.rel_base.specs.Beginnings.{leading_rank, leading_number, leading_bytes}
-use Rattle.rel_base.proofs.SortLemmas.{not_less-row}
+use Rattle.rel_base.proofs.SortLemmas.{IsSortedBy-part, not_less-row}
 use Rattle.collector.specs.inner.Sorted.{rows_at, reference_order}
 
 then_Equal : (first : Ordering) → ordering_then first Equal ≡ first
@@ -60,3 +64,25 @@ in_order_as_rows rows sorted k d low high =
 -- references are ordered as their rows are
 pub ordered_references : IsTotalOrder reference_order
 ordered_references = on_total (λ (row : Bor (List Value)). row.now) row_order_total
+
+-- and rows whose references are in order are so
+pub rows_in_order : (rows : List (Bor (List Value))) → IsSorted reference_order rows → IsSorted row_order (rows_at rows)
+rows_in_order rows sorted =
+    IsSortedBy-part (λ (row : Bor (List Value)). Unit {0}) (λ row. row.now) (λ r s. is_lt (row_order r s))
+    (λ p q. is_lt (reference_order p q)) (λ p q one other less. less) rows (λ k d low. tt) sorted
+
+-- a whole run over rows gives references to them
+pub rows_of_run : (rows : List (List Value)) (p : Run (YieldsFirstRef (λ (left : List (List Value)). left))) → p.whole ≡ true → p.from ≡ rows
+    → rows_at p.items ≡ rows
+unfolding YieldsRun
+rows_of_run rows p whole from =
+    let d = p.gave.0 in
+    items_from_drains p.items (d.0, d.1, λ _. d.2 whole) (YieldsList-from_first (λ (x : Bor (List Value)). x.now) (λ (left : List (List Value)). left) rows from)
+
+-- rows of which each is at most the next are in order
+pub in_order_by_run : (rows : List (List Value)) (references : List (Bor (List Value))) → rows_at references ≡ rows
+    → AllAdjacentBelow (λ r s. is_some_and is_le (slice_partial_cmp (as_partial_cmp value_order) r.now s.now) ≡ true) references (length references)
+    → IsSorted row_order rows
+in_order_by_run rows references same next =
+    subst (IsSorted row_order) same (rows_in_order references (in_order_by_neighbours reference_order ordered_references references
+    (λ k d high. sym (at_most_as_rows (get_or references k d).now (get_or references (k + 1) d).now) ∙ next k d high)))

@@ -1,2 +1,4 @@
+pub mod Cuts
+pub mod Jobs
 pub mod Merged
 pub mod Sorted

@@ -1,33 +1,73 @@
 //! The rows of all parts in ascending order.
-ghost use Rattle.std.specs.Prelude.{◌≡◌, map, IfOk, Ok};
+ghost use Rattle.std.specs.Prelude.{◌≡◌, map, length, IfOk, Ok};
 ghost use Rattle.crew.specs.Jobs.{EachHasRun};
 ghost use Rattle.rel_base.specs.Bags.{sorted};
 ghost use Rattle.rel_base.specs.Picks.{joined};
-ghost use Rattle.collector.specs.inner.Sorted.{HasSorted};
+ghost use Rattle.collector.specs.inner.Jobs.{HasSorted};
 
-use crate::merging::merge;
+use crate::parts::SortedPart;
+use crate::ranges::{RowRange, ranges_of};
 use crate::sorting::Sorting;
 use crew::run_all;
-use rel_base::{Memory, Rows, Spread, Value};
+use rel_base::{Memory, Rows, Spread};
 use std::alloc::Global;
+use std::marker::Model;
 use std::sync::Wait;
 use std::thread::Threads;
 
-/// The rows of all parts in ascending order, each where its part has it. The parts are sorted side
-/// by side, in a job each, and then merged; no row is copied, and a part that is in order already
-/// is only checked. It may wait as long as its jobs do.
-pub fn collect<'a, R: Threads + Wait + Sync>(
+/// The rows of all parts. Contracts see the list of these rows, in ascending order.
+#[derive(Drop)]
+pub struct SortedRows<'a> {
+    parts: Vec<SortedPart<'a>>,
+}
+
+impl<'a> Model for SortedRows<'a> {
+    ghost use Rattle.std.specs.Prelude.{List, ◌<◌, ◌^◌, length};
+    ghost use Rattle.rel_base.specs.declared.values.Value.{Value as Datum};
+    ghost use Rattle.rel_base.specs.Bags.{sorted};
+    ghost use Rattle.rel_base.specs.Picks.{joined};
+
+    ghost Value = { List (List Datum) };
+
+    ghost view = { λ r. sorted (joined r.parts.items) };
+
+    ghost invariant = { λ r. length r.parts.items < 2 ^ 32 };
+}
+
+impl<'a> SortedRows<'a> {
+    /// The number of rows.
+    pub fn len(&self) -> usize
+        ensures { result ≡ length self.now }
+    {
+        let mut rows = 0;
+        for part in &self.parts {
+            rows += part.len() as usize;
+        }
+        rows
+    }
+
+    /// The rows, cut into ranges of some ten thousand that follow one another, at least one. No row
+    /// is copied, and the ranges are merged only where they are asked for their rows.
+    pub fn ranges(&self, alloc: Global) -> Result<Vec<RowRange<'_, 'a>>, Memory>
+        ensures { IfOk result (λ ranges. joined ranges.items ≡ self.now) }
+    {
+        ranges_of(alloc, self.parts.as_slice())
+    }
+}
+
+/// Sorts the rows of all parts, side by side, in a job for each part. No row is copied, and a part
+/// that is in order already is only checked. It may wait as long as its jobs do.
+pub fn sort_parts<'a, R: Threads + Wait + Sync>(
     rt: &R,
     alloc: Global,
     parts: &'a Spread,
-) -> Result<Vec<&'a [Value]>, Memory>
-    ensures { IfOk result (λ rows. map (λ row. row.now) rows.items ≡ sorted (joined parts.now)) }
+) -> Result<SortedRows<'a>, Memory>
+    ensures { IfOk result (λ rows. rows ≡ sorted (joined parts.entry.now)) }
 {
     let mut jobs = jobs_of(alloc, parts.as_slice())?;
     run_jobs(rt, &mut jobs);
-    let lists = sorted_lists(alloc, jobs)?;
-    let rows = merge(alloc, lists)?;
-    Ok(rows)
+    let parts = sorted_by_jobs(alloc, jobs)?;
+    Ok(SortedRows { parts })
 }
 
 /// A sorting job for each part.
@@ -36,11 +76,10 @@ fn jobs_of<'a>(alloc: Global, parts: &'a [Rows]) -> Result<Vec<Sorting<'a>>, Mem
 {
     let mut jobs = Vec::with_capacity(alloc, parts.len())?;
     for part in parts {
-        let sorted = Ok(Vec::new(alloc));
         jobs.push(Sorting {
             alloc,
             part,
-            sorted,
+            sorted: Err(Memory),
         })?;
     }
     Ok(jobs)
@@ -54,13 +93,13 @@ fn run_jobs<R: Threads + Wait + Sync>(rt: &R, jobs: &mut Vec<Sorting<'_>>)
 }
 
 /// What the jobs sorted, where there was memory for each.
-fn sorted_lists<'a>(alloc: Global, jobs: Vec<Sorting<'a>>) -> Result<Vec<Vec<&'a [Value]>>, Memory>
-    ensures { IfOk result (λ lists. map Ok lists.items ≡ map (λ job. job.sorted) jobs.entry.items) }
+fn sorted_by_jobs<'a>(alloc: Global, jobs: Vec<Sorting<'a>>) -> Result<Vec<SortedPart<'a>>, Memory>
+    ensures { IfOk result (λ parts. map Ok parts.items ≡ map (λ job. job.sorted) jobs.entry.items) }
 {
-    let mut lists = Vec::with_capacity(alloc, jobs.len())?;
+    let mut parts = Vec::with_capacity(alloc, jobs.len())?;
     for job in jobs {
         let Sorting { sorted, .. } = job;
-        lists.push(sorted?)?;
+        parts.push(sorted?)?;
     }
-    Ok(lists)
+    Ok(parts)
 }

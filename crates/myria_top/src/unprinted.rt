@@ -161,7 +161,7 @@ fn text_of_ran<R: Threads + Wait + Sync>(
     match request.mode {
         Mode::Explain => text.add_plan(&ran.plan)?,
         Mode::Trial => {
-            text.add_trial(rt, alloc, request.size, &ran.stored)?;
+            text.add_trial(alloc, request.size, &ran.stored)?;
             add_notes(&mut text, request, ran)?;
         }
         Mode::Run | Mode::Check => {

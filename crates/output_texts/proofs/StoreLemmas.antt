@@ -81,26 +81,22 @@ stores-trial n size stored placed are all = trial_text-same size _ _ (stores-row
 
 -- ---- what was written of a store
 
-pub store_text : (store : SpreadStore) (rows given : List (Bor (List Value))) (count : ℕ) (before lined headed text : List ℕ)
-    → map (λ row. row.now) rows ≡ sorted (joined store.parts) → given ≡ rows → count ≡ length rows
+-- the text of a store: its line, its header, and the ranges of its rows
+pub store_text : (store : SpreadStore) (rows : List (List Value)) (ranges : List (List (List Value))) (count : ℕ) (before lined headed text : List ℕ)
+    → rows ≡ sorted (joined store.parts) → joined ranges ≡ rows → count ≡ length rows
     → lined ≡ before ++ store_line store.key count
-    → headed ≡ lined ++ header_record store.schema → text ≡ headed ++ flat_map (λ row. row_record row.now) given
+    → headed ≡ lined ++ header_record store.schema → text ≡ headed ++ flat_map row_record (joined ranges)
     → text ≡ before ++ relation_text (whole_store store)
-store_text store rows given count before lined headed text collected whole counted line_of_count header written_given =
+store_text store rows ranges count before lined headed text in_order cut counted line header written =
     let all = joined store.parts in
-    let line : lined ≡ before ++ store_line store.key (length rows) =
-    line_of_count ∙ (λ i. before ++ store_line store.key (counted i)) in
-    let written : text ≡ headed ++ flat_map (λ row. row_record row.now) rows =
-    written_given ∙ ap (λ (rs : List (Bor (List Value))). headed ++ flat_map (λ row. row_record row.now) rs) whole in
-    let long : length rows ≡ length all =
-    sym (length-map rows (λ row. row.now)) ∙ ap length collected ∙ length_permutation all (sorted all) (IsPermutation-sorted_by row_order all) in
-    let records : flat_map (λ row. row_record row.now) rows ≡ flat_map row_record (sorted all) =
-    sym (flat_map-map row_record (λ row. row.now) rows) ∙ ap (flat_map row_record) collected in
-    let pieces : text ≡ ((before ++ store_line store.key (length rows)) ++ header_record store.schema) ++ flat_map (λ row. row_record row.now) rows =
-    written ∙ ap (λ (t : List ℕ). t ++ flat_map (λ row. row_record row.now) rows) (header ∙ ap (λ (t : List ℕ). t ++ header_record store.schema) line) in
-    let line_of_all = store_line store.key (length rows) in
+    let long : count ≡ length all =
+    counted ∙ ap length in_order ∙ length_permutation all (sorted all) (IsPermutation-sorted_by row_order all) in
+    let records : flat_map row_record (joined ranges) ≡ flat_map row_record (sorted all) = ap (flat_map row_record) (cut ∙ in_order) in
+    let line_of_all = store_line store.key (length all) in
     let header_of_all = header_record store.schema in
-    let records_of_all = flat_map (λ row. row_record row.now) rows in
-    pieces ∙ ap (λ (t : List ℕ). t ++ records_of_all) (append_assoc before line_of_all header_of_all)
+    let records_of_all = flat_map row_record (sorted all) in
+    let known : headed ≡ (before ++ line_of_all) ++ header_of_all =
+    header ∙ ap (λ (t : List ℕ). t ++ header_of_all) (line ∙ ap (λ n. before ++ store_line store.key n) long) in
+    written ∙ ap (λ (t : List ℕ). headed ++ t) records ∙ ap (λ (t : List ℕ). t ++ records_of_all) known
+    ∙ ap (λ (t : List ℕ). t ++ records_of_all) (append_assoc before line_of_all header_of_all)
     ∙ append_assoc before (line_of_all ++ header_of_all) records_of_all
-    ∙ (λ i. before ++ ((store_line store.key (long i) ++ header_record store.schema) ++ records i))

@@ -116,27 +116,22 @@ different-counted same ties rows ascending kept moved sorted filtered =
     length_permutation (distinct (rows_of rows)) (distinct (rows_of ascending)) (distinct-same (rows_of rows) (rows_of ascending) (IsPermutation-map now rows ascending moved)) in
     ap length is ∙ sym (length-map (dedup same ascending) now) ∙ ap length all ∙ long
 
--- ---- the rows of one store more
+-- ---- one list of rows more
 
-pub collected-more : (stores : List SpreadStore) (i : ℕ) (store : SpreadStore) → i < length stores → store ≡ get_or stores i store
-    → (all rows both : List (Bor Row)) → SameBag (all_rows (map whole_store (take i stores))) (rows_of all)
-    → rows_of rows ≡ sorted (joined store.parts) → both ≡ all ++ rows
-    → SameBag (all_rows (map whole_store (take (i + 1) stores))) (rows_of both)
-collected-more stores i store h is all rows both so_far collected put =
-    let of_store = λ (s : SpreadStore). joined s.parts in
-    let here : all_rows (map whole_store (take i stores)) ≡ flat_map of_store (take i stores) =
-    flat_map-map (λ (file : File). file.1.rows) whole_store (take i stores) in
-    let one_more : take (i + 1) stores ≡ take i stores ++ store ∷ [] =
-    (rw add-one (take-suc stores i store h)) ∙ ap (λ (s : SpreadStore). take i stores ++ s ∷ []) (sym is) in
-    let next : all_rows (map whole_store (take (i + 1) stores)) ≡ all_rows (map whole_store (take i stores)) ++ joined store.parts =
-    flat_map-map (λ (file : File). file.1.rows) whole_store (take (i + 1) stores) ∙ ap (flat_map of_store) one_more
-    ∙ flat_map-append of_store (take i stores) (store ∷ []) ∙ ap (λ (rest : Rows). flat_map of_store (take i stores) ++ rest) (append-nil (joined store.parts))
-    ∙ ap (λ (front : Rows). front ++ joined store.parts) (sym here) in
-    let last : rows_of both ≡ rows_of all ++ sorted (joined store.parts) =
-    ap rows_of put ∙ map-append (λ (row : Bor Row). row.now) all rows ∙ ap (λ (rest : Rows). rows_of all ++ rest) collected in
-    let bags : SameBag (all_rows (map whole_store (take i stores)) ++ joined store.parts) (rows_of all ++ sorted (joined store.parts)) =
-    IsPermutation-append _ _ _ _ so_far (IsPermutation-sorted_by row_order (joined store.parts)) in
-    subst (λ (rows : Rows). SameBag rows (rows_of both)) (sym next) (subst (SameBag _) (sym last) bags)
+-- references to rows, and to those of one more list
+pub rows-more : {X : Type 0} (rows_in : X → Rows) (before : Rows) (so_far all : List (Bor Row)) (xs : List X) (i : ℕ) (x : X) → i < length xs
+    → x ≡ get_or xs i x → rows_of so_far ≡ before ++ flat_map rows_in (take i xs) → rows_of all ≡ rows_of so_far ++ rows_in x
+    → rows_of all ≡ before ++ flat_map rows_in (take (i + 1) xs)
+rows-more rows_in before so_far all xs i x low is known added =
+    let one_more : flat_map rows_in (take (i + 1) xs) ≡ flat_map rows_in (take i xs) ++ rows_in x =
+    ap (flat_map rows_in) ((rw add-one (take-suc xs i x low)) ∙ ap (λ y. take i xs ++ y ∷ []) (sym is))
+    ∙ flat_map-append rows_in (take i xs) (x ∷ []) ∙ ap (λ (rest : Rows). flat_map rows_in (take i xs) ++ rest) (append-nil (rows_in x)) in
+    added ∙ ap (λ (rows : Rows). rows ++ rows_in x) known ∙ append_assoc before (flat_map rows_in (take i xs)) (rows_in x)
+    ∙ ap (λ (rows : Rows). before ++ rows) (sym one_more)
+
+-- the rows of all stores, as files
+pub rows_of_stores : (stores : List SpreadStore) → all_rows (map whole_store stores) ≡ flat_map (λ store. joined store.parts) stores
+rows_of_stores stores = flat_map-map (λ (file : File). file.1.rows) whole_store stores
 
 -- ---- the numbers of a trial
 

@@ -1,9 +1,11 @@
 //! A part of a text, and the pieces in which it is offered.
 ghost use Rattle.std.specs.Prelude.{◌≡◌, ◌++◌, ◌≤◌, [], All, IfOk, OnOk, length};
 ghost use Rattle.std.specs.List.{flat_map};
+ghost use Rattle.rel_base.specs.Picks.{joined};
 ghost use Rattle.rel_io.specs.Sinks.{Offers, written_of};
 
 use algebra::{PlanNotes, TrafficNotes};
+use collector::RowRange;
 use plan_printer::{print_plan, print_traffic};
 use rel_base::{Key, Memory, Relation, Schema, Value};
 use rel_io::{Sink, SinkFault, offer};
@@ -46,12 +48,16 @@ impl Block {
         }
     }
 
-    /// The text of rows as they stand, each a piece.
-    pub(crate) fn of_rows(alloc: Global, rows: &[&[Value]]) -> Result<Block, Memory>
-        ensures { IfOk result (λ block. block ≡ flat_map (λ row. row_record row.now) rows.now) }
+    /// The text of ranges of rows, each row a piece. They have about so many rows.
+    pub(crate) fn of_ranges(
+        alloc: Global,
+        ranges: &[RowRange<'_, '_>],
+        rows: usize,
+    ) -> Result<Block, Memory>
+        ensures { IfOk result (λ block. block ≡ flat_map row_record (joined ranges.now)) }
     {
         let mut block = Block::new(alloc);
-        block.add_rows(rows)?;
+        block.add_ranges(alloc, ranges, rows)?;
         Ok(block)
     }
 
@@ -142,12 +148,35 @@ impl Block {
         self.cut(start)
     }
 
+    /// Adds ranges of rows, each row a piece. They have about so many rows.
+    pub(crate) fn add_ranges(
+        &mut self,
+        alloc: Global,
+        ranges: &[RowRange<'_, '_>],
+        rows: usize,
+    ) -> Result<(), Memory>
+        ensures { OnOk result (self.new ≡ self.old ++ flat_map row_record (joined ranges.now)) }
+    {
+        self.make_room(rows)?;
+        for range in ranges {
+            self.add_range(alloc, range)?;
+        }
+        Ok(())
+    }
+
+    /// Adds the rows of a range, each a piece.
+    fn add_range(&mut self, alloc: Global, range: &RowRange<'_, '_>) -> Result<(), Memory>
+        ensures { OnOk result (self.new ≡ self.old ++ flat_map row_record range.now) }
+    {
+        let rows = range.rows(alloc)?;
+        self.add_rows(&rows)
+    }
+
     /// Adds rows as they stand, each a piece.
-    pub(crate) fn add_rows(&mut self, rows: &[&[Value]]) -> Result<(), Memory>
+    fn add_rows(&mut self, rows: &[&[Value]]) -> Result<(), Memory>
         ensures { OnOk result
             (self.new ≡ self.old ++ flat_map (λ row. row_record row.now) rows.now) }
     {
-        self.make_room(rows.len())?;
         for row in rows {
             self.add_row(row)?;
         }

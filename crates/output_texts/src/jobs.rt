@@ -7,7 +7,8 @@ ghost use Rattle.relation_csv.specs.RecordTexts.{row_record};
 ghost use Rattle.output_texts.specs.inner.Ranges.{IsTextOf};
 
 use crate::blocks::Block;
-use rel_base::{Memory, Value};
+use collector::RowRange;
+use rel_base::Memory;
 use std::alloc::Global;
 use std::thread::{Threads, map_chunks};
 
@@ -22,40 +23,43 @@ pub(crate) fn jobs_for(rows: usize, most: usize) -> usize
     (rows / LEAST_ROWS).min(most).max(1)
 }
 
-/// The text of rows as they stand, in blocks that so many jobs make, each of a range of the rows.
-pub(crate) fn blocks_of_rows<R: Threads + Sync>(
+/// The text of ranges of rows, in blocks that so many jobs make, each of some ranges that follow one
+/// another. All have about so many rows.
+pub(crate) fn blocks_of_ranges<R: Threads + Sync>(
     rt: &R,
     alloc: Global,
-    rows: &[&[Value]],
+    ranges: &[RowRange<'_, '_>],
+    rows: usize,
     jobs: usize,
 ) -> Result<Vec<Block>, Memory>
     requires { 0 < jobs }
-    ensures { IfOk result (λ blocks.
-        joined blocks.items ≡ flat_map (λ row. row_record row.now) rows.now) }
+    ensures { IfOk result (λ blocks. joined blocks.items ≡ flat_map row_record (joined ranges.now)) }
 {
-    let size = rows.len().div_ceil(jobs).max(1);
-    let parts = blocks_of_ranges(rt, alloc, rows, size)?;
+    let size = ranges.len().div_ceil(jobs).max(1);
+    let parts = blocks_of_chunks(rt, alloc, ranges, rows / jobs, size)?;
     all_made(alloc, parts)
 }
 
-/// The text of each range of so many rows, made in a job; the last range may be shorter.
-fn blocks_of_ranges<R: Threads + Sync>(
+/// The text of each so many ranges, of about so many rows, made in a job; the last ones may be
+/// fewer.
+fn blocks_of_chunks<R: Threads + Sync>(
     rt: &R,
     alloc: Global,
-    rows: &[&[Value]],
+    ranges: &[RowRange<'_, '_>],
+    rows: usize,
     size: usize,
 ) -> Result<Vec<Result<Block, Memory>>, Memory>
     requires { 0 < size }
-    ensures all { IfOk result (λ parts. length rows.now ≤ length parts.items * size) }
+    ensures all { IfOk result (λ parts. length ranges.now ≤ length parts.items * size) }
     ensures each { IfOk result (λ parts. (n : ℕ) (e : _) → n < length parts.items
-        → IsTextOf (slice_chunk rows.now size n) (slice_index_or parts.items n e)) }
+        → IsTextOf (slice_chunk ranges.now size n) (slice_index_or parts.items n e)) }
 {
     let parts = map_chunks(
         rt,
         alloc,
-        rows,
+        ranges,
         size,
-        &|_, range: &[&[Value]]| Block::of_rows(alloc, range),
+        &|_, chunk: &[RowRange<'_, '_>]| Block::of_ranges(alloc, chunk, rows),
     )?;
     Ok(parts)
 }

@@ -6,11 +6,11 @@ ghost use Rattle.rel_io.specs.Sinks.{Offers, written_of};
 
 use crate::blocks::Block;
 use crate::counting::{number_of_different, rows_of_all};
-use crate::jobs::{blocks_of_rows, jobs_for};
+use crate::jobs::{blocks_of_ranges, jobs_for};
 use algebra::{PlanNotes, TrafficNotes};
-use collector::collect;
+use collector::{RowRange, sort_parts};
 use engine::{SpreadStore, SpreadStores};
-use rel_base::{Key, Memory, Relation, Schema, Stored, Value};
+use rel_base::{Key, Memory, Relation, Schema, Stored};
 use rel_io::{Sink, SinkFault};
 use std::alloc::Global;
 use std::marker::Model;
@@ -102,10 +102,9 @@ impl Pieces {
     }
 
     /// Adds the text of a trial of this size: the numbers of rows and of different rows among all
-    /// that is stored at workers, a piece for each line. It may wait as long as its threads do.
-    pub fn add_trial<R: Threads + Wait + Sync>(
+    /// that is stored at workers, a piece for each line.
+    pub fn add_trial(
         &mut self,
-        rt: &R,
         alloc: Global,
         size: u32,
         stored: &SpreadStores,
@@ -113,7 +112,7 @@ impl Pieces {
         ensures { OnOk result
             (self.new ≡ self.old ++ trial_text size (all_rows (map whole_store stored.now))) }
     {
-        let rows = rows_of_all(rt, alloc, stored)?;
+        let rows = rows_of_all(alloc, stored)?;
         let count = rows.len();
         let different = number_of_different(rows);
         self.add_counts(alloc, size, count, different)
@@ -142,11 +141,13 @@ impl Pieces {
     ) -> Result<(), Memory>
         ensures { OnOk result (self.new ≡ self.old ++ relation_text (whole_store store.now)) }
     {
-        let rows = collect(rt, alloc, &store.parts)?;
-        self.add_store_line(alloc, &store.key, rows.len())?;
+        let sorted = sort_parts(rt, alloc, &store.parts)?;
+        let rows = sorted.len();
+        self.add_store_line(alloc, &store.key, rows)?;
         self.add_header(&store.schema)?;
-        let jobs = jobs_for(rows.len(), store.parts.as_slice().len());
-        self.add_rows(rt, alloc, &rows, jobs)
+        let ranges = sorted.ranges(alloc)?;
+        let jobs = jobs_for(rows, store.parts.as_slice().len());
+        self.add_ranges(rt, alloc, &ranges, rows, jobs)
     }
 
     /// Adds the text of a relation under a key, its rows as they stand.
@@ -170,21 +171,22 @@ impl Pieces {
         self.last.add_header(schema)
     }
 
-    /// Adds rows as they stand, each a piece. So many jobs make their text.
-    fn add_rows<R: Threads + Sync>(
+    /// Adds ranges of rows, each row a piece. They have about so many rows, and so many jobs make
+    /// their text.
+    fn add_ranges<R: Threads + Sync>(
         &mut self,
         rt: &R,
         alloc: Global,
-        rows: &[&[Value]],
+        ranges: &[RowRange<'_, '_>],
+        rows: usize,
         jobs: usize,
     ) -> Result<(), Memory>
-        ensures { OnOk result
-            (self.new ≡ self.old ++ flat_map (λ row. row_record row.now) rows.now) }
+        ensures { OnOk result (self.new ≡ self.old ++ flat_map row_record (joined ranges.now)) }
     {
         if jobs <= 1 {
-            return self.last.add_rows(rows);
+            return self.last.add_ranges(alloc, ranges, rows);
         }
-        let blocks = blocks_of_rows(rt, alloc, rows, jobs)?;
+        let blocks = blocks_of_ranges(rt, alloc, ranges, rows, jobs)?;
         self.add_blocks(alloc, blocks)
     }
 

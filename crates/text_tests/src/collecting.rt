@@ -1,5 +1,5 @@
 //! Parts that are in order, out of order and empty, as strings and numbers.
-use collector::collect;
+use collector::sort_parts;
 use rel_base::{Memory, Row, Rows, Spread, Text, Value};
 use std::alloc::Global;
 use std::test::Fail;
@@ -37,14 +37,24 @@ fn number_of(row: &[Value]) -> Option<i64> {
     }
 }
 
+/// The numbers of the rows of all parts, in the order of their rows, range after range.
+fn numbers_in_order(rt: HostRuntime, parts: &Spread) -> Result<Vec<i64>, Fail> {
+    let sorted = sort_parts(&rt, rt.alloc(), parts)?;
+    let mut numbers = Vec::new(rt.alloc());
+    for range in &sorted.ranges(rt.alloc())? {
+        for row in &range.rows(rt.alloc())? {
+            numbers.extend(number_of(row))?;
+        }
+    }
+    assert_eq!(rt; numbers.len(), sorted.len());
+    Ok(numbers)
+}
+
 #[test]
 fn parts_are_merged(rt: HostRuntime) -> Result<(), Fail> {
     let parts = three_parts(rt.alloc())?;
-    let rows = collect(&rt, rt.alloc(), &parts)?;
-    assert_eq!(rt; rows.len(), 4);
-    for (row, wanted) in rows.iter().zip([2, 9, 1, 0]) {
-        assert_eq!(rt; number_of(row), Some(wanted));
-    }
+    let numbers = numbers_in_order(rt, &parts)?;
+    assert_eq!(rt; numbers.as_slice(), &[2, 9, 1, 0]);
     Ok(())
 }
 
@@ -52,10 +62,34 @@ fn parts_are_merged(rt: HostRuntime) -> Result<(), Fail> {
 fn lone_part_is_sorted(rt: HostRuntime) -> Result<(), Fail> {
     let mut parts = Spread::new(rt.alloc());
     parts.push(part_of(rt.alloc(), ("pear", 1), ("apple", 9))?)?;
-    let rows = collect(&rt, rt.alloc(), &parts)?;
-    assert_eq!(rt; rows.len(), 2);
-    for (row, wanted) in rows.iter().zip([9, 1]) {
-        assert_eq!(rt; number_of(row), Some(wanted));
+    let numbers = numbers_in_order(rt, &parts)?;
+    assert_eq!(rt; numbers.as_slice(), &[9, 1]);
+    Ok(())
+}
+
+/// Every third number from the first on, so many of them.
+fn every_third(alloc: Global, first: i64, count: i64) -> Result<Rows, Memory> {
+    let mut rows = Rows::new(alloc);
+    for i in 0..count {
+        let mut row = Row::new(alloc);
+        row.push(Value::Int(first + 3 * i))?;
+        rows.push(row)?;
+    }
+    Ok(rows)
+}
+
+#[test]
+fn ranges_follow_one_another(rt: HostRuntime) -> Result<(), Fail> {
+    let mut parts = Spread::new(rt.alloc());
+    for first in [2, 0, 1] {
+        parts.push(every_third(rt.alloc(), first, 20_000)?)?;
+    }
+    let sorted = sort_parts(&rt, rt.alloc(), &parts)?;
+    assert!(rt; sorted.ranges(rt.alloc())?.len() > 1);
+    let numbers = numbers_in_order(rt, &parts)?;
+    assert_eq!(rt; numbers.len(), 60_000);
+    for (place, number) in numbers.iter().enumerate() {
+        assert_eq!(rt; *number, place as i64);
     }
     Ok(())
 }

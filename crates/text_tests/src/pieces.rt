@@ -174,7 +174,7 @@ fn many_rows_are_cut_as_few_are(rt: HostRuntime) -> Result<(), Memory> {
     let stored = numbers_dealt_to_three(rt.alloc(), 12_500)?;
     let mut text = Pieces::new(rt.alloc());
     text.add_stored(&rt, rt.alloc(), &stored)?;
-    text.add_trial(&rt, rt.alloc(), 9, &stored)?;
+    text.add_trial(rt.alloc(), 9, &stored)?;
     let lines = lines_of_numbers(rt.alloc(), 12_500)?;
     let mut wanted = Vec::new(rt.alloc());
     for line in &lines {
@@ -240,7 +240,7 @@ fn traffic_is_cut_at_its_lines(rt: HostRuntime) -> Result<(), Memory> {
 fn trials_are_counted(rt: HostRuntime) -> Result<(), Memory> {
     let stored = stored_at_two(rt.alloc())?;
     let mut text = Pieces::new(rt.alloc());
-    text.add_trial(&rt, rt.alloc(), 9, &stored)?;
+    text.add_trial(rt.alloc(), 9, &stored)?;
     let wanted = &["-- trial size 9\n", "-- rows 4\n", "-- distinct 3\n"];
     assert!(rt; is_cut_so(&text, wanted));
     Ok(())

@@ -1,5 +1,0 @@
-use Rattle.std.proofs.Common.{◌≡◌, map, Ok}
-use Rattle.collector.proofs.collecting.sorted_lists.Given as goal
-
-abbrev pub invariant-loop-job : goal.invariant-loop-job
-invariant-loop-job l = map Ok l.lists.items ≡ map (λ job. job.sorted) l.yielded
