@@ -11,6 +11,6 @@ carried (Err why) f h = tt
 pub returns : goal.returns
 returns g c =
     carried c.add_ranges.result
-    (λ written. store_text c.args.store.now c.in_ok-sorted.sorted c.in_ok-ranges.ranges.items c.len-rows.result
-    c.args.self.now c.add_store_line.new.self c.add_header.new.self c.add_ranges.new.self c.in_ok-sorted.ensures c.in_ok-ranges.ensures
+    (λ written. store_text c.args.store.now c.in_ok-sorted.sorted c.deref.result.now c.len-rows.result
+    c.args.self.now c.add_store_line.new.self c.add_header.new.self c.add_ranges.new.self c.in_ok-sorted.ensures (ap joined c.deref.ensures.value ∙ c.in_ok-ranges.ensures)
     c.len-rows.ensures c.in_ok-add_store_line.ensures c.in_ok-add_header.ensures written) c.add_ranges.ensures
