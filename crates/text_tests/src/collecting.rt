@@ -2,7 +2,9 @@
 use collector::sort_parts;
 use rel_base::{Memory, Row, Rows, Spread, Text, Value};
 use std::alloc::Global;
+use std::sync::Wait;
 use std::test::Fail;
+use std::thread::Threads;
 
 /// A row of a string and a number.
 fn row_of(alloc: Global, name: &str, number: i64) -> Result<Row, Memory> {
@@ -38,23 +40,28 @@ fn number_of(row: &[Value]) -> Option<i64> {
 }
 
 /// The numbers of the rows of all parts, in the order of their rows, range after range.
-fn numbers_in_order(rt: HostRuntime, parts: &Spread) -> Result<Vec<i64>, Fail> {
-    let sorted = sort_parts(&rt, rt.alloc(), parts)?;
-    let mut numbers = Vec::new(rt.alloc());
-    for range in &sorted.ranges(rt.alloc())? {
-        for row in &range.rows(rt.alloc())? {
-            numbers.extend(number_of(row))?;
+fn numbers_in_order<R: Threads + Wait + Sync>(
+    rt: &R,
+    alloc: Global,
+    parts: &Spread,
+) -> Result<Vec<i64>, Memory> {
+    let sorted = sort_parts(rt, alloc, parts)?;
+    let mut numbers = Vec::with_capacity(alloc, sorted.len())?;
+    for range in &sorted.ranges(alloc)? {
+        for row in &range.rows(alloc)? {
+            if let Some(number) = number_of(row) {
+                numbers.push(number)?;
+            }
         }
     }
-    assert_eq!(rt; numbers.len(), sorted.len());
     Ok(numbers)
 }
 
 #[test]
 fn parts_are_merged(rt: HostRuntime) -> Result<(), Fail> {
     let parts = three_parts(rt.alloc())?;
-    let numbers = numbers_in_order(rt, &parts)?;
-    assert_eq!(rt; numbers.as_slice(), &[2, 9, 1, 0]);
+    let numbers = numbers_in_order(&rt, rt.alloc(), &parts)?;
+    assert_eq!(rt; numbers.as_slice(), [2, 9, 1, 0].as_slice());
     Ok(())
 }
 
@@ -62,8 +69,8 @@ fn parts_are_merged(rt: HostRuntime) -> Result<(), Fail> {
 fn lone_part_is_sorted(rt: HostRuntime) -> Result<(), Fail> {
     let mut parts = Spread::new(rt.alloc());
     parts.push(part_of(rt.alloc(), ("pear", 1), ("apple", 9))?)?;
-    let numbers = numbers_in_order(rt, &parts)?;
-    assert_eq!(rt; numbers.as_slice(), &[9, 1]);
+    let numbers = numbers_in_order(&rt, rt.alloc(), &parts)?;
+    assert_eq!(rt; numbers.as_slice(), [9, 1].as_slice());
     Ok(())
 }
 
@@ -86,7 +93,8 @@ fn ranges_follow_one_another(rt: HostRuntime) -> Result<(), Fail> {
     }
     let sorted = sort_parts(&rt, rt.alloc(), &parts)?;
     assert!(rt; sorted.ranges(rt.alloc())?.len() > 1);
-    let numbers = numbers_in_order(rt, &parts)?;
+    let numbers = numbers_in_order(&rt, rt.alloc(), &parts)?;
+    assert_eq!(rt; sorted.len(), 60_000);
     assert_eq!(rt; numbers.len(), 60_000);
     for (place, number) in numbers.iter().enumerate() {
         assert_eq!(rt; *number, place as i64);
