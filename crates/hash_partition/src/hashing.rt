@@ -29,7 +29,28 @@ pub fn coord(seed: u64, dim: u32, code: u64, share: u32) -> u32
     let multiplier = 1 + own_seed.wrapping_mul(MULTIPLIER_FACTOR) % (Value::CODES - 1);
     let offset = own_seed.wrapping_mul(OFFSET_FACTOR) % Value::CODES;
     let hash = remainder(u128::from(multiplier) * u128::from(code) + u128::from(offset));
-    (hash % u64::from(share)) as u32
+    part_of(hash, share)
+}
+
+/// The remainder of a hash by a share.
+///
+/// A division takes as long as all the rest of a coordinate. Shares are mostly the powers of two up
+/// to the number of workers, of which each has a branch without one.
+fn part_of(hash: u64, share: u32) -> u32
+    requires { 1 ≤ share }
+    ensures { result ≡ hash % share }
+{
+    let part = match share {
+        1 => 0,
+        2 => hash % 2,
+        4 => hash % 4,
+        8 => hash % 8,
+        16 => hash % 16,
+        32 => hash % 32,
+        64 => hash % 64,
+        _ => hash % u64::from(share),
+    };
+    part as u32
 }
 
 /// The remainder of a number by the modulus of codes.
