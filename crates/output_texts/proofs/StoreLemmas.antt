@@ -1,26 +1,23 @@
 -- The text of what is stored at workers is the text of the bags of all workers' rows.
 use Rattle.std.proofs.Common.{◌≡◌, ℕ, List, [], ◌++◌, length, map, refl, sym, ◌∙◌, ap, append_assoc}
 use Rattle.std.specs.Prelude.{All}
-use Rattle.std.specs.Borrow.{Bor}
 use Rattle.std.specs.List.{flat_map}
-use Rattle.std.proofs.lemmas.List.{length-map}
 use Rattle.std.proofs.lemmas.List.Elements.{All-head, All-tail}
-use Rattle.std.proofs.lemmas.List.Folds.{flat_map-map}
 use Rattle.std.proofs.lemmas.List.Sorted.{length_permutation, IsPermutation-append, IsPermutation-refl, IsPermutation-sym, IsPermutation-trans}
 use Rattle.rel_base.specs.Bags.{SameBag, sorted}
 use Rattle.rel_base.specs.Keys.{File}
 use Rattle.rel_base.specs.Picks.{joined}
-use Rattle.rel_base.specs.ValueLaws.{row_order_total, row_order-IsAntisymmetric}
 use Rattle.rel_base.specs.Values.{row_order}
 use Rattle.rel_base.specs.declared.names.Key.{Key}
 use Rattle.rel_base.specs.declared.values.Value.{Value}
-use Rattle.rel_base.proofs.SortedLemmas.{Ascending-sorted_by, IsPermutation-sorted_by, IsSorted-Ascending, sorted_by-unique}
+use Rattle.rel_base.proofs.SortedLemmas.{IsPermutation-sorted_by}
 use Rattle.relation_csv.specs.RecordTexts.{header_record, row_record}
 use Rattle.placement.specs.Laws.{IsPlaced}
 use Rattle.placement.specs.Layouts.{PlacedRelation}
 use Rattle.run_laws.proofs.BagLemmas.{together-same}
 use Rattle.engine.specs.Runs.{AreStoredAt, no_store, a_store}
 use Rattle.engine.specs.declared.runs.SpreadStore.{SpreadStore}
+use Rattle.collector.proofs.CutLemmas.{sorted-same}
 use Rattle.output_texts.specs.OutputText.{output_text, relation_text, store_line}
 use Rattle.output_texts.specs.Stores.{all_rows, whole_store}
 use Rattle.output_texts.specs.TrialText.{trial_text}
@@ -28,18 +25,11 @@ use Rattle.output_texts.proofs.TrialLemmas.{trial_text-same}
 
 -- ---- a bag has one text
 
-sorted-same : (rows others : List (List Value)) → SameBag rows others → sorted rows ≡ sorted others
-sorted-same rows others same =
-    sym (sorted_by-unique row_order row_order_total row_order-IsAntisymmetric rows (sorted others)
-    (IsPermutation-trans rows others (sorted others) same (IsPermutation-sorted_by row_order others))
-    (IsSorted-Ascending row_order row_order_total row_order-IsAntisymmetric (sorted others)
-    (Ascending-sorted_by row_order row_order_total row_order-IsAntisymmetric others)))
-
 relation_text-same : (file other : File) → file.0 ≡ other.0 → file.1.schema ≡ other.1.schema → SameBag file.1.rows other.1.rows
     → relation_text file ≡ relation_text other
 relation_text-same file other keys schemas same =
     let long : length file.1.rows ≡ length other.1.rows = sym (length_permutation file.1.rows other.1.rows same) in
-    let rows : sorted file.1.rows ≡ sorted other.1.rows = sorted-same file.1.rows other.1.rows same in
+    let rows : sorted file.1.rows ≡ sorted other.1.rows = sym (sorted-same file.1.rows other.1.rows same) in
     λ i. store_line (keys i) (long i) ++ header_record (schemas i) ++ flat_map row_record (rows i)
 
 -- ---- what is stored, where it is placed

@@ -1,6 +1,6 @@
 -- How many rows there are, and how many different ones: as many as are left where they stand in order and each repeat
 -- beside a row goes.
-use Rattle.std.proofs.Common.{◌≡◌, ℕ, ◌+◌, ◌<◌, Bool, true, false, not, cond, List, [], ◌∷◌, ◌++◌, get_or, length, map, filter, take, refl, sym, ◌∙◌, ap, subst, add-one, append_assoc}
+use Rattle.std.proofs.Common.{◌≡◌, ℕ, ◌+◌, ◌<◌, Bool, true, false, not, cond, List, [], ◌∷◌, ◌++◌, get_or, length, map, filter, take, refl, sym, ◌∙◌, ap, add-one, append_assoc}
 use Rattle.std.proofs.Math.Seq.{take-suc}
 use Rattle.std.specs.Prelude.{IsPermutation, IsSorted}
 use Rattle.std.specs.Borrow.{Bor}
@@ -17,13 +17,12 @@ use Rattle.std.proofs.lemmas.List.Concat.{flat_map-append}
 use Rattle.std.proofs.lemmas.List.Filters.{dedup_is}
 use Rattle.std.proofs.lemmas.List.Folds.{flat_map-map}
 use Rattle.std.proofs.lemmas.List.Kept.{IsStrictlySortedBy-dedup}
-use Rattle.std.proofs.lemmas.List.Sorted.{length_permutation, IsPermutation-append, IsPermutation-map}
+use Rattle.std.proofs.lemmas.List.Sorted.{length_permutation, IsPermutation-map}
 use Rattle.rel_base.specs.Bags.{SameBag, sorted}
 use Rattle.rel_base.specs.Keys.{File}
 use Rattle.rel_base.specs.Picks.{joined}
 use Rattle.rel_base.specs.ValueLaws.{row_order_total}
 use Rattle.rel_base.specs.Values.{value_order, row_order}
-use Rattle.rel_base.proofs.SortedLemmas.{IsPermutation-sorted_by}
 use Rattle.myrial_ast.specs.Bags.{distinct}
 use Rattle.myrial_ast.specs.Combinations.{Row, Rows}
 use Rattle.bag_laws.proofs.PartialLemmas.{itself, tied, other}

@@ -1,4 +1,4 @@
-use Rattle.std.proofs.Common.{◌≡◌, ◌∙◌, ◌++◌, Result, Ok, Err, map, ap}
+use Rattle.std.proofs.Common.{◌∙◌, ◌++◌, Result, Ok, Err, map, ap}
 use Rattle.std.specs.Prelude.{OnOk}
 use Rattle.output_texts.proofs.BlockLemmas.{records-of_rows}
 use Rattle.output_texts.proofs.blocks.Block.add_range.Goals as goal

@@ -1,4 +1,4 @@
-use Rattle.std.proofs.Common.{Result, Ok, Err, ◌≡◌, ◌∙◌, ap}
+use Rattle.std.proofs.Common.{Result, Ok, Err, ◌∙◌, ap}
 use Rattle.std.specs.Prelude.{OnOk}
 use Rattle.rel_base.specs.Picks.{joined}
 use Rattle.output_texts.proofs.StoreLemmas.{store_text}
