@@ -1,4 +1,5 @@
 //! Parts that are in order, out of order and empty, as strings and numbers.
+use crate::pieces::every_third;
 use collector::sort_parts;
 use rel_base::{Memory, Row, Rows, Spread, Text, Value};
 use std::alloc::Global;
@@ -74,28 +75,17 @@ fn lone_part_is_sorted(rt: HostRuntime) -> Result<(), Fail> {
     Ok(())
 }
 
-/// Every third number from the first on, so many of them.
-fn every_third(alloc: Global, first: i64, count: i64) -> Result<Rows, Memory> {
-    let mut rows = Rows::new(alloc);
-    for i in 0..count {
-        let mut row = Row::new(alloc);
-        row.push(Value::Int(first + 3 * i))?;
-        rows.push(row)?;
-    }
-    Ok(rows)
-}
-
 #[test]
 fn ranges_follow_one_another(rt: HostRuntime) -> Result<(), Fail> {
     let mut parts = Spread::new(rt.alloc());
     for first in [2, 0, 1] {
-        parts.push(every_third(rt.alloc(), first, 20_000)?)?;
+        parts.push(every_third(rt.alloc(), first, 30_000)?)?;
     }
     let sorted = sort_parts(&rt, rt.alloc(), &parts)?;
     assert!(rt; sorted.ranges(rt.alloc())?.len() > 1);
     let numbers = numbers_in_order(&rt, rt.alloc(), &parts)?;
-    assert_eq!(rt; sorted.len(), 60_000);
-    assert_eq!(rt; numbers.len(), 60_000);
+    assert_eq!(rt; sorted.len(), 30_000);
+    assert_eq!(rt; numbers.len(), 30_000);
     for (place, number) in numbers.iter().enumerate() {
         assert_eq!(rt; *number, place as i64);
     }

@@ -96,7 +96,7 @@ fn stored_at_two(alloc: Global) -> Result<SpreadStores, Memory> {
 }
 
 /// Every third number from a first one below three on, below an end.
-fn every_third(alloc: Global, first: u32, end: u32) -> Result<Rows, Memory> {
+pub(crate) fn every_third(alloc: Global, first: u32, end: u32) -> Result<Rows, Memory> {
     let mut rows = Rows::new(alloc);
     for number in 0..end {
         if number % 3 == first && rows.len() < 10_000 {
