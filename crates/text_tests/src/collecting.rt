@@ -75,12 +75,18 @@ fn lone_part_is_sorted(rt: HostRuntime) -> Result<(), Fail> {
     Ok(())
 }
 
+/// The numbers below 30,000 in three parts, each of which has every third.
+fn three_parts_of_numbers(alloc: Global) -> Result<Spread, Memory> {
+    let mut parts = Spread::new(alloc);
+    parts.push(every_third(alloc, 2, 30_000)?)?;
+    parts.push(every_third(alloc, 0, 30_000)?)?;
+    parts.push(every_third(alloc, 1, 30_000)?)?;
+    Ok(parts)
+}
+
 #[test]
 fn ranges_follow_one_another(rt: HostRuntime) -> Result<(), Fail> {
-    let mut parts = Spread::new(rt.alloc());
-    for first in [2, 0, 1] {
-        parts.push(every_third(rt.alloc(), first, 30_000)?)?;
-    }
+    let parts = three_parts_of_numbers(rt.alloc())?;
     let sorted = sort_parts(&rt, rt.alloc(), &parts)?;
     assert!(rt; sorted.ranges(rt.alloc())?.len() > 1);
     let numbers = numbers_in_order(&rt, rt.alloc(), &parts)?;
