@@ -3,3 +3,4 @@ pub mod CollectLemmas
 pub mod CutLemmas
 pub mod MergeLemmas
 pub mod SortingLemmas
+pub mod WorkedRows

@@ -94,7 +94,8 @@ fn run_jobs<R: Threads + Wait + Sync>(rt: &R, jobs: &mut Vec<Sorting<'_>>)
 
 /// What the jobs sorted, where there was memory for each.
 fn sorted_by_jobs<'a>(alloc: Global, jobs: Vec<Sorting<'a>>) -> Result<Vec<SortedPart<'a>>, Memory>
-    ensures { IfOk result (λ parts. map Ok parts.items ≡ map (λ job. job.sorted) jobs.entry.items) }
+    ensures { IfOk result (λ parts. map Ok parts.items
+        ≡ map (λ job. job.sorted) jobs.entry.items) }
 {
     let mut parts = Vec::with_capacity(alloc, jobs.len())?;
     for job in jobs {

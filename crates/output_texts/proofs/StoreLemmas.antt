@@ -18,6 +18,7 @@ use Rattle.run_laws.proofs.BagLemmas.{together-same}
 use Rattle.engine.specs.Runs.{AreStoredAt, no_store, a_store}
 use Rattle.engine.specs.declared.runs.SpreadStore.{SpreadStore}
 use Rattle.collector.proofs.CutLemmas.{sorted-same}
+use Rattle.output_texts.specs.inner.Ranges.{ranges_text}
 use Rattle.output_texts.specs.OutputText.{output_text, relation_text, store_line}
 use Rattle.output_texts.specs.Stores.{all_rows, whole_store}
 use Rattle.output_texts.specs.TrialText.{trial_text}
@@ -75,13 +76,13 @@ stores-trial n size stored placed are all = trial_text-same size _ _ (stores-row
 pub store_text : (store : SpreadStore) (rows : List (List Value)) (ranges : List (List (List Value))) (count : ℕ) (before lined headed text : List ℕ)
     → rows ≡ sorted (joined store.parts) → joined ranges ≡ rows → count ≡ length rows
     → lined ≡ before ++ store_line store.key count
-    → headed ≡ lined ++ header_record store.schema → text ≡ headed ++ flat_map row_record (joined ranges)
+    → headed ≡ lined ++ header_record store.schema → text ≡ headed ++ ranges_text ranges
     → text ≡ before ++ relation_text (whole_store store)
 store_text store rows ranges count before lined headed text in_order cut counted line header written =
     let all = joined store.parts in
     let long : count ≡ length all =
     counted ∙ ap length in_order ∙ length_permutation all (sorted all) (IsPermutation-sorted_by row_order all) in
-    let records : flat_map row_record (joined ranges) ≡ flat_map row_record (sorted all) = ap (flat_map row_record) (cut ∙ in_order) in
+    let records : ranges_text ranges ≡ flat_map row_record (sorted all) = ap (flat_map row_record) (cut ∙ in_order) in
     let line_of_all = store_line store.key (length all) in
     let header_of_all = header_record store.schema in
     let records_of_all = flat_map row_record (sorted all) in

@@ -9,6 +9,7 @@ use Rattle.rel_base.specs.declared.values.Value.TheVariants as variant
 use Rattle.relation_csv.proofs.OnLiterals.{files_on_literals}
 use Rattle.output_texts.specs.OutputText.{output_text, relation_lines}
 use Rattle.output_texts.specs.TrialText.{trial_text}
+use Rattle.output_texts.specs.inner.Ranges.{ranges_text}
 
 abbrev row : ℕ → List Value
 row n = variant.Int (pos n) ∷ []
@@ -31,6 +32,11 @@ in_order = refl
 as_they_stand : relation_lines file ≡ codes "-- store u:p:R 2 rows\nn:int\n10\n9\n"
 unfolding files_on_literals digits
 as_they_stand = refl
+
+-- two ranges, one behind the other
+two_ranges : ranges_text ((row 9 ∷ []) ∷ (row 10 ∷ row 11 ∷ []) ∷ []) ≡ codes "9\n10\n11\n"
+unfolding files_on_literals digits
+two_ranges = refl
 
 -- no store
 no_store : output_text [] ≡ []

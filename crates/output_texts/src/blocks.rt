@@ -1,7 +1,6 @@
 //! A part of a text, and the pieces in which it is offered.
 ghost use Rattle.std.specs.Prelude.{◌≡◌, ◌++◌, ◌≤◌, [], All, IfOk, OnOk, length};
 ghost use Rattle.std.specs.List.{flat_map};
-ghost use Rattle.rel_base.specs.Picks.{joined};
 ghost use Rattle.rel_io.specs.Sinks.{Offers, written_of};
 
 use algebra::{PlanNotes, TrafficNotes};
@@ -35,6 +34,7 @@ impl Block {
     ghost use Rattle.plan_printer.specs.PlanTexts.{plan_text};
     ghost use Rattle.plan_printer.specs.TrafficTexts.{IsWhole, traffic_text};
     ghost use Rattle.relation_csv.specs.RecordTexts.{header_record, row_record};
+    ghost use Rattle.output_texts.specs.inner.Ranges.{ranges_text};
     ghost use Rattle.output_texts.specs.OutputText.{relation_lines, store_line};
     ghost use Rattle.output_texts.specs.TrialText.{distinct_line, rows_line, size_line};
 
@@ -54,7 +54,7 @@ impl Block {
         ranges: &[RowRange<'_, '_>],
         rows: usize,
     ) -> Result<Block, Memory>
-        ensures { IfOk result (λ block. block ≡ flat_map row_record (joined ranges.now)) }
+        ensures { IfOk result (λ block. block ≡ ranges_text ranges.now) }
     {
         let mut block = Block::new(alloc);
         block.add_ranges(alloc, ranges, rows)?;
@@ -155,7 +155,7 @@ impl Block {
         ranges: &[RowRange<'_, '_>],
         rows: usize,
     ) -> Result<(), Memory>
-        ensures { OnOk result (self.new ≡ self.old ++ flat_map row_record (joined ranges.now)) }
+        ensures { OnOk result (self.new ≡ self.old ++ ranges_text ranges.now) }
     {
         self.make_room(rows)?;
         for range in ranges {

@@ -1,10 +1,8 @@
 //! The text of many rows, which is made in jobs: ranges of the rows side by side.
 ghost use Rattle.std.specs.Prelude.{◌≡◌, ◌*◌, ◌<◌, ◌≤◌, ℕ, Ok, IfOk, length, map, slice_index_or};
 ghost use Rattle.std.specs.Fork.{slice_chunk};
-ghost use Rattle.std.specs.List.{flat_map};
 ghost use Rattle.rel_base.specs.Picks.{joined};
-ghost use Rattle.relation_csv.specs.RecordTexts.{row_record};
-ghost use Rattle.output_texts.specs.inner.Ranges.{IsTextOf};
+ghost use Rattle.output_texts.specs.inner.Ranges.{ranges_text, IsTextOf};
 
 use crate::blocks::Block;
 use collector::RowRange;
@@ -23,8 +21,8 @@ pub(crate) fn jobs_for(rows: usize, most: usize) -> usize
     (rows / LEAST_ROWS).min(most).max(1)
 }
 
-/// The text of ranges of rows, in blocks that so many jobs make, each of some ranges that follow one
-/// another. All have about so many rows.
+/// The text of ranges of rows, in blocks that so many jobs make, each of some ranges that follow
+/// one another. All have about so many rows.
 pub(crate) fn blocks_of_ranges<R: Threads + Sync>(
     rt: &R,
     alloc: Global,
@@ -33,7 +31,7 @@ pub(crate) fn blocks_of_ranges<R: Threads + Sync>(
     jobs: usize,
 ) -> Result<Vec<Block>, Memory>
     requires { 0 < jobs }
-    ensures { IfOk result (λ blocks. joined blocks.items ≡ flat_map row_record (joined ranges.now)) }
+    ensures { IfOk result (λ blocks. joined blocks.items ≡ ranges_text ranges.now) }
 {
     let size = ranges.len().div_ceil(jobs).max(1);
     let parts = blocks_of_chunks(rt, alloc, ranges, rows / jobs, size)?;

@@ -42,6 +42,7 @@ impl Pieces {
     ghost use Rattle.plan_printer.specs.PlanTexts.{plan_text};
     ghost use Rattle.plan_printer.specs.TrafficTexts.{IsWhole, traffic_text};
     ghost use Rattle.relation_csv.specs.RecordTexts.{header_record, row_record};
+    ghost use Rattle.output_texts.specs.inner.Ranges.{ranges_text};
     ghost use Rattle.output_texts.specs.OutputText.{output_text, relation_lines, relation_text};
     ghost use Rattle.output_texts.specs.OutputText.{store_line};
     ghost use Rattle.output_texts.specs.Stores.{all_rows, whole_store};
@@ -181,7 +182,7 @@ impl Pieces {
         rows: usize,
         jobs: usize,
     ) -> Result<(), Memory>
-        ensures { OnOk result (self.new ≡ self.old ++ flat_map row_record (joined ranges.now)) }
+        ensures { OnOk result (self.new ≡ self.old ++ ranges_text ranges.now) }
     {
         if jobs <= 1 {
             return self.last.add_ranges(alloc, ranges, rows);
