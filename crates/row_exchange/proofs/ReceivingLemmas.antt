@@ -16,15 +16,27 @@ use Rattle.exchange_channels.specs.Messages.{batches_of, batch_rows, rows_of_ato
 use Rattle.exchange_channels.proofs.SendingLemmas.{drained_rows-drained_of}
 use Rattle.row_exchange.specs.Routes.{Row, Rows}
 use Rattle.row_exchange.specs.inner.Stations.{AreGathered, AreGatheredBut, TakesIn, HasReceived}
+use Rattle.row_exchange.proofs.SumLemmas.{flat_map-permuted}
 
-pub nothing-gathered : (atoms : ℕ) (drained : List (ℕ × Batch)) (lists : List Rows) → lists ≡ replicate atoms [] → AreGatheredBut atoms drained drained lists
-nothing-gathered atoms drained lists e = record {
+-- at first all is left, in whatever order
+pub nothing-gathered : (atoms : ℕ) (drained left : List (ℕ × Batch)) (lists : List Rows) → IsPermutation drained left → lists ≡ replicate atoms []
+    → AreGatheredBut atoms drained left lists
+nothing-gathered atoms drained left lists same e = record {
   count = ap length e ∙ length-replicate {A = Rows} atoms [];
   rows_are = λ atom below.
       subst (IsPermutation (drained_rows atom drained))
-      (sym (ap (λ (l : Rows). drained_rows atom drained ++ l) (ap (λ (l : List Rows). get_or l atom []) e ∙ get_or-replicate {A = Rows} atoms atom [] [] below) ∙ append-nil (drained_rows atom drained)))
-      (IsPermutation-refl (drained_rows atom drained));
+      (sym (ap (λ (l : Rows). drained_rows atom left ++ l) (ap (λ (l : List Rows). get_or l atom []) e ∙ get_or-replicate {A = Rows} atoms atom [] [] below) ∙ append-nil (drained_rows atom left)))
+      (flat_map-permuted (λ (t : ℕ × Batch). batch_rows atom t.1) drained left same);
 }
+
+-- one more is taken from the end
+pub taken-step : (drained left rest taken : List (ℕ × Batch)) (one : ℕ × Batch) → left ≡ rest ++ one ∷ [] → IsPermutation drained (left ++ taken)
+    → IsPermutation drained (rest ++ (taken ++ one ∷ []))
+taken-step drained left rest taken one e so_far =
+    IsPermutation-trans drained (left ++ taken) (rest ++ (taken ++ one ∷ [])) so_far
+    (subst (λ l. IsPermutation (l ++ taken) (rest ++ (taken ++ one ∷ []))) (sym e)
+    (subst (λ l. IsPermutation l (rest ++ (taken ++ one ∷ []))) (sym (append_assoc rest (one ∷ []) taken))
+    (IsPermutation-append_right rest (one ∷ taken) (taken ++ one ∷ []) (IsPermutation-append_comm (one ∷ []) taken))))
 
 drained-push : (atom : ℕ) (left : List (ℕ × Batch)) (taken : ℕ × Batch) → drained_rows atom (left ++ taken ∷ []) ≡ drained_rows atom left ++ batch_rows atom taken.1
 drained-push atom left taken =

@@ -1,5 +1,5 @@
 //! The receiving half of a worker: it drains its inbox, and puts the rows of each atom together.
-ghost use Rattle.std.specs.Prelude.{◌≡◌, [], ◌++◌, replicate, IfOk, IsOkAnd, OnOk};
+ghost use Rattle.std.specs.Prelude.{◌≡◌, [], ◌++◌, replicate, IfOk, IsOkAnd, IsPermutation, OnOk};
 ghost use Rattle.rel_io.specs.Taps.{with_got};
 ghost use Rattle.exchange_channels.specs.Messages.{rows_of};
 ghost use Rattle.exchange_channels.specs.Wirings.{HasEachEnd, untaken};
@@ -50,12 +50,28 @@ fn gather_if_drained(
 fn gather(alloc: Global, atoms: u32, drained: Drained) -> Result<Parts, Memory>
     ensures { IfOk result (AreGathered atoms drained) }
 {
-    let mut drained = drained;
+    let mut left = by_senders(alloc, drained)?;
     let mut gathered = empty_rows(alloc, atoms)?;
-    while let Some((_, batch)) = drained.pop() {
+    while let Some((_, batch)) = left.pop() {
         add(alloc, &mut gathered, batch)?;
     }
     into_parts(alloc, gathered)
+}
+
+/// What was drained, by senders, and of one sender the other way round than it was taken.
+///
+/// So the rows of an atom stand in an order that doesn't depend on which sender was quicker, and
+/// atoms that are given the same rows have equal parts, which a local join reads once.
+fn by_senders(alloc: Global, drained: Drained) -> Result<Vec<(u32, Batch)>, Memory>
+    ensures { IfOk result (λ taken. IsPermutation drained taken.items) }
+{
+    let mut drained = drained;
+    let mut taken = Vec::with_capacity(alloc, drained.len() as usize)?;
+    while let Some(one) = drained.pop() {
+        taken.push(one)?;
+    }
+    taken.sort_by_key(|one: &(u32, Batch)| one.0)?;
+    Ok(taken)
 }
 
 /// So many lists without rows.

@@ -1,4 +1,4 @@
-use Rattle.std.proofs.Common.{◌≡◌, ◌∙◌, ◌++◌, ◌∷◌, [], List, ℕ, sym, ap}
+use Rattle.std.proofs.Common.{◌≡◌, ◌∙◌, ◌++◌, ◌∷◌, [], List, ℕ, sym, ap, arith}
 use Rattle.exchange_channels.specs.declared.messages.Batch.{Batch}
 use Rattle.std.specs.Option.{option_to_list}
 use Rattle.std.proofs.lemmas.Result.{IfOk-weaker}
@@ -8,15 +8,16 @@ use Rattle.row_exchange.proofs.ReceivingLemmas.{nothing-gathered, gathered-step,
 use Rattle.row_exchange.proofs.receiving.gather.Goals as goal
 
 pub loop-batch-init : goal.loop-batch-init
-loop-batch-init c = nothing-gathered c.args.atoms c.args.drained c.in_ok-gathered.gathered.items c.in_ok-gathered.ensures
+loop-batch-init c = nothing-gathered c.args.atoms c.args.drained c.in_ok-left.left.items c.in_ok-gathered.gathered.items c.in_ok-left.ensures c.in_ok-gathered.ensures
 
 pub loop-batch-preserved : goal.loop-batch-preserved
 loop-batch-preserved c =
-    gathered-step c.args.atoms c.args.drained c.loop-batch.drained c.pop.new.self (c.in-Some.field-0-0, c.in-Some.batch) c.loop-batch.gathered.items c.add.new.gathered.items
+    gathered-step c.args.atoms c.args.drained c.loop-batch.left.items c.pop.new.self.items (c.in-Some.field-0-0, c.in-Some.batch) c.loop-batch.gathered.items c.add.new.gathered.items
     c.in-Some.ensures.items c.in_ok-add.ensures c.loop-batch.invariant
 
 pub returns : goal.returns
 returns c =
-    let left : c.loop-batch.drained ≡ [] = nil-from_pop c.loop-batch.drained c.pop.result c.in_default.is c.pop.ensures.some in
+    let left : c.loop-batch.left.items ≡ [] = nil-from_pop c.loop-batch.left.items c.pop.result c.in_default.is
+    (λ some. let low = c.pop.ensures.variant.0 some in omega (arith, low), λ low. c.pop.ensures.variant.1 (omega (arith, low))) in
     IfOk-weaker c.into_parts.result (λ parts. parts ≡ c.loop-batch.gathered.items) (AreGathered c.args.atoms c.args.drained)
-    (λ parts e. all-gathered c.args.atoms c.args.drained c.loop-batch.drained c.loop-batch.gathered.items parts left e c.loop-batch.invariant) c.into_parts.ensures
+    (λ parts e. all-gathered c.args.atoms c.args.drained c.loop-batch.left.items c.loop-batch.gathered.items parts left e c.loop-batch.invariant) c.into_parts.ensures
