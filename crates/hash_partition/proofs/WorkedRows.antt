@@ -1,7 +1,7 @@
 -- The vectors of codes, hashes and cells, computed from the definitions: a wrong formula does not check.
 use Rattle.std.proofs.Common.{◌≡◌, ℕ, ℤ, pos, negsuc, true, false, List, [], ◌∷◌, map, codes, refl}
 use Rattle.hash_partition.specs.Cells.{IsCell, cell_number}
-use Rattle.hash_partition.specs.Hashing.{dimension_seed, multiplier, offset, hash_of, coordinate_of, key_code_of, home_of}
+use Rattle.hash_partition.specs.Hashing.{dimension_seed, multiplier, offset, hash_of, coordinate_of, dimension_of, part_of_code, key_code_of, part_of_key, home_of}
 use Rattle.rel_base.specs.Codes.{code_of}
 use Rattle.rel_base.specs.declared.values.Value.{Value}
 use Rattle.rel_base.specs.declared.values.Value.TheVariants as variant
@@ -44,6 +44,10 @@ coordinates-at_two = refl
 pub coordinates-at_one : map (λ code. coordinate_of 0 0 code 1) some_codes ≡ 0 ∷ 0 ∷ 0 ∷ 0 ∷ 0 ∷ 0 ∷ 0 ∷ []
 coordinates-at_one = refl
 
+-- a dimension with the hash made for it has the same ones
+pub coordinates-made : map (part_of_code (dimension_of 0 0 2)) some_codes ≡ 1 ∷ 0 ∷ 1 ∷ 1 ∷ 0 ∷ 0 ∷ 0 ∷ []
+coordinates-made = refl
+
 -- the greatest seed comes round to 0, where each code has the hash of itself
 pub hashes-round : map (hash_of 18446744073709551615 0) (0 ∷ 1 ∷ 98 ∷ []) ≡ 0 ∷ 1 ∷ 98 ∷ []
 hashes-round = refl
@@ -61,6 +65,10 @@ key_code-two_columns = refl
 
 pub homes-at_two : map (λ n. home_of 0 (key n) 2) (pos 0 ∷ pos 1 ∷ pos 2 ∷ pos 3 ∷ []) ≡ 0 ∷ 1 ∷ 1 ∷ 0 ∷ []
 homes-at_two = refl
+
+-- in another dimension the keys are elsewhere
+pub parts-of_dimension_one : map (λ n. part_of_key (dimension_of 0 1 2) (key n)) (pos 0 ∷ pos 1 ∷ pos 2 ∷ pos 3 ∷ []) ≡ 0 ∷ 0 ∷ 1 ∷ 1 ∷ []
+parts-of_dimension_one = refl
 
 -- a key of no columns is at worker 0, though the code 0 has another coordinate
 pub home-no_columns : home_of 0 [] 2 ≡ 0

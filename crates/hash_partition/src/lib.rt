@@ -8,11 +8,13 @@
 //! its number in mixed radix, below the number of cells, and no other cell has it. Not promised:
 //! that values spread evenly, or that values that differ have codes that differ.
 //!
-//! Read `specs/Hashing.antt` and `specs/Cells.antt`, then `hashing.rt`.
+//! Read `specs/Hashing.antt` and `specs/Cells.antt`, then `dimensions.rt`.
 #![tactic(auto)]
 
 mod cells;
+mod dimensions;
 mod hashing;
 
 pub use cells::cell_of;
+pub use dimensions::Dimension;
 pub use hashing::{coord, home_of_key, key_code};
