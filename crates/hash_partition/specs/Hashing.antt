@@ -3,7 +3,7 @@
 --   dimension_seed seed dimension               the seed of a dimension
 --   multiplier s, offset s                      what its hash multiplies by, and what it adds
 --   hash_of seed dimension code                 the hash of a code in a dimension
---   coordinate_of seed dimension code share     its coordinate, where the dimension is spread over so many parts
+--   coordinate_of seed dimension code share     its coordinate, over so many parts
 --   dimension_of seed dimension share           a dimension with the hash made for it
 --   part_of_code d code                         the coordinate of a code in such a dimension
 --   key_of row columns                          the values of a row in these columns
@@ -37,18 +37,20 @@ hash_of seed dimension code =
 abbrev pub coordinate_of : ℕ → ℕ → ℕ → ℕ → ℕ
 coordinate_of seed dimension code share = hash_of seed dimension code % share
 
--- what the coordinates of a dimension are made by: what its hash multiplies by and adds, and the number of its parts
+-- what the coordinates of a dimension are made by: what its hash multiplies by and adds, and the
+-- number of its parts
 pub record DimensionState : Type 0 where
   pub multiplier : ℕ
   pub offset : ℕ
   pub share : ℕ
 
--- its hash stays in 122 bits
+-- what is multiplied and added stays in 122 bits, and there is some part
 pub record IsDimension (d : DimensionState) : Type 0 where
   pub multiplier_small : d.multiplier < modulus
   pub offset_small : d.offset < modulus
   pub some_part : 1 ≤ d.share
 
+-- the dimension with this number, with the hash made for it
 abbrev pub dimension_of : ℕ → ℕ → ℕ → DimensionState
 dimension_of seed dimension share =
     let s = dimension_seed seed dimension in

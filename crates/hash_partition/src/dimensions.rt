@@ -72,8 +72,8 @@ impl Dimension {
         self.share
     }
 
-    /// The coordinate of a value with this code, which is the number of its part. Where there is one
-    /// part, no code is hashed.
+    /// The coordinate of a value with this code, which is the number of its part. Where there is
+    /// one part, no code is hashed.
     pub fn coordinate(&self, code: u64) -> u32
         requires { code < modulus }
         ensures value { result ≡ part_of_code self.now code }
