@@ -137,11 +137,21 @@ fn stand_in_order(columns: &[PackedColumn], words: &[u64]) -> bool
 
 /// Two lists of rows in ascending order that are packed in words, by the same columns. Contracts
 /// see the rows of both.
-#[derive(Drop)]
 pub struct PackedOperands {
     columns: Vec<PackedColumn>,
     words: Vec<u64>,
     others: Vec<u64>,
+}
+
+// Written out, since a derived drop is proved anew at each place where a value is let go.
+impl Drop for PackedOperands {
+    fn drop(self) {
+        let PackedOperands {
+            columns: _,
+            words: _,
+            others: _,
+        } = self;
+    }
 }
 
 impl Model for PackedOperands {

@@ -16,10 +16,19 @@ use std::alloc::Global;
 use std::marker::Model;
 
 /// Rows that are packed in words, which contracts see as the list of the rows.
-#[derive(Drop)]
 pub struct PackedRows {
     columns: Vec<PackedColumn>,
     words: Vec<u64>,
+}
+
+// Written out, since a derived drop is proved anew at each place where a value is let go.
+impl Drop for PackedRows {
+    fn drop(self) {
+        let PackedRows {
+            columns: _,
+            words: _,
+        } = self;
+    }
 }
 
 impl Model for PackedRows {

@@ -18,12 +18,20 @@ pub enum GroupedRow<'a> {
 }
 
 /// A value of such a row.
-#[derive(Drop)]
 pub enum ReadValue<'a> {
     /// A value that is lent.
     Lent(&'a Value),
     /// A value that was made.
     Made(Value),
+}
+
+// Written out, since a derived drop is proved anew at each place where a value is let go.
+impl<'a> Drop for ReadValue<'a> {
+    fn drop(self) {
+        match self {
+            ReadValue::Lent(_) | ReadValue::Made(_) => {}
+        }
+    }
 }
 
 impl<'a> ReadValue<'a> {

@@ -13,10 +13,19 @@ use rel_base::Memory;
 use std::alloc::Global;
 
 /// Columns of words, and the picks that emit them, each once.
-#[derive(Drop)]
 pub struct Singles {
     pub columns: Vec<PackedColumn>,
     pub picks: Vec<Scalar>,
+}
+
+// Written out, since a derived drop is proved anew at each place where a value is let go.
+impl Drop for Singles {
+    fn drop(self) {
+        let Singles {
+            columns: _,
+            picks: _,
+        } = self;
+    }
 }
 
 impl Singles {

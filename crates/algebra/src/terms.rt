@@ -19,7 +19,7 @@ pub enum Source {
 pub type Sources = Items<Source>;
 
 /// What a statement computes.
-#[derive(Debug, Drop)]
+#[derive(Debug)]
 pub enum Term {
     /// The relation itself.
     Same(Source),
@@ -38,8 +38,23 @@ pub enum Term {
     Group(JoinShape, Sources, EmitKinds),
 }
 
+// Written out, since a derived drop is proved anew at each place where a value is let go.
+impl Drop for Term {
+    fn drop(self) {
+        match self {
+            Term::Same(_)
+            | Term::Empty
+            | Term::UnionAll(_, _)
+            | Term::Diff(_, _)
+            | Term::Distinct(_)
+            | Term::Join(_, _)
+            | Term::Group(_, _, _) => {}
+        }
+    }
+}
+
 /// A statement that assigns: its number, the columns of its result, and what it computes.
-#[derive(Debug, Drop)]
+#[derive(Debug)]
 pub struct Step {
     /// The number of the statement, from 1.
     pub statement: u32,
@@ -49,11 +64,22 @@ pub struct Step {
     pub term: Term,
 }
 
+// Written out, since a derived drop is proved anew at each place where a value is let go.
+impl Drop for Step {
+    fn drop(self) {
+        let Step {
+            statement: _,
+            schema: _,
+            term: _,
+        } = self;
+    }
+}
+
 /// Steps, in order.
 pub type StepList = Items<Step>;
 
 /// A statement that stores.
-#[derive(Debug, Drop)]
+#[derive(Debug)]
 pub struct StoreStep {
     /// The number of the statement, from 1.
     pub statement: u32,
@@ -63,16 +89,37 @@ pub struct StoreStep {
     pub source: Source,
 }
 
+// Written out, since a derived drop is proved anew at each place where a value is let go.
+impl Drop for StoreStep {
+    fn drop(self) {
+        let StoreStep {
+            statement: _,
+            key: _,
+            source: _,
+        } = self;
+    }
+}
+
 /// The stores, in order.
 pub type Stores = Items<StoreStep>;
 
 /// A script whose names are resolved: all of its assignments and all of its stores, in order.
-#[derive(Debug, Drop)]
+#[derive(Debug)]
 pub struct Checked {
     /// The assignments.
     pub steps: StepList,
     /// The stores.
     pub stores: Stores,
+}
+
+// Written out, since a derived drop is proved anew at each place where a value is let go.
+impl Drop for Checked {
+    fn drop(self) {
+        let Checked {
+            steps: _,
+            stores: _,
+        } = self;
+    }
 }
 
 impl Duplicate for Source {

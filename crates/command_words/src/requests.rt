@@ -25,7 +25,6 @@ pub enum Mode {
 }
 
 /// What the words of the command line ask for.
-#[derive(Drop)]
 pub struct Request {
     /// What the run does.
     pub mode: Mode,
@@ -40,6 +39,20 @@ pub struct Request {
     /// The name of the script; any word where the mode is `Trial`.
     pub script: Text,
     pub ghost size_in_range: { (1 ≤ size) × (size ≤ most_size) },
+}
+
+// Written out, since a derived drop is proved anew at each place where a value is let go.
+impl Drop for Request {
+    fn drop(self) {
+        let Request {
+            mode: _,
+            settings: _,
+            plan: _,
+            traffic: _,
+            size: _,
+            script: _,
+        } = self;
+    }
 }
 
 /// Why no request was read from the words.

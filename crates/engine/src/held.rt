@@ -13,12 +13,21 @@ use row_exchange::Spreads;
 use std::alloc::Global;
 
 /// The rows at each worker of files and of the results that are still used.
-#[derive(Drop)]
 pub(crate) struct Held {
     /// The rows of each file, dealt to the workers.
     pub(crate) files: Items<Spread>,
     /// The number of each step whose result is still used, with its rows.
     pub(crate) results: Vec<(u32, Spread)>,
+}
+
+// Written out, since a derived drop is proved anew at each place where a value is let go.
+impl Drop for Held {
+    fn drop(self) {
+        let Held {
+            files: _,
+            results: _,
+        } = self;
+    }
 }
 
 impl Held {

@@ -4,7 +4,6 @@ use exchange_channels::Receipts;
 use rel_base::{Items, Key, Schema, Spread};
 
 /// A relation that a script stores: its key, its columns, and its rows at each worker.
-#[derive(Drop)]
 pub struct SpreadStore {
     /// The key.
     pub key: Key,
@@ -14,11 +13,21 @@ pub struct SpreadStore {
     pub parts: Spread,
 }
 
+// Written out, since a derived drop is proved anew at each place where a value is let go.
+impl Drop for SpreadStore {
+    fn drop(self) {
+        let SpreadStore {
+            key: _,
+            schema: _,
+            parts: _,
+        } = self;
+    }
+}
+
 /// What a script stores, in the order of its stores.
 pub type SpreadStores = Items<SpreadStore>;
 
 /// What a run gives.
-#[derive(Drop)]
 pub struct Ran {
     /// What is stored.
     pub stored: SpreadStores,
@@ -29,4 +38,16 @@ pub struct Ran {
     /// The receipts of the exchanges: one for each, but for a `diff`, which has one for the rows of
     /// each operand.
     pub receipts: Receipts,
+}
+
+// Written out, since a derived drop is proved anew at each place where a value is let go.
+impl Drop for Ran {
+    fn drop(self) {
+        let Ran {
+            stored: _,
+            plan: _,
+            traffic: _,
+            receipts: _,
+        } = self;
+    }
 }

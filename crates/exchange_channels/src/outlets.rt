@@ -11,13 +11,24 @@ use std::sync::Wait;
 
 /// The outlet of one sender to every cell of its wiring. Contracts see its wiring, the number of
 /// its sender, and for each cell what it sent there.
-#[derive(Drop)]
 pub struct Outlet {
     pub(crate) number: u32,
     pub(crate) senders: u32,
     pub(crate) capacity: u32,
     /// The end at each cell, in order.
     pub(crate) ports: Vec<SendPort>,
+}
+
+// Written out, since a derived drop is proved anew at each place where a value is let go.
+impl Drop for Outlet {
+    fn drop(self) {
+        let Outlet {
+            number: _,
+            senders: _,
+            capacity: _,
+            ports: _,
+        } = self;
+    }
 }
 
 impl Model for Outlet {

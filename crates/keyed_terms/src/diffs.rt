@@ -21,11 +21,21 @@ use std::thread::Threads;
 use term_runs::{Moved, have_room, seconds_of};
 
 /// The operands of a `diff`: a list of rows for each worker, each of which has `width` columns.
-#[derive(Drop)]
 pub struct Operands {
     pub left: Spread,
     pub right: Spread,
     pub width: u32,
+}
+
+// Written out, since a derived drop is proved anew at each place where a value is let go.
+impl Drop for Operands {
+    fn drop(self) {
+        let Operands {
+            left: _,
+            right: _,
+            width: _,
+        } = self;
+    }
 }
 
 /// Each row of the left operand that the right one doesn't have, once: all rows of both go to the

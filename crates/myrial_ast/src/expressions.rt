@@ -8,7 +8,7 @@ use rel_base::{Duplicate, Memory, Text, Value};
 use std::alloc::Global;
 
 /// A reference to a column of the combined row of a comprehension.
-#[derive(Debug, Drop)]
+#[derive(Debug)]
 pub enum ColRef {
     /// `name`: the one column of that name.
     ByName(Text),
@@ -18,6 +18,16 @@ pub enum ColRef {
     OfName(Text, Text),
     /// `T.$i`: column number `i`, from 0, of the item with the alias `T`.
     OfPlace(Text, u64),
+}
+
+// Written out, since a derived drop is proved anew at each place where a value is let go.
+impl Drop for ColRef {
+    fn drop(self) {
+        match self {
+            ColRef::ByName(_) | ColRef::ByPlace(_) | ColRef::OfName(_, _) | ColRef::OfPlace(_, _) =>
+                {}
+        }
+    }
 }
 
 /// An expression over the columns of a comprehension.

@@ -9,7 +9,7 @@ use std::alloc::Global;
 
 /// A relation that is named: one that an earlier statement assigned, a stored one, or a file
 /// without a header.
-#[derive(Debug, Drop)]
+#[derive(Debug)]
 pub enum Operand {
     /// The relation that was assigned to a name.
     Named(Text),
@@ -19,8 +19,17 @@ pub enum Operand {
     Load(Text, Schema, u64),
 }
 
+// Written out, since a derived drop is proved anew at each place where a value is let go.
+impl Drop for Operand {
+    fn drop(self) {
+        match self {
+            Operand::Named(_) | Operand::Scan(_) | Operand::Load(_, _, _) => {}
+        }
+    }
+}
+
 /// How the file of a load is read.
-#[derive(Debug, Drop)]
+#[derive(Debug)]
 pub struct LoadForm {
     /// The columns that the script writes.
     pub schema: Schema,
@@ -28,8 +37,15 @@ pub struct LoadForm {
     pub skip: u64,
 }
 
+// Written out, since a derived drop is proved anew at each place where a value is let go.
+impl Drop for LoadForm {
+    fn drop(self) {
+        let LoadForm { schema: _, skip: _ } = self;
+    }
+}
+
 /// An item of a comprehension.
-#[derive(Debug, Drop)]
+#[derive(Debug)]
 pub struct FromItem {
     /// The relation whose rows the item goes over.
     pub source: Operand,
@@ -37,11 +53,21 @@ pub struct FromItem {
     pub alias: Text,
 }
 
+// Written out, since a derived drop is proved anew at each place where a value is let go.
+impl Drop for FromItem {
+    fn drop(self) {
+        let FromItem {
+            source: _,
+            alias: _,
+        } = self;
+    }
+}
+
 /// The items of a comprehension, in order.
 pub type FromItems = Items<FromItem>;
 
 /// What a comprehension emits.
-#[derive(Debug, Drop)]
+#[derive(Debug)]
 pub enum EmitItem {
     /// `*`: all columns of all items.
     All,
@@ -51,11 +77,20 @@ pub enum EmitItem {
     One(Expr, Option<Text>),
 }
 
+// Written out, since a derived drop is proved anew at each place where a value is let go.
+impl Drop for EmitItem {
+    fn drop(self) {
+        match self {
+            EmitItem::All | EmitItem::AllOf(_) | EmitItem::One(_, _) => {}
+        }
+    }
+}
+
 /// What a comprehension emits, in order.
 pub type EmitItems = Items<EmitItem>;
 
 /// A relation made of named ones.
-#[derive(Debug, Drop)]
+#[derive(Debug)]
 pub enum RelExpr {
     /// The operand itself.
     Copy(Operand),
@@ -69,6 +104,20 @@ pub enum RelExpr {
     Diff(Operand, Operand),
     /// A comprehension: its items, its condition where it has one, and what it emits.
     From(FromItems, Option<Expr>, EmitItems),
+}
+
+// Written out, since a derived drop is proved anew at each place where a value is let go.
+impl Drop for RelExpr {
+    fn drop(self) {
+        match self {
+            RelExpr::Copy(_)
+            | RelExpr::Empty(_)
+            | RelExpr::Distinct(_)
+            | RelExpr::UnionAll(_, _)
+            | RelExpr::Diff(_, _)
+            | RelExpr::From(_, _, _) => {}
+        }
+    }
 }
 
 impl Duplicate for Operand {

@@ -7,7 +7,7 @@ use rel_base::{Duplicate, Items, Key, Memory, Text};
 use std::alloc::Global;
 
 /// A statement of a script.
-#[derive(Debug, Drop)]
+#[derive(Debug)]
 pub enum Stmt {
     /// An empty piece between two `;`.
     Nothing,
@@ -15,6 +15,15 @@ pub enum Stmt {
     Assign(Text, RelExpr),
     /// `store(NAME, key)`.
     Store(Text, Key),
+}
+
+// Written out, since a derived drop is proved anew at each place where a value is let go.
+impl Drop for Stmt {
+    fn drop(self) {
+        match self {
+            Stmt::Nothing | Stmt::Assign(_, _) | Stmt::Store(_, _) => {}
+        }
+    }
 }
 
 /// The statements of a script, in order.

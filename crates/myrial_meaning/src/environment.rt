@@ -19,10 +19,19 @@ use std::marker::Model;
 /// order of the statements.
 ///
 /// Contracts see the environment of the definitions, which has the latest first.
-#[derive(Drop)]
 pub struct Environment<'a> {
     assigned: Vec<Assignment<'a>>,
     stored: Vec<(Key, Relation)>,
+}
+
+// Written out, since a derived drop is proved anew at each place where a value is let go.
+impl<'a> Drop for Environment<'a> {
+    fn drop(self) {
+        let Environment {
+            assigned: _,
+            stored: _,
+        } = self;
+    }
 }
 
 impl<'a> Model for Environment<'a> {

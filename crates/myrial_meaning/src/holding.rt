@@ -6,12 +6,20 @@ use rel_base::{Duplicate, Memory, Relation, Text};
 use std::alloc::Global;
 
 /// A relation that a name stands for.
-#[derive(Drop)]
 pub enum Held<'a> {
     /// The relation of a file, which is lent.
     Lent(&'a Relation),
     /// A relation that was made.
     Made(Relation),
+}
+
+// Written out, since a derived drop is proved anew at each place where a value is let go.
+impl<'a> Drop for Held<'a> {
+    fn drop(self) {
+        match self {
+            Held::Lent(_) | Held::Made(_) => {}
+        }
+    }
 }
 
 impl<'a> Held<'a> {
@@ -37,10 +45,16 @@ impl<'a> Held<'a> {
 }
 
 /// A name and the relation that was assigned to it.
-#[derive(Drop)]
 pub struct Assignment<'a> {
     /// The name.
     pub name: &'a Text,
     /// The relation.
     pub held: Held<'a>,
+}
+
+// Written out, since a derived drop is proved anew at each place where a value is let go.
+impl<'a> Drop for Assignment<'a> {
+    fn drop(self) {
+        let Assignment { name: _, held: _ } = self;
+    }
 }

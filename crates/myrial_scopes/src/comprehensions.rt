@@ -13,12 +13,21 @@ use rel_base::{Column, Duplicate, Memory, Schema, Text};
 use std::alloc::Global;
 
 /// A comprehension with places for its references.
-#[derive(Drop)]
 pub struct Comprehension {
     /// The conjuncts of its condition.
     pub conjuncts: Scalars,
     /// What it emits.
     pub emits: Vec<EmittedColumn>,
+}
+
+// Written out, since a derived drop is proved anew at each place where a value is let go.
+impl Drop for Comprehension {
+    fn drop(self) {
+        let Comprehension {
+            conjuncts: _,
+            emits: _,
+        } = self;
+    }
 }
 
 /// The name of a column without one, by its place in the output.

@@ -97,11 +97,21 @@ impl<'a> MeantItem<'a> {
 }
 
 /// A name, and what was assigned to it.
-#[derive(Drop)]
 struct Assigned<'a> {
     name: &'a Text,
     source: Source,
     schema: Schema,
+}
+
+// Written out, since a derived drop is proved anew at each place where a value is let go.
+impl<'a> Drop for Assigned<'a> {
+    fn drop(self) {
+        let Assigned {
+            name: _,
+            source: _,
+            schema: _,
+        } = self;
+    }
 }
 
 impl<'a> Model for Assigned<'a> {
@@ -114,11 +124,21 @@ impl<'a> Model for Assigned<'a> {
 }
 
 /// A key, and what was stored under it.
-#[derive(Drop)]
 struct Stored<'a> {
     key: &'a Key,
     source: Source,
     schema: Schema,
+}
+
+// Written out, since a derived drop is proved anew at each place where a value is let go.
+impl<'a> Drop for Stored<'a> {
+    fn drop(self) {
+        let Stored {
+            key: _,
+            source: _,
+            schema: _,
+        } = self;
+    }
 }
 
 impl<'a> Model for Stored<'a> {
@@ -134,10 +154,19 @@ impl<'a> Model for Stored<'a> {
 /// the statements.
 ///
 /// Contracts see the environment of the definitions, which has the latest first.
-#[derive(Drop)]
 pub(crate) struct Names<'a> {
     assigned: Vec<Assigned<'a>>,
     stored: Vec<Stored<'a>>,
+}
+
+// Written out, since a derived drop is proved anew at each place where a value is let go.
+impl<'a> Drop for Names<'a> {
+    fn drop(self) {
+        let Names {
+            assigned: _,
+            stored: _,
+        } = self;
+    }
 }
 
 impl<'a> Model for Names<'a> {

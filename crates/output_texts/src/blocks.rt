@@ -15,11 +15,20 @@ use std::marker::Model;
 /// A part of a text, and where it is cut into pieces. Contracts see the text.
 ///
 /// After `Memory` a call has left what was there, and a part of what it was to add.
-#[derive(Drop)]
 pub(crate) struct Block {
     text: Vec<u8>,
     // The length of each piece, from the front on. What is left behind them is a piece too.
     lengths: Vec<usize>,
+}
+
+// Written out, since a derived drop is proved anew at each place where a value is let go.
+impl Drop for Block {
+    fn drop(self) {
+        let Block {
+            text: _,
+            lengths: _,
+        } = self;
+    }
 }
 
 impl Model for Block {

@@ -17,12 +17,22 @@ use std::alloc::Global;
 
 /// A script without the steps that no store needs, whose joins test the rows of an atom before
 /// they are joined.
-#[derive(Debug, Drop)]
+#[derive(Debug)]
 pub struct Planned {
     /// The needed assignments, in order.
     pub steps: StepList,
     /// The stores.
     pub stores: Stores,
+}
+
+// Written out, since a derived drop is proved anew at each place where a value is let go.
+impl Drop for Planned {
+    fn drop(self) {
+        let Planned {
+            steps: _,
+            stores: _,
+        } = self;
+    }
 }
 
 /// Whether a source is the result of the statement of this number.

@@ -10,9 +10,15 @@ use std::marker::Model;
 use std::sync::Arc;
 
 /// Rows of one width that several lists share. They are let go with the last of them.
-#[derive(Drop)]
 pub struct Block {
     rows: Arc<FlatRows, Global>,
+}
+
+// Written out, since a derived drop is proved anew at each place where a value is let go.
+impl Drop for Block {
+    fn drop(self) {
+        let Block { rows: _ } = self;
+    }
 }
 
 impl Model for Block {

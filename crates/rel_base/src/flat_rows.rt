@@ -12,11 +12,21 @@ use std::marker::Model;
 
 /// Rows of one width, which stand value after value in one piece of memory. Contracts see the list
 /// of the rows.
-#[derive(Drop)]
 pub struct FlatRows {
     values: Vec<Value>,
     width: u32,
     len: u32,
+}
+
+// Written out, since a derived drop is proved anew at each place where a value is let go.
+impl Drop for FlatRows {
+    fn drop(self) {
+        let FlatRows {
+            values: _,
+            width: _,
+            len: _,
+        } = self;
+    }
 }
 
 impl Model for FlatRows {

@@ -13,9 +13,15 @@ use std::marker::Model;
 /// A list of at most 4,294,967,295 items, which contracts see as the list itself.
 ///
 /// It keeps the allocator that it was made with, so its own methods take none.
-#[derive(Drop)]
 pub struct Items<T> {
     items: Vec<T>,
+}
+
+// Written out, since a derived drop is proved anew at each place where a value is let go.
+impl<T: Drop> Drop for Items<T> {
+    fn drop(self) {
+        let Items { items: _ } = self;
+    }
 }
 
 /// A list of numbers, as the places of columns in a row.

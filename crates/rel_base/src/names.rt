@@ -8,7 +8,7 @@ use std::fmt;
 use std::marker::Model;
 
 /// The name of a relation: a user, a program and a name.
-#[derive(Debug, PartialEq, Eq, Hash, Drop)]
+#[derive(Debug, PartialEq, Eq, Hash)]
 pub struct Key {
     /// The user, `public` where a script names none.
     pub user: Text,
@@ -16,6 +16,17 @@ pub struct Key {
     pub program: Text,
     /// The name of the relation within the program.
     pub name: Text,
+}
+
+// Written out, since a derived drop is proved anew at each place where a value is let go.
+impl Drop for Key {
+    fn drop(self) {
+        let Key {
+            user: _,
+            program: _,
+            name: _,
+        } = self;
+    }
 }
 
 /// Keys, in order.
@@ -66,9 +77,15 @@ impl Duplicate for Key {
 pub type Stored = Items<(Key, Relation)>;
 
 /// Relations under distinct keys, in the order in which they came.
-#[derive(Drop)]
 pub struct Files {
     files: Items<(Key, Relation)>,
+}
+
+// Written out, since a derived drop is proved anew at each place where a value is let go.
+impl Drop for Files {
+    fn drop(self) {
+        let Files { files: _ } = self;
+    }
 }
 
 impl Model for Files {

@@ -7,12 +7,19 @@ use std::alloc::Global;
 use std::marker::Model;
 
 /// A column of a relation: its name, which may be any text, and the type of its values.
-#[derive(Debug, PartialEq, Eq, Drop)]
+#[derive(Debug, PartialEq, Eq)]
 pub struct Column {
     /// The name. Two columns of a relation may share one.
     pub name: Text,
     /// The type of each value that stands in this column.
     pub kind: ColType,
+}
+
+// Written out, since a derived drop is proved anew at each place where a value is let go.
+impl Drop for Column {
+    fn drop(self) {
+        let Column { name: _, kind: _ } = self;
+    }
 }
 
 /// The columns of a relation, in order.
@@ -35,10 +42,16 @@ impl Duplicate for Column {
 }
 
 /// A schema and rows, each of which has the schema's types.
-#[derive(Drop)]
 pub struct Relation {
     schema: Schema,
     rows: Rows,
+}
+
+// Written out, since a derived drop is proved anew at each place where a value is let go.
+impl Drop for Relation {
+    fn drop(self) {
+        let Relation { schema: _, rows: _ } = self;
+    }
 }
 
 impl Model for Relation {

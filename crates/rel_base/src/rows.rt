@@ -26,10 +26,16 @@ use std::{fmt, mem};
 /// own, as they were pushed. What copies, views and puts together copies no row that is shared;
 /// `freeze` shares the list's own rows by a move. Rows of one width stand value after value, and
 /// each is lent as a slice of values.
-#[derive(Drop)]
 pub struct Rows {
     shared: SharedRows,
     own: FlatRows,
+}
+
+// Written out, since a derived drop is proved anew at each place where a value is let go.
+impl Drop for Rows {
+    fn drop(self) {
+        let Rows { shared: _, own: _ } = self;
+    }
 }
 
 impl Model for Rows {

@@ -15,11 +15,21 @@ use std::marker::Model;
 
 /// Shared rows, seen as the list of the rows. Each stretch has a row at least, and `starts` has
 /// the number of its first.
-#[derive(Drop)]
 pub struct SharedRows {
     stretches: Vec<Stretch>,
     starts: Vec<u32>,
     len: u32,
+}
+
+// Written out, since a derived drop is proved anew at each place where a value is let go.
+impl Drop for SharedRows {
+    fn drop(self) {
+        let SharedRows {
+            stretches: _,
+            starts: _,
+            len: _,
+        } = self;
+    }
 }
 
 impl Model for SharedRows {

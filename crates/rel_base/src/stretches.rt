@@ -12,19 +12,41 @@ use std::alloc::Global;
 use std::marker::Model;
 
 /// Rows of one shared block. A row may stand more than once.
-#[derive(Drop)]
 pub struct Stretch {
     block: Block,
     selection: Selection,
 }
 
+// Written out, since a derived drop is proved anew at each place where a value is let go.
+impl Drop for Stretch {
+    fn drop(self) {
+        let Stretch {
+            block: _,
+            selection: _,
+        } = self;
+    }
+}
+
 /// Places in a block.
-#[derive(Drop)]
 pub enum Selection {
     /// So many places, a step apart.
     Every { start: u32, step: u32, len: u32 },
     /// These places.
     At { places: Vec<u32> },
+}
+
+// Written out, since a derived drop is proved anew at each place where a value is let go.
+impl Drop for Selection {
+    fn drop(self) {
+        match self {
+            Selection::Every {
+                start: _,
+                step: _,
+                len: _,
+            }
+            | Selection::At { places: _ } => {}
+        }
+    }
 }
 
 impl Model for Stretch {

@@ -17,18 +17,32 @@ use std::mem::size_of;
 ///
 /// The text stands behind one pointer, so that a `Value` has 16 bytes. A short one takes one
 /// allocation, of 24 bytes.
-#[derive(Drop)]
 pub struct Text {
     boxed: Box<Letters>,
 }
 
+// Written out, since a derived drop is proved anew at each place where a value is let go.
+impl Drop for Text {
+    fn drop(self) {
+        let Text { boxed: _ } = self;
+    }
+}
+
 /// Where the bytes of a text stand.
-#[derive(Drop)]
 pub enum Letters {
     /// In the value itself.
     Short(ShortText),
     /// In memory of their own.
     Long(Box<String>),
+}
+
+// Written out, since a derived drop is proved anew at each place where a value is let go.
+impl Drop for Letters {
+    fn drop(self) {
+        match self {
+            Letters::Short(_) | Letters::Long(_) => {}
+        }
+    }
 }
 
 // A piece of memory of 24 bytes is the least that `malloc` gives.

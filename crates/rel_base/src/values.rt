@@ -19,7 +19,7 @@ pub enum ColType {
 ///
 /// Values of one type are ordered by number, by bytes, and false before true. Between types an int
 /// comes before a string and a string before a boolean.
-#[derive(Debug, Drop)]
+#[derive(Debug)]
 pub enum Value {
     /// A number.
     Int(i64),
@@ -27,6 +27,15 @@ pub enum Value {
     Str(Text),
     /// A truth value.
     Bool(bool),
+}
+
+// Written out, since a derived drop is proved anew at each place where a value is let go.
+impl Drop for Value {
+    fn drop(self) {
+        match self {
+            Value::Int(_) | Value::Str(_) | Value::Bool(_) => {}
+        }
+    }
 }
 
 const _: () = prove!(size_of::<Value>() == 16);

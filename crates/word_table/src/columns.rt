@@ -14,11 +14,17 @@ pub struct WordRange {
 }
 
 /// The words of one column beside their range, which contracts see as the list of the words.
-#[derive(Drop)]
 pub(crate) struct WordColumn {
     words: Vec<u64>,
     /// Of no words the range is of no meaning.
     range: WordRange,
+}
+
+// Written out, since a derived drop is proved anew at each place where a value is let go.
+impl Drop for WordColumn {
+    fn drop(self) {
+        let WordColumn { words: _, range: _ } = self;
+    }
 }
 
 impl Model for WordColumn {

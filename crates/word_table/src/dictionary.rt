@@ -20,9 +20,15 @@ use std::marker::Model;
 /// A value has a word under a dictionary: an int is its number plus 2^63, a boolean 0 or 1, and a
 /// string its rank among the strings. Words of one type compare as their values do; words of two
 /// types may coincide.
-#[derive(Drop)]
 pub struct Dictionary {
     texts: Texts,
+}
+
+// Written out, since a derived drop is proved anew at each place where a value is let go.
+impl Drop for Dictionary {
+    fn drop(self) {
+        let Dictionary { texts: _ } = self;
+    }
 }
 
 impl Model for Dictionary {

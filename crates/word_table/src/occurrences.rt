@@ -18,11 +18,20 @@ use std::alloc::Global;
 
 /// Words of the values of one column, where the word of a string is still the number of an
 /// occurrence of it.
-#[derive(Drop)]
 pub(crate) struct GatheredColumn {
     pub(crate) words: Vec<u64>,
     /// Where the strings stand among the values, in ascending order.
     pub(crate) places: Vec<u64>,
+}
+
+// Written out, since a derived drop is proved anew at each place where a value is let go.
+impl Drop for GatheredColumn {
+    fn drop(self) {
+        let GatheredColumn {
+            words: _,
+            places: _,
+        } = self;
+    }
 }
 
 impl GatheredColumn {

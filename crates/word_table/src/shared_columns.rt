@@ -8,9 +8,15 @@ use std::marker::Model;
 use std::sync::Arc;
 
 /// Columns that several tables share. They are let go with the last of them.
-#[derive(Drop)]
 pub(crate) struct SharedColumns {
     columns: Arc<Vec<WordColumn>, Global>,
+}
+
+// Written out, since a derived drop is proved anew at each place where a value is let go.
+impl Drop for SharedColumns {
+    fn drop(self) {
+        let SharedColumns { columns: _ } = self;
+    }
 }
 
 impl Model for SharedColumns {

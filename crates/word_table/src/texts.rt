@@ -13,12 +13,22 @@ use std::marker::Model;
 /// Strings one behind another in one piece of memory, which contracts see as their list.
 ///
 /// What a search reads, the keys, lies apart from what is read where a string is lent.
-#[derive(Drop)]
 pub(crate) struct Texts {
     letters: String,
     /// Where each string begins, and at last where the last one ends.
     starts: Vec<usize>,
     keys: Vec<TextKeys>,
+}
+
+// Written out, since a derived drop is proved anew at each place where a value is let go.
+impl Drop for Texts {
+    fn drop(self) {
+        let Texts {
+            letters: _,
+            starts: _,
+            keys: _,
+        } = self;
+    }
 }
 
 impl Model for Texts {

@@ -9,13 +9,23 @@ use std::alloc::Global;
 /// The parts that are like none before them, and which of these each part is.
 ///
 /// A join of a relation with itself has equal parts where no row moves, as at one worker.
-#[derive(Drop)]
 pub(crate) struct UnlikeParts<'a> {
     pub(crate) parts: Vec<&'a Rows>,
     /// The number of columns of each.
     pub(crate) widths: Vec<u32>,
     /// For each of all parts the place of the one that it is like.
     pub(crate) places: Vec<usize>,
+}
+
+// Written out, since a derived drop is proved anew at each place where a value is let go.
+impl<'a> Drop for UnlikeParts<'a> {
+    fn drop(self) {
+        let UnlikeParts {
+            parts: _,
+            widths: _,
+            places: _,
+        } = self;
+    }
 }
 
 impl<'a> UnlikeParts<'a> {

@@ -1,4 +1,4 @@
-use Rattle.std.proofs.Common.{◌≡◌, ◌∙◌, ◌+◌, ◌%◌, ◌++◌, sym, ap, append-nil, length, length-append, arith}
+use Rattle.std.proofs.Common.{◌≡◌, ◌∙◌, ◌+◌, ◌%◌, ◌^◌, ◌<◌, ◌++◌, sym, ap, append-nil, length, length-append, arith}
 use Rattle.rel_base.specs.Picks.{every_nth}
 use Rattle.rel_base.proofs.StrideLemmas.{every_nth-append, length-every_nth}
 use Rattle.rel_base.proofs.rows.Rows.every_nth.Goals as goal
@@ -17,15 +17,31 @@ both c =
     ap (λ xs. xs ++ c.in_ok-own.own) c.in_ok-shared.ensures ∙ ap (λ xs. every_nth shared step start ++ xs) c.in_ok-own.ensures
     ∙ sym apart ∙ ap (λ xs. every_nth xs step start) c.self.view_is
 
-pub share-requires : goal.share-requires
-share-requires c = omega (
+-- there are no more of them than rows in all
+within : (c : In_ok-own) → length c.in_ok-shared.shared + length c.in_ok-own.own < 2 ^ 32
+within c = omega (
   arith,
-  ap length (both (goal.at.share-requires c).In_ok-own),
+  ap length (both c),
   length-append c.in_ok-shared.shared c.in_ok-own.own,
   length-every_nth c.args.self.now c.args.step c.args.start,
   ap length c.self.view_is,
   c.self.invariant,
 )
+
+pub share-requires : goal.share-requires
+share-requires c = within (goal.at.share-requires c).In_ok-own
+
+pub invariant_of-result : goal.invariant_of-result
+invariant_of-result c =
+    let shared = c.in_ok-share.ensures.ok in
+    omega (
+      arith,
+      within (goal.at.invariant_of-result c).In_ok-own,
+      length-append c.share.new.shared c.share.new.own,
+      length-append c.in_ok-shared.shared c.in_ok-own.own,
+      ap length shared.0,
+      ap length shared.1,
+    )
 
 pub returns : goal.returns
 returns c =
