@@ -29,19 +29,12 @@ impl Drop for Operand {
 }
 
 /// How the file of a load is read.
-#[derive(Debug)]
+#[derive(Debug, Drop)]
 pub struct LoadForm {
     /// The columns that the script writes.
     pub schema: Schema,
     /// How many records are passed over.
     pub skip: u64,
-}
-
-// Written out, since a derived drop is proved anew at each place where a value is let go.
-impl Drop for LoadForm {
-    fn drop(self) {
-        let LoadForm { schema: _, skip: _ } = self;
-    }
 }
 
 /// An item of a comprehension.

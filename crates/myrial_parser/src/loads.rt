@@ -3,16 +3,10 @@ use myrial_ast::LoadForm;
 use rel_base::Text;
 
 /// A file without a header.
+#[derive(Drop)]
 pub struct Load {
     /// Its name.
     pub file: Text,
     /// How it is read.
     pub form: LoadForm,
-}
-
-// Written out, since a derived drop is proved anew at each place where a value is let go.
-impl Drop for Load {
-    fn drop(self) {
-        let Load { file: _, form: _ } = self;
-    }
 }

@@ -74,8 +74,10 @@ impl LocalJoin for Refusing {
 /// Whether one of these rows begins with the number 3.
 fn has_three(rows: &Rows) -> bool {
     for row in rows {
-        if let [Value::Int(3), ..] = row {
-            return true;
+        if let [Value::Int(number), ..] = row {
+            if *number == 3 {
+                return true;
+            }
         }
     }
     false
