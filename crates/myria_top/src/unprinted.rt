@@ -39,21 +39,12 @@ use std::sync::Wait;
 use std::thread::Threads;
 
 /// A text that is not printed yet, and the receipts of the run that it is of.
+#[derive(Drop)]
 pub struct Unprinted {
     /// The text.
     pub text: Pieces,
     /// What was sent in the exchanges of the run.
     pub receipts: Receipts,
-}
-
-// Written out, since a derived drop is proved anew at each place where a value is let go.
-impl Drop for Unprinted {
-    fn drop(self) {
-        let Unprinted {
-            text: _,
-            receipts: _,
-        } = self;
-    }
 }
 
 /// What the run of a script over its files comes to.
