@@ -28,6 +28,7 @@ impl Drop for SpreadStore {
 pub type SpreadStores = Items<SpreadStore>;
 
 /// What a run gives.
+#[derive(Drop)]
 pub struct Ran {
     /// What is stored.
     pub stored: SpreadStores,
@@ -38,16 +39,4 @@ pub struct Ran {
     /// The receipts of the exchanges: one for each, but for a `diff`, which has one for the rows of
     /// each operand.
     pub receipts: Receipts,
-}
-
-// Written out, since a derived drop is proved anew at each place where a value is let go.
-impl Drop for Ran {
-    fn drop(self) {
-        let Ran {
-            stored: _,
-            plan: _,
-            traffic: _,
-            receipts: _,
-        } = self;
-    }
 }
