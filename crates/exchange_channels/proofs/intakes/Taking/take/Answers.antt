@@ -1,4 +1,5 @@
-use Rattle.std.proofs.Common.{◌≡◌, ◌∙◌, ℕ, true, List, [], ◌∷◌, ◌++◌, Bool, length, set, Result, sym, subst, ap, length-set}
+use Rattle.std.proofs.Common.{◌≡◌, ◌∙◌, ℕ, true, List, [], ◌∷◌, ◌++◌, Bool, length, set, Result, sym, subst, ap, length-set, arith}
+use Rattle.std.proofs.lemmas.Grind.{common_steps}
 use Rattle.std.specs.Prelude.{IfOk, IsOkAnd}
 use Rattle.std.proofs.lemmas.List.{with_items_is}
 use Rattle.rel_base.specs.declared.failure.Memory.{Memory}
@@ -31,3 +32,9 @@ invariant_of-self-in-None g c =
     subst (λ (t : PortState × List Bool). IsTaking (record { port = t.0; ended = t.1; drained = c.self.inside.drained }))
     (λ i. (sym port i, sym (with_items_is c.self.inside.ended c.note.new.ended long ∙ noted) i))
     (IsTaking-end c.self.inside.port c.self.inside.ended.items c.self.inside.drained c.take-sender.result.sender c.self.invariant)
+
+pub returns-in-Some-clause-taken : goal.returns-in-Some-clause-taken
+returns-in-Some-clause-taken g c = grind (arith, common_steps)
+
+pub returns-in-None-clause-taken : goal.returns-in-None-clause-taken
+returns-in-None-clause-taken g c = grind (arith, common_steps)

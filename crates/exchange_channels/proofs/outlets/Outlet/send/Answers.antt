@@ -1,4 +1,5 @@
 use Rattle.std.proofs.Common.{◌<◌, ◌∙◌, length, ap, arith}
+use Rattle.std.proofs.lemmas.Grind.{common_steps}
 use Rattle.std.proofs.lemmas.List.{length-map}
 use Rattle.exchange_channels.specs.Messages.{batch_of}
 use Rattle.exchange_channels.specs.Ports.{PortState}
@@ -14,3 +15,15 @@ returns g c =
     outlet_of-set c.self.inside.number c.self.inside.senders c.self.inside.capacity c.self.inside.ports.items c.args.cell c.index_mut.result.now c.send.new.self
     (batch_of c.self.inside.number c.args.batch) here (c.send.ensures ∙ ap (λ (p : PortState). port_with_sent p (batch_of c.self.inside.number c.args.batch)) c.index_mut.ensures.value)
     ∙ ap (λ (o : OutletState). with_sent_to o c.args.cell (batch_of o.sender c.args.batch)) c.self.view_is
+
+pub invariant_of-self : goal.invariant_of-self
+invariant_of-self g c = grind (arith, common_steps)
+
+pub send-requires-clause-sender : goal.send-requires-clause-sender
+send-requires-clause-sender g c = grind (arith, common_steps)
+
+pub send-requires-clause-running : goal.send-requires-clause-running
+send-requires-clause-running g c = grind (arith, common_steps)
+
+pub index_mut-requires : goal.index_mut-requires
+index_mut-requires g c = grind (arith, common_steps)
