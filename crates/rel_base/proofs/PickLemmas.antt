@@ -136,3 +136,9 @@ module _ {X : Type 0} where
       let there = one_item xs (get_or ps n 0) some.0 (within n 0 n-low) in
       let rest = items_at-items_at xs ps ns within (λ k d less. low (suc k) d (omega arith)) in
       rw (here, there, get_or-items_at xs ps n some.0 0 within n-low, rest) refl
+
+-- behind the elements that were written over, each is as it was
+pub get_or-past_map : {X : Type 0} (f : X → X) (xs : List X) (i : ℕ) (d : X) → i < length xs → get_or (map f (take i xs) ++ drop i xs) i d ≡ get_or xs i d
+get_or-past_map f [] i d low = absurd (omega arith)
+get_or-past_map f (x ∷ xs) zero d low = refl
+get_or-past_map f (x ∷ xs) (suc i) d low = get_or-past_map f xs i d (omega arith)

@@ -1,4 +1,5 @@
 use Rattle.std.proofs.Common.{◌≡◌, ◌∙◌, ◌+◌, ◌<◌, All, sym, ap, length, length-append, take, arith, rules}
+use Rattle.std.proofs.lemmas.Grind.{common_steps}
 use Rattle.std.proofs.lemmas.List.{length-take-le}
 use Rattle.rel_base.specs.Picks.{items_at}
 use Rattle.rel_base.proofs.PickLemmas.{length-items_at}
@@ -44,3 +45,18 @@ pub returns-clause-bound : goal.returns-clause-bound
 returns-clause-bound c =
     let both = copied (goal.at.returns-clause-bound c).In_ok-copies in
     omega (arith, both.0, ap length (c.whole.ensures ∙ c.in_ok-block.ensures.ok), c.run_length-count.ensures.bound)
+
+pub returns-then-places-first-clause-bound : goal.returns-then-places-first-clause-bound
+returns-then-places-first-clause-bound c = grind (arith, common_steps)
+
+pub bounds-places-0 : goal.bounds-places-0
+bounds-places-0 c = grind (arith, common_steps)
+
+pub run_at-requires-clause-first : goal.run_at-requires-clause-first
+run_at-requires-clause-first c = grind (arith, common_steps)
+
+pub copies_at-requires : goal.copies_at-requires
+copies_at-requires c = grind (arith, common_steps)
+
+pub returns-clause-some : goal.returns-clause-some
+returns-clause-some c = grind (arith, common_steps)

@@ -1,4 +1,5 @@
 use Rattle.std.proofs.Common.{◌≡◌, ap, arith, rules, ◌<◌, ◌+◌, ◌++◌, ◌^◌, length, length-append, take, map, List}
+use Rattle.std.proofs.lemmas.Grind.{common_steps}
 use Rattle.std.proofs.lemmas.List.{length-take-le}
 use Rattle.std.proofs.lemmas.List.Concat.{flat_map-append}
 use Rattle.std.proofs.lemmas.List.Elements.{All-append}
@@ -32,3 +33,15 @@ invariant_of-self-2 c =
     let sum : c.self.inside.len + c.other.inside.len ≡ length (joined c.append.new.self.items) =
     rw (lists, flat_map-append (λ (xs : List (List Value)). xs) xss yss) (omega (arith, c.self.invariant.0, c.other.invariant.0, length-append (joined xss) (joined yss))) in
     (sum, rw (lists, moved, front, count, c.deref.ensures.value, c.self.invariant.0) both, rw lists (All-append (λ (s : List (List Value)). 0 < length s) xss yss c.self.invariant.2 c.other.invariant.2))
+
+pub returns-clause-ok : goal.returns-clause-ok
+returns-clause-ok c = grind (arith, common_steps)
+
+pub invariant_of-self : goal.invariant_of-self
+invariant_of-self c = grind (arith, common_steps)
+
+pub invariant_of-self-in_err-append : goal.invariant_of-self-in_err-append
+invariant_of-self-in_err-append c = grind (arith, common_steps)
+
+pub overflow_add-self : goal.overflow_add-self
+overflow_add-self c = grind (arith, common_steps)
