@@ -13,3 +13,6 @@ returns-clause-kept c = grind (arith, common_steps)
 
 pub overflow_add-by : goal.overflow_add-by
 overflow_add-by c = grind (arith, common_steps)
+
+pub returns-in_err-push-clause-kept : goal.returns-in_err-push-clause-kept
+returns-in_err-push-clause-kept c = grind (arith, common_steps)
