@@ -1,4 +1,5 @@
 use Rattle.std.proofs.Common.{ℕ, ◌+◌, ◌-◌, List, ◌++◌, length, take, drop, Option, ◌∙◌, sym, ap, subst, arith}
+use Rattle.std.proofs.lemmas.Grind.{common_steps}
 use Rattle.std.proofs.Math.Seq.{take-add}
 use Rattle.std.proofs.lemmas.List.{take_rest}
 use Rattle.std.specs.Io.KnownBytes.{Appends}
@@ -21,3 +22,6 @@ loop-done-preserved g c =
       faults = omega (arith, kept.faults, written.faults);
       wants = omega (arith, kept.wants, written.wants);
     }
+
+pub returns : goal.returns
+returns g c = grind (arith, common_steps)
