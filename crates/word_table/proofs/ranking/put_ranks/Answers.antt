@@ -1,4 +1,5 @@
 use Rattle.std.proofs.Common.{◌≡◌, ◌<◌, length, get_or, ap, ◌∙◌, arith, rules}
+use Rattle.std.proofs.lemmas.Grind.{common_steps}
 use Rattle.std.proofs.lemmas.List.{get_or_default}
 use Rattle.std.proofs.Math.ListN.{set}
 use Rattle.word_table.proofs.RankLemmas.{HasRanks-more, kept-before}
@@ -42,3 +43,6 @@ loop-place-preserved c =
     let read : c.index-number.result.now ≡ get_or mid q 0 = c.index-number.ensures ∙ get_or_default mid q c.index-number.result.now 0 (omega arith) in
     HasRanks-more places count q ranks c.args.words.now.items mid (set mid q (get_or ranks c.index-number.result.now 0)) c.requires.ascending there (get_or_default places count 0 q there) within
     (ap (λ n. set mid q (get_or ranks n 0)) read) c.loop-place.invariant
+
+pub returns : goal.returns
+returns c = grind (arith, common_steps)

@@ -1,4 +1,5 @@
 use Rattle.std.proofs.Common.{◌≡◌, ◌+◌, ◌<◌, ◌∷◌, ◌++◌, [], List, All, length, get_or, take, ap, ◌∙◌, sym, subst, arith, append-nil}
+use Rattle.std.proofs.lemmas.Grind.{common_steps}
 use Rattle.std.specs.Borrow.{Bor}
 use Rattle.std.proofs.lemmas.List.{take_more}
 use Rattle.std.proofs.lemmas.List.Concat.{flat_map-append, flat_map-cons}
@@ -45,3 +46,12 @@ loop-place-preserved c =
           (AreGathered-more c.args.widths.now parts place c.loop-place.columns.items part old later (strings_of_rows rows) there added
           (subst (λ rs. IsGatheredPart rs width part later) is c.in_ok-part.ensures.gathered) c.loop-place.invariant.gathered);
     }
+
+pub bounds-widths-place : goal.bounds-widths-place
+bounds-widths-place c = grind (arith, common_steps)
+
+pub returns-clause-strings : goal.returns-clause-strings
+returns-clause-strings c = grind (arith, common_steps)
+
+pub returns-clause-gathered : goal.returns-clause-gathered
+returns-clause-gathered c = grind (arith, common_steps)

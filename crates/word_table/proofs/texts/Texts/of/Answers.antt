@@ -1,4 +1,5 @@
 use Rattle.std.proofs.Common.{◌≡◌, ◌+◌, ◌++◌, ◌∷◌, [], get_or, take, string_bytes, subst, sym, ap, ◌∙◌, arith}
+use Rattle.std.proofs.lemmas.Grind.{common_steps}
 use Rattle.std.proofs.lemmas.List.{get_or_default, take_more}
 use Rattle.word_table.specs.inner.TextKeys.{AreKeysOf}
 use Rattle.word_table.proofs.TextLemmas.{AreCopies-next}
@@ -25,3 +26,6 @@ loop-string-preserved c =
     (c.len.ensures ∙ c.push_str.new.self.bytes.ok.0)
     c.in_ok-push-2.ensures.items
     c.in_ok-push-3.ensures.items
+
+pub returns : goal.returns
+returns c = grind (arith, common_steps)

@@ -1,4 +1,5 @@
 use Rattle.std.proofs.Common.{◌≡◌, ◌+◌, ◌<◌, ◌∷◌, ◌++◌, [], List, length, take, ap, sym, ◌∙◌, subst, arith}
+use Rattle.std.proofs.lemmas.Grind.{common_steps}
 use Rattle.std.proofs.lemmas.List.{take_more}
 use Rattle.rel_base.specs.declared.values.Value.{Value}
 use Rattle.word_table.specs.inner.Unlike.{parts_in, AreUnlike}
@@ -17,3 +18,6 @@ loop-place-preserved c =
     subst (λ ps. AreUnlike ps (take (place + 1) widths) (parts_in new.parts.items) new.widths.items new.places.items) (sym rows)
     (subst (λ ws. AreUnlike (take place parts ++ c.index-parts-place.result ∷ []) ws (parts_in new.parts.items) new.widths.items new.places.items) (sym (take_more widths place 0 as_wide))
     (c.in_ok-add.ensures (take place parts) (take place widths) c.loop-place.invariant))
+
+pub returns : goal.returns
+returns c = grind (arith, common_steps)
