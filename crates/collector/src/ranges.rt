@@ -112,6 +112,21 @@ impl<'s, 'a> Rests<'s, 'a> {
         }
         Ok(RowRange { runs })
     }
+
+    /// The ranges into which these rows cut all that are left.
+    fn ranges(self, alloc: Global, splitters: &[&[Value]]) -> Result<Vec<RowRange<'s, 'a>>, Memory>
+        ensures { IfOk result (λ ranges. joined ranges.items ≡ self.entry) }
+    {
+        let mut ranges = Vec::new(alloc);
+        let mut left = self;
+        for splitter in splitters {
+            let (range, rests) = left.cut(alloc, *splitter)?;
+            ranges.push(range)?;
+            left = rests;
+        }
+        ranges.push(left.all(alloc)?)?;
+        Ok(ranges)
+    }
 }
 
 /// The rows of sorted parts, cut into ranges.
@@ -122,15 +137,7 @@ pub(crate) fn ranges_of<'s, 'a>(
     ensures { IfOk result (λ ranges. joined ranges.items ≡ sorted (joined parts.entry.now)) }
 {
     let splitters = splitters_of(alloc, parts)?;
-    let mut ranges = Vec::new(alloc);
-    let mut left = Rests::of(alloc, parts)?;
-    for splitter in splitters {
-        let (range, rests) = left.cut(alloc, splitter)?;
-        ranges.push(range)?;
-        left = rests;
-    }
-    ranges.push(left.all(alloc)?)?;
-    Ok(ranges)
+    Rests::of(alloc, parts)?.ranges(alloc, &splitters)
 }
 
 /// Rows that cut all rows into ranges of about as many each. Any rows would serve, so nothing is
