@@ -1,4 +1,5 @@
 use Rattle.std.proofs.Common.{◌≡◌, ◌+◌, ◌≤◌, ◌∷◌, [], ◌++◌, Bool, true, false, cond, length, drop, ap, subst, sym, arith, length-append}
+use Rattle.std.proofs.lemmas.Grind.{common_steps}
 use Rattle.std.proofs.lemmas.List.{length-map, length-drop}
 use Rattle.std.specs.Borrow.{Bor}
 use Rattle.myrial_ast.specs.Combinations.{Row, Rows}
@@ -33,3 +34,6 @@ loop-done-preserved c =
     one : (b : Bool) → length (cond b [] (c.index-left-0.result.now ∷ [])) ≤ 1
     one true = omega arith
     one false = omega arith
+
+pub returns : goal.returns
+returns c = grind (arith, common_steps)

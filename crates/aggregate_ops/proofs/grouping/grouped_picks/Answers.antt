@@ -1,11 +1,12 @@
 use Rattle.std.proofs.Common.{◌≡◌, true, List, map, All, Err, IfErr, sym, subst, rules}
+use Rattle.rel_base.specs.Bags.{SameBag}
 use Rattle.myrial_ast.specs.declared.scalars.Scalar as code
 use Rattle.myrial_ast.specs.Combinations.{emitted}
 use Rattle.myrial_ast.specs.Groups.{row_fits}
 use Rattle.myrial_ast.specs.ScalarTrees.{scalar_tree_of}
 use Rattle.algebra.specs.Trees.{kind_of_emit}
 use Rattle.aggregate_ops.specs.Columns.{Overflows}
-use Rattle.aggregate_ops.specs.Forms.{results_fit}
+use Rattle.aggregate_ops.specs.Forms.{results, results_fit}
 use Rattle.aggregate_ops.proofs.EmitLemmas.{all-picks-fit}
 use Rattle.aggregate_ops.proofs.grouping.grouped_picks.Goals as goal
 
@@ -42,3 +43,11 @@ returns-in-Some-2-clause-numbers c =
     all-picks-fit (map scalar_tree_of c.args.picks.now) c.args.rows.now c.requires.picks
     (subst (λ (picks : List code.Scalar). All (λ row. row_fits row ≡ true) (map (emitted (map scalar_tree_of picks)) c.args.rows.now))
     c.as_slice.ensures.value all)
+
+pub returns-in-Some-2-clause-bag : goal.returns-in-Some-2-clause-bag
+returns-in-Some-2-clause-bag c =
+    let done = results c.args.form (map kind_of_emit c.args.kinds.now) in
+    let same : SameBag (done (map (emitted (map scalar_tree_of c.as_slice.result.now)) c.args.rows.now)) c.in-Some-2.made =
+    rw c.in-Some-2.is at c.in_ok-made-2.ensures.bag in
+    subst (λ (picks : List code.Scalar). SameBag (done (map (emitted (map scalar_tree_of picks)) c.args.rows.now)) c.in-Some-2.made)
+    c.as_slice.ensures.value same

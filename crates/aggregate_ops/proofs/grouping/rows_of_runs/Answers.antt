@@ -1,4 +1,5 @@
 use Rattle.std.proofs.Common.{◌≡◌, ◌∙◌, ◌+◌, ◌≤◌, ◌∷◌, [], ◌++◌, length, map, take, drop, arith, ap, subst, sym, length-append}
+use Rattle.std.proofs.lemmas.Grind.{common_steps}
 use Rattle.std.proofs.lemmas.List.{length-map, length-drop, drop-drop}
 use Rattle.myrial_ast.specs.Combinations.{Rows}
 use Rattle.myrial_ast.specs.Groups.{group_row}
@@ -42,3 +43,9 @@ returns-in-Err-clause-fault c =
     let front : rows_of c.front.result ≡ take count (drop c.loop-done.done rows) = c.front.ensures ∙ ap (take count) left in
     one-overflows-as c.args.form (map kind_of_emit c.args.kinds.now) c.args.places.now rows c.loop-done.made (drop c.loop-done.done rows) count c.in-Err.fault
     c.requires.places c.loop-done.invariant.left run (rw front at c.in-Err.ensures.fault)
+
+pub returns-clause-rows : goal.returns-clause-rows
+returns-clause-rows c = grind (arith, common_steps)
+
+pub returns-clause-fits : goal.returns-clause-fits
+returns-clause-fits c = grind (arith, common_steps)

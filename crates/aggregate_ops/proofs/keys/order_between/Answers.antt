@@ -1,4 +1,5 @@
 use Rattle.std.proofs.Common.{◌<◌, ◌∙◌, ap, sym, [], length, get_or, arith}
+use Rattle.std.proofs.lemmas.Grind.{common_steps}
 use Rattle.std.proofs.lemmas.List.{get_or-map, length-map}
 use Rattle.rel_base.specs.Values.{row_order}
 use Rattle.aggregate_ops.specs.Columns.{key_at}
@@ -15,3 +16,6 @@ returns-in-Packed c =
     c.order_of_words.ensures
     ∙ (λ k. row_order (key_at places (sym (get_or-map row words c.args.i 0 [] one) k)) (key_at places (sym (get_or-map row words c.args.j 0 [] other) k)))
     ∙ sym (ap (λ r. row_order (key_at places (get_or (rows_of r) c.args.i [])) (key_at places (get_or (rows_of r) c.args.j []))) c.in-Packed.is)
+
+pub returns-in-Lent : goal.returns-in-Lent
+returns-in-Lent c = grind (arith, common_steps)

@@ -1,4 +1,5 @@
 use Rattle.std.proofs.Common.{◌≡◌, ◌+◌, ◌≤◌, ◌∷◌, [], ◌++◌, Bool, true, false, cond, length, map, drop, get_or, ap, subst, sym, arith, length-append}
+use Rattle.std.proofs.lemmas.Grind.{common_steps}
 use Rattle.std.proofs.lemmas.List.{get_or-map, length-map, length-drop}
 use Rattle.myrial_ast.specs.Combinations.{Rows}
 use Rattle.aggregate_ops.specs.inner.Reading.{unpacked_row}
@@ -33,3 +34,6 @@ loop-done-preserved c =
     one : (b : Bool) → length (cond b [] (unpacked_row c.args.columns.now (get_or (drop c.loop-done.done c.args.words.now) 0 0) ∷ [])) ≤ 1
     one true = omega arith
     one false = omega arith
+
+pub returns : goal.returns
+returns c = grind (arith, common_steps)
