@@ -1,4 +1,5 @@
 use Rattle.std.proofs.Common.{◌≡◌, ◌∙◌, ◌==◌, true, false, cond, length, sym, ap, arith}
+use Rattle.std.proofs.lemmas.Grind.{common_steps}
 use Rattle.std.specs.Prelude.{set}
 use Rattle.std.proofs.lemmas.Bool.Decides.{nat_tests}
 use Rattle.regular_shuffle.proofs.MovingLemmas.{set-back}
@@ -17,3 +18,12 @@ loop-present-preserved c =
     let elsewhere : (length c.pop.new.self == a.atom) ≡ false = grind (arith, nat_tests, c.if-len-atom.false, c.len-in-Some.ensures) in
     set-back c.loop-present.parts c.pop.new.self c.loop-present.backwards.items c.push-else-len-atom.new.self.items (set a.parts a.atom a.rows.now) a.atom a.rows.now c.in-Some.present c.in-Some.present
     c.in-Some.ensures.items c.in_ok-push-2.ensures.items (sym (ap (λ b. cond b a.rows.now c.in-Some.present) elsewhere)) c.loop-present.invariant
+
+pub loop-present-smaller-then-len-atom : goal.loop-present-smaller-then-len-atom
+loop-present-smaller-then-len-atom c = grind (arith, common_steps)
+
+pub loop-present-smaller : goal.loop-present-smaller
+loop-present-smaller c = grind (arith, common_steps)
+
+pub returns : goal.returns
+returns c = grind (arith, common_steps)
