@@ -308,16 +308,21 @@ unfolding same_symbol
 condition-stops _ _ rest absent = refl
 condition-stops _ _ rest (present ts e h) = refl
 
+bracketed_emits-all : (vs : Input) (emits : List EmitTree) (rest : Input) → Separated IsEmit vs emits → d.bracketed_emits (Fixed s.Emit ∷ (vs ++ (Fixed s.CloseBracket ∷ rest))) ≡ Some (emits, rest)
+unfolding d.bracketed_emits same_symbol
+bracketed_emits-all vs emits rest h =
+    ap (λ (o : Parsed (List EmitTree)). o >>= λ all rest. expect s.CloseBracket rest >>= λ _ end. Some (all, end)) (emits-complete.reads vs emits (Fixed s.CloseBracket ∷ rest) h refl)
+
 comprehension-all : (ts us vs : Input) (items : List FromItem) (condition : Option Tree) (emits : List EmitTree) (rest : Input) → Separated IsItem ts items → IsCondition us condition → Separated IsEmit vs emits
     → d.comprehension (Fixed s.From ∷ (ts ++ us ++ Fixed s.Emit ∷ vs ++ Fixed s.CloseBracket ∷ []) ++ rest) ≡ Some (tree.From items condition emits, rest)
 unfolding d.comprehension same_symbol
 comprehension-all ts us vs items condition emits rest h k l =
     ap (λ (i : Input). d.comprehension (Fixed s.From ∷ i)) joined
-    ∙ ap (λ (o : Parsed (List FromItem)). o >>= λ from rest. d.condition rest >>= λ where_ rest. expect s.Emit rest >>= λ _ rest. separated d.emit rest >>= λ all rest. expect s.CloseBracket rest >>= λ _ end. Some (tree.From from where_ all, end))
+    ∙ ap (λ (o : Parsed (List FromItem)). o >>= λ from rest. d.condition rest >>= λ where_ rest. d.bracketed_emits rest >>= λ all end. Some (tree.From from where_ all, end))
     (items-complete.reads ts items (us ++ (Fixed s.Emit ∷ (vs ++ (Fixed s.CloseBracket ∷ rest)))) h (condition-stops us condition (vs ++ Fixed s.CloseBracket ∷ rest) k))
-    ∙ ap (λ (o : Parsed (Option Tree)). o >>= λ where_ rest. expect s.Emit rest >>= λ _ rest. separated d.emit rest >>= λ all rest. expect s.CloseBracket rest >>= λ _ end. Some (tree.From items where_ all, end))
+    ∙ ap (λ (o : Parsed (Option Tree)). o >>= λ where_ rest. d.bracketed_emits rest >>= λ all end. Some (tree.From items where_ all, end))
     (condition-all us condition (vs ++ Fixed s.CloseBracket ∷ rest) k)
-    ∙ ap (λ (o : Parsed (List EmitTree)). o >>= λ all rest. expect s.CloseBracket rest >>= λ _ end. Some (tree.From items condition all, end)) (emits-complete.reads vs emits (Fixed s.CloseBracket ∷ rest) l refl)
+    ∙ ap (λ (o : Parsed (List EmitTree)). o >>= λ all end. Some (tree.From items condition all, end)) (bracketed_emits-all vs emits rest l)
   where
     joined : (((ts ++ us) ++ (Fixed s.Emit ∷ vs)) ++ (Fixed s.CloseBracket ∷ [])) ++ rest ≡ ts ++ (us ++ (Fixed s.Emit ∷ (vs ++ (Fixed s.CloseBracket ∷ rest))))
     joined = simp append_assoc

@@ -281,14 +281,15 @@ emit-sound = record { reads = λ i b rest e. by i b rest (sees s.Star i) refl e 
 -- ---- relation expressions
 
 comprehension-reads : (i : Input) (b : RelTree) (rest : Input) → d.comprehension i ≡ Some (b, rest) → Reading (λ ts r. IsRelation (Fixed s.OpenBracket ∷ ts) r) i b rest
-unfolding d.comprehension
+unfolding d.comprehension d.bracketed_emits
 comprehension-reads i b rest e =
-    let from = expect-then s.From (λ rest. separated d.item rest >>= λ from rest. d.condition rest >>= λ where_ rest. expect s.Emit rest >>= λ _ rest. separated d.emit rest >>= λ all rest. expect s.CloseBracket rest >>= λ _ end. Some (tree.From from where_ all, end)) i b rest e in
-    let items = steps (separated d.item from.behind) (λ from rest. d.condition rest >>= λ where_ rest. expect s.Emit rest >>= λ _ rest. separated d.emit rest >>= λ all rest. expect s.CloseBracket rest >>= λ _ end. Some (tree.From from where_ all, end)) b rest from.on in
-    let condition = steps (d.condition items.middle) (λ where_ rest. expect s.Emit rest >>= λ _ rest. separated d.emit rest >>= λ all rest. expect s.CloseBracket rest >>= λ _ end. Some (tree.From items.value where_ all, end)) b rest items.end in
-    let emit = expect-then s.Emit (λ rest. separated d.emit rest >>= λ all rest. expect s.CloseBracket rest >>= λ _ end. Some (tree.From items.value condition.value all, end)) condition.middle b rest condition.end in
-    let emits = steps (separated d.emit emit.behind) (λ all rest. expect s.CloseBracket rest >>= λ _ end. Some (tree.From items.value condition.value all, end)) b rest emit.on in
-    let close = expect-then s.CloseBracket (λ end. Some (tree.From items.value condition.value emits.value, end)) emits.middle b rest emits.end in
+    let from = expect-then s.From (λ rest. separated d.item rest >>= λ from rest. d.condition rest >>= λ where_ rest. d.bracketed_emits rest >>= λ all end. Some (tree.From from where_ all, end)) i b rest e in
+    let items = steps (separated d.item from.behind) (λ from rest. d.condition rest >>= λ where_ rest. d.bracketed_emits rest >>= λ all end. Some (tree.From from where_ all, end)) b rest from.on in
+    let condition = steps (d.condition items.middle) (λ where_ rest. d.bracketed_emits rest >>= λ all end. Some (tree.From items.value where_ all, end)) b rest items.end in
+    let part = steps (d.bracketed_emits condition.middle) (λ all end. Some (tree.From items.value condition.value all, end)) b rest condition.end in
+    let emit = expect-then s.Emit (λ rest. separated d.emit rest >>= λ all rest. expect s.CloseBracket rest >>= λ _ end. Some (all, end)) condition.middle part.value part.middle part.start in
+    let emits = steps (separated d.emit emit.behind) (λ all rest. expect s.CloseBracket rest >>= λ _ end. Some (all, end)) part.value part.middle emit.on in
+    let close = expect-then s.CloseBracket (λ end. Some (emits.value, end)) emits.middle part.value part.middle emits.end in
     let p = (separated-sound d.item IsItem item-sound).reads from.behind items.value items.middle items.start in
     let q = condition-sound.reads items.middle condition.value condition.middle condition.start in
     let r = (separated-sound d.emit IsEmit emit-sound).reads emit.behind emits.value emits.middle emits.start in
@@ -296,7 +297,8 @@ comprehension-reads i b rest e =
     (from.split ∙ ap (λ (ts : Input). Fixed s.From ∷ ts)
     (p.split ∙ ap (λ (ts : Input). p.front ++ ts) (q.split ∙ ap (λ (ts : Input). q.front ++ ts) (emit.split ∙ ap (λ (ts : Input). Fixed s.Emit ∷ ts) (r.split ∙ ap (λ (ts : Input). r.front ++ ts) close.split)))
     ∙ joined p.front q.front r.front close.behind))
-    (g.comprehension p.front q.front r.front items.value condition.value emits.value p.is q.is r.is) close.on
+    (g.comprehension p.front q.front r.front items.value condition.value emits.value p.is q.is r.is)
+    (ap (λ (o : Parsed (List EmitTree)). o >>= λ all end. Some (tree.From items.value condition.value all, end)) close.on ∙ part.end)
   where
     joined : (ts us vs rest : Input) → ts ++ (us ++ (Fixed s.Emit ∷ (vs ++ (Fixed s.CloseBracket ∷ rest)))) ≡ (((ts ++ us) ++ (Fixed s.Emit ∷ vs)) ++ (Fixed s.CloseBracket ∷ [])) ++ rest
     joined ts us vs rest = simp append_assoc

@@ -158,7 +158,7 @@ store_of_a_name = is_statement _ _ refl
 pub comprehension_of_two_items : Reads (c ∷ Fixed s.Eq ∷ Fixed s.OpenBracket ∷ Fixed s.From ∷ a ∷ Fixed s.Comma ∷ b ∷ Fixed s.As ∷ c ∷ Fixed s.Emit ∷ a ∷ Fixed s.Dot ∷ Fixed s.Star ∷ Fixed s.Comma ∷ b ∷ Fixed s.CloseBracket ∷ [])
     (Assign (codes "c") (From (record { source = source.Named (codes "a"); alias = codes "a" } ∷ record { source = source.Named (codes "b"); alias = codes "c" } ∷ []) None
     (AllOf (codes "a") ∷ One (col (codes "b")) None ∷ [])))
-unfolding d.statement d.assignment d.relation d.comprehension d.item d.source d.condition d.emit d.emitted d.emitted_alias d.whole_expression d.expression d.disjunction d.conjunction d.negation d.comparison d.sum d.product d.signed d.primary d.same_symbol
+unfolding d.statement d.assignment d.relation d.comprehension d.bracketed_emits d.item d.source d.condition d.emit d.emitted d.emitted_alias d.whole_expression d.expression d.disjunction d.conjunction d.negation d.comparison d.sum d.product d.signed d.primary d.same_symbol
 comprehension_of_two_items = is_statement _ _ refl
 
 -- `c = empty(a:long, b:STRING)`: type words stand in any case

@@ -1,5 +1,5 @@
 //! Keys, operands, relation expressions and statements.
-ghost use Rattle.std.specs.Prelude.{◌≡◌, List, option_map};
+ghost use Rattle.std.specs.Prelude.{◌≡◌, List, map, option_map};
 ghost use Rattle.myrial_ast.specs.Trees.{EmitTree, tree_of, emit_tree_of, rel_tree_of, statement_tree_of};
 ghost use Rattle.myrial_parser.specs.Grammar as grammar;
 ghost use Rattle.rel_base.specs.declared.relations.Column.{Column as ColumnSeen};
@@ -14,7 +14,7 @@ use crate::faults::Refusal;
 use crate::loads::Load;
 use crate::separated::Phrase;
 use crate::terminals::{Keyword, Symbol, Terminal, same_word};
-use myrial_ast::{EmitItem, Expr, FromItem, LoadForm, Operand, RelExpr, Stmt};
+use myrial_ast::{EmitItem, EmitItems, Expr, FromItem, LoadForm, Operand, RelExpr, Stmt};
 use myrial_lexer::Sign;
 use rel_base::{ColType, Column, Duplicate, Key, Schema, Text};
 use std::alloc::Global;
@@ -325,6 +325,17 @@ impl Cursor<'_> {
         self.emitted(alloc)
     }
 
+    /// What a comprehension in brackets emits, up to the closing bracket.
+    #[tactic(auto, unfolding(crate::specs::inner::Descent::bracketed_emits))]
+    fn bracketed_emits(&mut self, alloc: Global) -> Result<EmitItems, Refusal>
+        ensures { Parses (map emit_tree_of) (spec.bracketed_emits self.old) result self.new }
+    {
+        self.expect(Symbol::Keyword(Keyword::Emit))?;
+        let emits = self.separated(alloc)?;
+        self.expect(Symbol::Sign(Sign::CloseBracket))?;
+        Ok(emits)
+    }
+
     /// A comprehension behind its opening bracket.
     #[tactic(auto, unfolding(crate::specs::inner::Descent::comprehension))]
     fn comprehension(&mut self, alloc: Global) -> Result<RelExpr, Refusal>
@@ -333,9 +344,7 @@ impl Cursor<'_> {
         self.expect(Symbol::Keyword(Keyword::From))?;
         let items = self.separated(alloc)?;
         let condition = self.condition(alloc)?;
-        self.expect(Symbol::Keyword(Keyword::Emit))?;
-        let emits = self.separated(alloc)?;
-        self.expect(Symbol::Sign(Sign::CloseBracket))?;
+        let emits = self.bracketed_emits(alloc)?;
         Ok(RelExpr::From(items, condition, emits))
     }
 

@@ -400,10 +400,14 @@ emit i =
     if sees s.Star i then Some (tree.All, drop 1 i)
     else (if sees s.Dot (drop 1 i) && sees s.Star (drop 2 i) then emitted_alias i else emitted i)
 
+-- what a comprehension in brackets emits, up to the closing bracket
+unfoldable pub bracketed_emits : Parser (List EmitTree)
+bracketed_emits i = expect s.Emit i >>= λ _ rest. separated emit rest >>= λ all rest. expect s.CloseBracket rest >>= λ _ end. Some (all, end)
+
 unfoldable pub comprehension : Parser RelTree
 comprehension i =
-    expect s.From i >>= λ _ rest. separated item rest >>= λ from rest. condition rest >>= λ where_ rest. expect s.Emit rest >>= λ _ rest. separated emit rest >>= λ all rest.
-    expect s.CloseBracket rest >>= λ _ end. Some (tree.From from where_ all, end)
+    expect s.From i >>= λ _ rest. separated item rest >>= λ from rest. condition rest >>= λ where_ rest. bracketed_emits rest >>= λ all end.
+    Some (tree.From from where_ all, end)
 
 -- what stands in the parentheses of a word
 unfoldable pub argument : Keyword → Parser RelTree

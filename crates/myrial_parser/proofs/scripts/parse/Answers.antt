@@ -1,4 +1,5 @@
 use Rattle.std.proofs.Common.{◌≡◌, ◌+◌, List, [], length, length-append, length-drop, take, true, Err, None, ◌<◌, ◌∷◌, All, sym, ap, subst, ◌∙◌, arith}
+use Rattle.std.proofs.lemmas.Grind.{common_steps}
 use Rattle.std.specs.List.{position}
 use Rattle.std.proofs.lemmas.Bool.Decides.{nat_tests}
 use Rattle.std.proofs.lemmas.List.{take_rest}
@@ -71,3 +72,6 @@ returns-else-is_empty-clause-fault c number fault e =
     subst (λ n. IsFirstFault text tokens n fault) (sym same.0)
     (subst (IsFirstFault text tokens c.loop-len.number) (sym same.1)
     (so_far-last text tokens ahead c.loop-len.number (trees_of c.loop-len.script) last.0 c.loop-len.invariant.read none some last.2))
+
+pub returns-then-is_empty-clause-ok : goal.returns-then-is_empty-clause-ok
+returns-then-is_empty-clause-ok c = grind (arith, common_steps)

@@ -1,4 +1,5 @@
 use Rattle.std.proofs.Common.{◌≡◌, ◌+◌, ◌-◌, suc, Some, ◌∙◌, sym, ap, arith, drop, length}
+use Rattle.std.proofs.lemmas.Grind.{common_steps}
 use Rattle.std.proofs.lemmas.Result.{err_from_is_err_and}
 use Rattle.myrial_ast.specs.Trees as tree
 use Rattle.myrial_ast.specs.Trees.{Tree, tree_of}
@@ -101,3 +102,35 @@ signed-returns t c =
     let some : c.count_of-count.result - 1 + 1 ≡ c.count_of-count.result = omega (arith, c.if-count-eq0.false) in
     parses-along tree_of _ _ _ _
     (signed-counted (spec.expression c.args.depth) c.args.self.now c.count_of-count.new.self c.count_of-count.result (c.count_of-count.result - 1 + 1) c.count_of-count.ensures.count c.count_of-count.ensures.after some) c.behind_minuses.ensures
+
+pub comparison-returns-in_default : goal.comparison-returns-in_default
+unfolding spec.comparison
+comparison-returns-in_default t c = grind (arith, common_steps)
+
+pub comparison-returns : goal.comparison-returns
+unfolding spec.comparison
+comparison-returns t c = grind (arith, common_steps)
+
+pub expression-returns-then-depth-eq0 : goal.expression-returns-then-depth-eq0
+unfolding spec.expression
+expression-returns-then-depth-eq0 t c = grind (arith, common_steps)
+
+pub primary-returns-in_default : goal.primary-returns-in_default
+unfolding spec.primary
+primary-returns-in_default t c = grind (arith, common_steps)
+
+pub primary-returns-in-Number : goal.primary-returns-in-Number
+unfolding spec.primary
+primary-returns-in-Number t c = grind (arith, common_steps)
+
+pub primary-returns-in_ok-of-in-Quoted : goal.primary-returns-in_ok-of-in-Quoted
+unfolding spec.primary
+primary-returns-in_ok-of-in-Quoted t c = grind (arith, common_steps)
+
+pub primary-returns-in_ok-column-in-Name : goal.primary-returns-in_ok-column-in-Name
+unfolding spec.primary
+primary-returns-in_ok-column-in-Name t c = grind (arith, common_steps)
+
+pub primary-returns-in-Fixed : goal.primary-returns-in-Fixed
+unfolding spec.primary
+primary-returns-in-Fixed t c = grind (arith, common_steps)
