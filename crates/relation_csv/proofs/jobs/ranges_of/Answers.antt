@@ -1,4 +1,5 @@
-use Rattle.std.proofs.Common.{ℕ, List, [], ◌∷◌, Bor, map, rules}
+use Rattle.std.proofs.Common.{ℕ, List, [], ◌∷◌, Bor, map, rules, arith}
+use Rattle.std.proofs.lemmas.Grind.{common_steps}
 use Rattle.std.proofs.lemmas.List.{map-append}
 use Rattle.std.proofs.lemmas.List.Elements.{All-push}
 use Rattle.relation_csv.specs.inner.Ranges.{EndsLine}
@@ -17,3 +18,6 @@ cuts-preserved c =
       whole = rw (c.in_ok-push.ensures.items, now) (joined-push so_far range.now c.cuts.left.now c.split_behind_line.result.1.now c.args.text.now
           c.cuts.invariant.whole c.split_behind_line.ensures.whole);
     }
+
+pub returns : goal.returns
+returns c = grind (arith, common_steps)

@@ -1,4 +1,5 @@
 use Rattle.std.proofs.Common.{◌≡◌, ◌-◌, ◌∙◌, get_or, take, ap, ℕ, arith}
+use Rattle.std.proofs.lemmas.Grind.{common_steps}
 use Rattle.std.proofs.lemmas.Str.{IsCharBoundary-after_ascii}
 use Rattle.relation_csv.proofs.DigitLemmas.{digits-plain}
 use Rattle.relation_csv.proofs.PlainLemmas.{BeginsWithField-comma_at, BeginsWithField-line_at}
@@ -37,3 +38,9 @@ returns-in-10-clause-begins c =
     (omega (arith, c.in_ok-number.ensures.bound, c.as_bytes-bytes.ensures.len)) feed
     (c.range-in-10.ensures.value ∙ ap (λ (k : ℕ). take k text) all) c.range_from-in-10.ensures.value
     (digits-plain (take n text) (rw c.as_bytes-bytes.ensures.value at c.in_ok-number.ensures.digits))
+
+pub returns-in-44-clause-number : goal.returns-in-44-clause-number
+returns-in-44-clause-number c = grind (arith, common_steps)
+
+pub returns-in-10-clause-number : goal.returns-in-10-clause-number
+returns-in-10-clause-number c = grind (arith, common_steps)

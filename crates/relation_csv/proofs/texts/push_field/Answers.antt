@@ -1,4 +1,5 @@
-use Rattle.std.proofs.Common.{sym}
+use Rattle.std.proofs.Common.{sym, arith}
+use Rattle.std.proofs.lemmas.Grind.{common_steps}
 use Rattle.std.proofs.lemmas.List.{append-nil}
 use Rattle.csv.specs.Writing.{escaped}
 use Rattle.relation_csv.proofs.TextLemmas.{escaped-other, escaped-quote}
@@ -23,3 +24,6 @@ loop-byte-preserved c =
           c.args.field.now c.loop-byte.byte-index
           c.loop-byte-test.true w.if-byte-eq34.false c.loop-byte.invariant (rw w.into-is at whole)
     ]
+
+pub returns-clause-ok : goal.returns-clause-ok
+returns-clause-ok c = grind (arith, common_steps)

@@ -1,4 +1,5 @@
-use Rattle.std.proofs.Common.{sym}
+use Rattle.std.proofs.Common.{sym, arith}
+use Rattle.std.proofs.lemmas.Grind.{common_steps}
 use Rattle.std.proofs.lemmas.List.{append-nil}
 use Rattle.csv.specs.Writing.{fields_text}
 use Rattle.relation_csv.proofs.TextLemmas.{Extends-loop, OnErr-from, fields_text-next}
@@ -19,3 +20,9 @@ loop-field-preserved g c =
     fields_text-next g.F.Field.bytes _ c.loop-field.field-index c.field-item.result c.push.new.into.items
     c.loop-field.into.items c.push-in-loop-field.new.self.items c.push-in-loop-field-2.new.into.items
     c.loop-field-test.true c.field-item.is c.loop-field.invariant c.in_ok-push-2.ensures.items c.in_ok-push-3.ensures.ok
+
+pub returns-in_default-clause-ok : goal.returns-in_default-clause-ok
+returns-in_default-clause-ok g c = grind (arith, common_steps)
+
+pub returns-clause-ok : goal.returns-clause-ok
+returns-clause-ok g c = grind (arith, common_steps)
