@@ -1,4 +1,4 @@
-use Rattle.std.proofs.Common.{◌*◌, ◌≤◌, ◌==◌, ℕ, List, [], ◌∷◌, length, refl, sym, subst, arith}
+use Rattle.std.proofs.Common.{◌*◌, ◌≤◌, ◌==◌, ℕ, List, [], ◌∷◌, length, refl, sym, subst, arith, rules}
 use Rattle.std.specs.Prelude.{filter}
 use Rattle.myrial_ast.specs.Bags.{difference}
 use Rattle.myrial_ast.specs.Combinations.{Row}
@@ -42,3 +42,15 @@ returns g c =
     since made c.in_ok-met.receipts room read (met-added s left right totals tag before middle x.ok.moved) (λ u below. refl) (λ w below. refl)
     refl rows.count (tables-made s.workers (λ w. filter (λ row. home row == w) (difference (together left) (together right))) made rows)
     x.ok.shown c.conclude.ensures.listed x.fair c.conclude.result c.conclude.ensures.ok
+
+pub returns-in_err-since : goal.returns-in_err-since
+returns-in_err-since g c = search rules
+
+pub returns-in_err-columns : goal.returns-in_err-columns
+returns-in_err-columns g c = search rules
+
+pub returns-in_err-met : goal.returns-in_err-met
+returns-in_err-met g c = search rules
+
+pub returns-in_err-made : goal.returns-in_err-made
+returns-in_err-made g c = search rules

@@ -103,3 +103,9 @@ returns g c =
     refl rows.count (tables-made s.workers (λ w. filter (λ row. home row == w) (distinct (together parts))) made rows)
     (subst (AreShown (size_of s) (e.moves ∷ [])) (sym c.in_ok-receipts.ensures) (a_receipt e.moves c.in_ok-met.receipt [] [] spread.shows no_receipt))
     c.conclude.ensures.listed (told-fair totals tag s.workers x.sent_by x.got_by before middle room x.told) c.conclude.result c.conclude.ensures.ok
+
+pub returns-in_err-since : goal.returns-in_err-since
+returns-in_err-since g c = search rules
+
+pub returns-in_err-columns : goal.returns-in_err-columns
+returns-in_err-columns g c = search rules

@@ -17,3 +17,9 @@ returns-in_err-one-clause-err c =
     let stands : IsFaultOf all wrong = inl (place, turn.0, λ d. grind (arith, common_steps, turn.0, turn.1, c.in_err-one.was)) in
     let answer : c.from_residual.result ≡ Err wrong = search rules in
     subst (λ (r : Result (List Rows) AggFault). IfErr r (IsFaultOf all)) (sym answer) stands
+
+pub loop-one-preserved : goal.loop-one-preserved
+loop-one-preserved c = grind (arith, common_steps)
+
+pub returns-clause-err : goal.returns-clause-err
+returns-clause-err c = grind (arith, common_steps)
