@@ -1,4 +1,5 @@
 use Rattle.std.proofs.Common.{◌+◌, arith}
+use Rattle.std.proofs.lemmas.Grind.{common_steps}
 use Rattle.row_exchange.proofs.OneCellLemmas.{next-batch}
 use Rattle.row_exchange.proofs.filling.fill_for_one.Goals as goal
 
@@ -11,3 +12,6 @@ loop-from-preserved c = record {
       (c.requires.inside (omega arith)) c.requires.atom (omega arith) (omega arith) (omega arith) (omega arith)
       c.in_ok-rows.ensures c.in_ok-push.ensures.items inv.added;
 }
+
+pub returns : goal.returns
+returns c = grind (arith, common_steps)

@@ -1,4 +1,5 @@
 use Rattle.std.proofs.Common.{◌≡◌, ◌∙◌, ◌+◌, ◌*◌, ◌∷◌, ◌++◌, [], List, ℕ, length, length-append, arith, refl, sym, ap, Some}
+use Rattle.std.proofs.lemmas.Grind.{common_steps}
 use Rattle.row_exchange.specs.Routes.{Rows}
 use Rattle.row_exchange.specs.declared.stations.Station.{Station}
 use Rattle.row_exchange.proofs.GatheringLemmas.{manned-more, manned-none, none-paired}
@@ -43,3 +44,12 @@ loop-outlet-preserved g c =
       len = omega (arith, inv.len, outs, p.len);
       same = c.pop_two-sending_tap.ensures.room ∙ inv.same;
     }
+
+pub loop-outlet-smaller : goal.loop-outlet-smaller
+loop-outlet-smaller g c = grind (arith, common_steps)
+
+pub returns-clause-manned : goal.returns-clause-manned
+returns-clause-manned g c = grind (arith, common_steps)
+
+pub returns-clause-taps : goal.returns-clause-taps
+returns-clause-taps g c = grind (arith, common_steps)
