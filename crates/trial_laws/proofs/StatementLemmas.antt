@@ -59,7 +59,7 @@ is_read number piece s ended reads low short flat items columns =
 -- ---- the statements
 
 pub trial-IsScript : IsScript trial_script trial_tokens trial_trees
-unfolding trial_script reserved d.statement d.assignment d.store d.relation d.sees_select d.comprehension d.item d.source d.condition d.emit d.emitted d.emitted_alias d.whole_expression d.expression d.disjunction d.conjunction d.negation d.comparison d.sum d.product d.signed d.primary d.key d.same_symbol
+unfolding trial_script reserved d.statement d.assignment d.store d.relation d.sees_select d.comprehension d.bracketed_emits d.item d.source d.condition d.emit d.emitted d.emitted_alias d.whole_expression d.expression d.disjunction d.conjunction d.negation d.comparison d.sum d.product d.signed d.primary d.key d.same_symbol
 trial-IsScript =
     a_piece 1 _ _ _ _ (is_read 1 _ _ refl refl refl refl refl refl refl)
     (a_piece 2 _ _ _ _ (is_read 2 _ _ refl refl refl refl refl refl refl)
