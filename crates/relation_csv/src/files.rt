@@ -1,7 +1,7 @@
 //! Files: reads the relation of a file.
-ghost use Rattle.std.specs.Prelude.{◌≡◌, drop};
+ghost use Rattle.std.specs.Prelude.{◌≡◌, drop, OnOk};
 ghost use Rattle.relation_csv.specs.Files.{IsReadAs, records_of_bytes, relation_of_bytes, relation_with, rows_of_records};
-ghost use Rattle.relation_csv.specs.inner.RecordsLeft.{IsSteady, records_left};
+ghost use Rattle.relation_csv.specs.inner.RecordsLeft.{IsSteady, records_left, schema_ahead};
 
 use crate::RelFault;
 use crate::fields::{row_of, schema_of};
@@ -45,15 +45,24 @@ fn relation_by<P: PlainReader>(alloc: Global, bytes: &[u8], plain: &P) -> Result
     ensures { IsReadAs result (relation_of_bytes bytes.now) }
 {
     let mut reader = reader_of(alloc, bytes);
-    let mut fields = StringRecord::new(alloc);
-    match read_next(&mut reader, &mut fields)? {
-        Next::End => return Err(RelFault::NoHeader),
-        Next::NotText => return Err(RelFault::NotText { nth: 0 }),
-        Next::Record => {}
-    }
-    let schema = schema_of(alloc, &fields)?;
+    let schema = header_of(alloc, &mut reader)?;
     let rows = rows_behind(alloc, &schema, bytes, 1, plain, &mut reader)?;
     Ok(Relation::new(schema, rows))
+}
+
+/// Reads the header of a file, the first of the records that are left.
+fn header_of(alloc: Global, reader: &mut Reader<&[u8]>) -> Result<Schema, RelFault>
+    requires { IsSteady reader.old }
+    ensures schema { IsReadAs result (schema_ahead (records_left reader.old)) }
+    ensures steady { OnOk result (IsSteady reader.new) }
+    ensures left { OnOk result (records_left reader.new ≡ drop 1 (records_left reader.old)) }
+{
+    let mut fields = StringRecord::new(alloc);
+    match read_next(reader, &mut fields)? {
+        Next::Record => schema_of(alloc, &fields),
+        Next::NotText => Err(RelFault::NotText { nth: 0 }),
+        Next::End => Err(RelFault::NoHeader),
+    }
 }
 
 /// Reads the relation of a file without a header, under these columns.

@@ -3,7 +3,8 @@
 --   records_left r        the records that reader r has not read yet
 --   IsSteady r            reader r is set up as `records_of_bytes` says, and has not failed
 --   IsNext next rs ..     what a read finds is the first of the records left
-use Rattle.std.specs.Prelude.{◌≡◌, ℕ, ◌+◌, true, false, Option, Some, IsSome, List, [], ◌∷◌, length}
+--   schema_ahead rs       the columns of the header, the first of the records left
+use Rattle.std.specs.Prelude.{◌≡◌, ℕ, ◌+◌, true, false, Option, Some, IsSome, Result, Err, List, [], ◌∷◌, length}
 use Rattle.std.specs.Borrow.{Bor}
 use Rattle.std.specs.Option.{option_map_or}
 use Rattle.csv.specs.Reading.{Ready, default_config, is_flexible, reader_config, reader_state, reader_trim, records_from, source_of}
@@ -12,7 +13,10 @@ use Rattle.csv.specs.declared.reader.Reader.{Reader}
 use Rattle.csv.specs.declared.reader.Trim.TheVariants as trim
 use Rattle.relation_csv.specs.declared.records.Next.{Next}
 use Rattle.relation_csv.specs.declared.records.Next.TheVariants as next
-use Rattle.relation_csv.specs.Files.{Record, is_text}
+use Rattle.rel_base.specs.declared.relations.Column.{Column}
+use Rattle.relation_csv.specs.declared.faults.RelFault.{RelFault}
+use Rattle.relation_csv.specs.declared.faults.RelFault.TheVariants as fault
+use Rattle.relation_csv.specs.Files.{Record, is_text, schema_of_record}
 
 -- the bytes that a slice has left are its own
 abbrev pub bytes_in : Bor (List ℕ) → Option (List ℕ)
@@ -45,3 +49,8 @@ abbrev pub IsNext : Next → List Record → Record → List Record → Type 0
 IsNext next.Record left fields rest = (left ≡ fields ∷ rest) × (is_text fields ≡ true)
 IsNext next.NotText left fields rest = StartsWithNoText left
 IsNext next.End left fields rest = left ≡ []
+
+-- the columns of the header, the first of the records left
+abbrev pub schema_ahead : List Record → Result (List Column) RelFault
+schema_ahead [] = Err fault.NoHeader
+schema_ahead (header ∷ others) = schema_of_record header
