@@ -4,6 +4,8 @@ use Rattle.std.specs.Prelude.{codes}
 use Rattle.rel_io.specs.Outside.{Rose, missing, there, IsGiven, MayBeMissing, TakesPart, capped_sum}
 use Rattle.rel_io.specs.Taps.{with_sent, with_got}
 use Rattle.rel_io.specs.InMemory.{NamedBytes, MemoryShelf, MemorySink, distinct_names, content_among, fetch_fails, shelf_after, write_fails, sink_after}
+use Rattle.rel_io.specs.Refusals.{shelf_fault_text, sink_fault_text}
+use Rattle.rel_io.specs.declared.shelves.ShelfFault.TheVariants as unread
 use Rattle.rel_io.specs.declared.sinks.SinkFault.TheVariants as refusal
 
 -- ---- counts
@@ -100,3 +102,11 @@ sink_after-want = refl
 
 pub TakesPart-two_of_three : TakesPart (Some (codes "ab")) (Some (codes "abcd")) (codes "cde")
 TakesPart-two_of_three = record { count = 2; short = lit< tt; appended = refl }
+
+-- ---- refusals in words
+
+pub shelf_fault_text-each : (shelf_fault_text unread.Failed ≡ codes "the file could not be read") × (shelf_fault_text unread.Absent ≡ codes "the file is not there") × (shelf_fault_text unread.Memory ≡ codes "out of memory")
+shelf_fault_text-each = (refl, refl, refl)
+
+pub sink_fault_text-each : (sink_fault_text refusal.Failed ≡ codes "the output could not be written") × (sink_fault_text refusal.Memory ≡ codes "out of memory")
+sink_fault_text-each = (refl, refl)

@@ -5,3 +5,4 @@ pub mod Sinks
 pub mod Taps
 pub mod InMemory
 pub mod Adapters
+pub mod Refusals

@@ -1,5 +1,5 @@
 //! A shelf of the files of a folder.
-ghost use Rattle.std.specs.Prelude.{◌≡◌, ◌≢◌, ◌+◌, ◌≤◌, ◌↔◌, ◌++◌, Err, IfSome, OnOk, OnErr, length, take};
+ghost use Rattle.std.specs.Prelude.{◌≡◌, ◌≢◌, ◌+◌, ◌≤◌, ◌↔◌, ◌++◌, Err, IfOk, IfSome, IsErr, IsErrAnd, OnOk, OnErr, length, take};
 ghost use Rattle.std.specs.Io.{StartsWith};
 ghost use Rattle.std.specs.IoError.{error_kind};
 ghost use Rattle.rel_io.specs.Outside.{AppendsContent, Rose, untold};
@@ -65,7 +65,7 @@ impl<R: Files> Shelf for FolderShelf<'_, R> {
         ensures faults { self.old.faults ≤ self.new.faults }
         ensures misses { self.old.misses ≤ self.new.misses }
     {
-        let answer = read_file(self.rt, name, most, into);
+        let answer = read_opened(fs::open(self.rt, name), most, into);
         match answer {
             Err(ShelfFault::Failed) => self.faults = self.faults.saturating_add(1),
             Err(ShelfFault::Absent) => self.misses = self.misses.saturating_add(1),
@@ -75,12 +75,26 @@ impl<R: Files> Shelf for FolderShelf<'_, R> {
     }
 }
 
-/// Appends the first `most` bytes of a file.
-fn read_file<R: Files>(rt: &R, name: &str, most: u64, into: &mut Vec<u8>) -> Result<(), ShelfFault>
+/// Appends the first `most` bytes of a file that was opened, or says why it was not.
+///
+/// The length that a file tells is no more than room for it: a pipe tells 0, and is read to its end.
+fn read_opened<F: OpenFile + Read + Drop>(
+    opened: io::Result<F>,
+    most: u64,
+    into: &mut Vec<u8>,
+) -> Result<(), ShelfFault>
+    ensures told { OnOk result (IfOk opened (λ file. IfSome (F.remaining file)
+        (λ bytes. into.new.items ≡ into.old.items ++ take most bytes))) }
     ensures ok { OnOk result (AppendsContent untold most into.old.items into.new.items) }
     ensures err { OnErr result (StartsWith into.new.items into.old.items) }
+
+    // A file that was not opened is absent only where it was not found, and wants for no memory.
+    ensures refused { OnErr opened (IsErr result) }
+    ensures absent { (result ≡ Err ShelfFault.Absent)
+        ↔ IsErrAnd opened (λ error. error_kind error ≡ ErrorKind.NotFound) }
+    ensures never_memory { OnErr opened (result ≢ Err ShelfFault.Memory) }
 {
-    let mut file = match fs::open(rt, name) {
+    let mut file = match opened {
         Ok(file) => file,
         Err(error) => return Err(fault_of(&error)),
     };

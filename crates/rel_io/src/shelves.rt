@@ -18,13 +18,19 @@ pub enum ShelfFault {
     Memory,
 }
 
+/// The refusal in words.
 impl fmt::Display for ShelfFault {
+    ghost use Rattle.std.specs.Prelude.{Some};
+    ghost use Rattle.rel_io.specs.Refusals.{shelf_fault_text};
+
+    ghost output = { λ fault. Some (shelf_fault_text fault) };
+
     fn fmt<W: fmt::Write>(&self, f: &mut fmt::Formatter<W>) -> fmt::Result {
-        f.write_str(match self {
-            ShelfFault::Failed => "the file could not be read",
-            ShelfFault::Absent => "the file is not there",
-            ShelfFault::Memory => "out of memory",
-        })
+        match self {
+            ShelfFault::Failed => write!(f, "the file could not be read"),
+            ShelfFault::Absent => write!(f, "the file is not there"),
+            ShelfFault::Memory => write!(f, "out of memory"),
+        }
     }
 }
 

@@ -15,12 +15,18 @@ pub enum SinkFault {
     Memory,
 }
 
+/// The refusal in words.
 impl fmt::Display for SinkFault {
+    ghost use Rattle.std.specs.Prelude.{Some};
+    ghost use Rattle.rel_io.specs.Refusals.{sink_fault_text};
+
+    ghost output = { λ fault. Some (sink_fault_text fault) };
+
     fn fmt<W: fmt::Write>(&self, f: &mut fmt::Formatter<W>) -> fmt::Result {
-        f.write_str(match self {
-            SinkFault::Failed => "the output could not be written",
-            SinkFault::Memory => "out of memory",
-        })
+        match self {
+            SinkFault::Failed => write!(f, "the output could not be written"),
+            SinkFault::Memory => write!(f, "out of memory"),
+        }
     }
 }
 

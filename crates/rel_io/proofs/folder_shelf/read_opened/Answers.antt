@@ -1,6 +1,9 @@
 use Rattle.std.proofs.Common.{arith}
 use Rattle.std.proofs.lemmas.Grind.{common_steps}
-use Rattle.rel_io.proofs.folder_shelf.read_file.Goals as goal
+use Rattle.rel_io.proofs.folder_shelf.read_opened.Goals as goal
+
+pub returns-clause-told : goal.returns-clause-told
+returns-clause-told g c = grind (arith, common_steps)
 
 pub returns-clause-ok : goal.returns-clause-ok
 returns-clause-ok g c = grind (arith, common_steps)
