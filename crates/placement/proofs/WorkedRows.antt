@@ -205,6 +205,52 @@ pushed-twice = refl
 pub kept-alike : length (kept_of pushed_shape 0 (pairs ((1, 1) ∷ (1, 2) ∷ (2, 2) ∷ []))) ≡ 2
 kept-alike = refl
 
+-- ---- which conjuncts are pushed: those that read columns of one item and no others
+
+abbrev number : ℕ → Scalar
+number n = Lit (value.Int (pos n))
+
+abbrev fours_shape : List Scalar → Shape
+fours_shape conjuncts = joined ((kind.Int ∷ []) ∷ (kind.Int ∷ []) ∷ []) conjuncts (At 0 ∷ [])
+
+-- the join of `fours` by these conjuncts
+abbrev fours_where : List Scalar → CheckedTree
+fours_where conjuncts = alone one_int (Join (fours_shape conjuncts) (first_file ∷ second_file ∷ []))
+
+-- .. where r.x = 1 and r.x = s.x
+abbrev equal_to_1 : List Scalar
+equal_to_1 = Bin op.Eq (At 0) (number 1) ∷ equal 0 1 ∷ []
+
+pub pushed-equal_to_1 : map (pushed_of (fours_shape equal_to_1)) (0 ∷ 1 ∷ []) ≡ 1 ∷ 0 ∷ []
+pushed-equal_to_1 = refl
+
+pub plan-equal_to_1 : planned shuffle_kind.Hc 2 fours (fours_where equal_to_1)
+    ≡ note.Statement 1 plan.From 1 ∷ note.Item 1 4 1 1 ∷ note.Item 2 4 0 4
+    ∷ note.Variable 1 ((1, 0) ∷ (2, 0) ∷ []) (Some 2) ∷ note.Hc local.Tj 2 5 2 ∷ []
+unfolding load.comes_before load.load_of
+plan-equal_to_1 = refl
+
+-- .. where R.x = R.y and R.x = S.z: the conjunct, and the variable's second column in R
+pub pushed-two_columns : map (pushed_of (joined ((kind.Int ∷ kind.Int ∷ []) ∷ (kind.Int ∷ []) ∷ []) (equal 0 1 ∷ equal 0 2 ∷ []) (At 0 ∷ []))) (0 ∷ 1 ∷ []) ≡ 2 ∷ 0 ∷ []
+pushed-two_columns = refl
+
+-- .. where 1 = 2 and r.x = s.x: a conjunct without columns is pushed to no item, and rules out no row there
+pub pushed-no_columns : map (pushed_of (fours_shape (Bin op.Eq (number 1) (number 2) ∷ equal 0 1 ∷ []))) (0 ∷ 1 ∷ []) ≡ 0 ∷ 0 ∷ []
+pushed-no_columns = refl
+
+-- ---- rows that aren't kept are not sent: .. where r.x > 0 and s.x < 3 and r.x = s.x, or s.x < 2
+
+abbrev within : ℕ → List Scalar
+within n = Bin op.Gt (At 0) (number 0) ∷ Bin op.Lt (At 1) (number n) ∷ equal 0 1 ∷ []
+
+-- 1, 2 and 3 of R and 0, 1 and 2 of S go to the homes of their keys
+pub traffic-kept_by_keys : traffic shuffle_kind.Rs 2 fours (fours_where (within 3)) ≡ noted 1 (exchange.Rs 2) (2 ∷ 4 ∷ []) (0 ∷ 2 ∷ []) ∷ []
+traffic-kept_by_keys = refl
+
+-- R stays, with three kept rows; 0 and 1 of S go to both workers
+pub traffic-kept_by_broadcast : traffic shuffle_kind.Br 2 fours (fours_where (within 2)) ≡ noted 1 exchange.Br (2 ∷ 2 ∷ []) (0 ∷ 1 ∷ []) ∷ []
+traffic-kept_by_broadcast = refl
+
 -- ---- no variable: one cell, worker 0
 
 abbrev apart : List File
@@ -329,6 +375,19 @@ pub plan-chain_by_keys : planned shuffle_kind.Rs 2 chain_files join_chain
     ≡ note.Statement 1 plan.From 5 ∷ note.Item 1 4 0 4 ∷ note.Item 2 4 0 4 ∷ note.Item 3 4 0 4
     ∷ note.Variable 1 ((1, 1) ∷ (2, 0) ∷ []) None ∷ note.Variable 2 ((2, 1) ∷ (3, 0) ∷ []) None ∷ note.Rs local.Tj ∷ []
 plan-chain_by_keys = refl
+
+-- .. and R.x < 5 and T.y < 7: the last row of R, the prefix that it is in, and the last row of T are not sent
+abbrev some_of_chain : CheckedTree
+some_of_chain =
+    alone two_ints
+    (Join
+    (joined ((kind.Int ∷ kind.Int ∷ []) ∷ (kind.Int ∷ kind.Int ∷ []) ∷ (kind.Int ∷ kind.Int ∷ []) ∷ [])
+    (equal 1 2 ∷ equal 3 4 ∷ Bin op.Lt (At 0) (number 5) ∷ Bin op.Lt (At 5) (number 7) ∷ []) (At 0 ∷ At 5 ∷ []))
+    (first_file ∷ second_file ∷ third_file ∷ []))
+
+pub traffic-some_of_chain_by_keys : traffic shuffle_kind.Rs 2 chain_files some_of_chain
+    ≡ noted 1 (exchange.Rs 2) (1 ∷ 6 ∷ []) (0 ∷ 3 ∷ []) ∷ noted 1 (exchange.Rs 3) (4 ∷ 2 ∷ []) (2 ∷ 1 ∷ []) ∷ []
+traffic-some_of_chain_by_keys = refl
 
 -- ---- groups, from partial rows: [from R emit x, count(*) as n]
 
@@ -495,6 +554,13 @@ pub traffic-join_and_group : traffic shuffle_kind.Hc 2 named join_and_group
     ≡ noted 1 exchange.Hc (3 ∷ 5 ∷ []) (2 ∷ 4 ∷ []) ∷ noted 1 exchange.Group (2 ∷ 1 ∷ []) (1 ∷ 1 ∷ []) ∷ []
 unfolding load.comes_before load.load_of
 traffic-join_and_group = refl
+
+-- one key and two aggregates
+pub plan-join_and_group : planned shuffle_kind.Hc 2 named join_and_group
+    ≡ note.Statement 1 plan.From 2 ∷ note.Item 1 3 0 3 ∷ note.Item 2 5 0 5
+    ∷ note.Variable 1 ((1, 1) ∷ (2, 0) ∷ []) (Some 2) ∷ note.Hc local.Tj 2 8 2 ∷ note.Group 1 2 ∷ []
+unfolding load.comes_before load.load_of
+plan-join_and_group = refl
 
 -- ---- fewer rows are joined: R = 0, 1, 2, 3 and S = 2, 3, each cut to its rows above 1, which have all candidates
 
