@@ -12,6 +12,8 @@ mod homes;
 #[cfg(test)]
 mod outside;
 #[cfg(test)]
+mod refusals;
+#[cfg(test)]
 mod shares;
 #[cfg(test)]
 mod values;
