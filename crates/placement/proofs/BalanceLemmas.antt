@@ -29,11 +29,11 @@ use Rattle.algebra.proofs.ShapeLemmas.{both}
 use Rattle.placement.specs.Destinations.{cells, destinations, agrees, fixed_by, meeting_cell}
 use Rattle.placement.specs.Layouts.{PlacedRelation, placed_nothing, Placing, Shuffle, ByCells, ByKeys, Broadcast, parts_by_home, rows_of, prefix_key, item_key, last_atom, staying_atom, join_parts, listed_parts, term_parts, placed_source, placed_steps}
 use Rattle.placement.specs.Exchanges.{PlacedExchange, kept_parts, prefix_parts, by_cells, by_broadcast, by_keys, cells_exchange, broadcast_exchange, key_exchange, shuffle_exchanges, join_exchanges, to_home, whole_row, row_exchange, partial_sending, group_exchange, term_exchanges}
-use Rattle.placement.specs.Moves.{Move, Sending, moves_of_row, moves_of_atom}
+use Rattle.row_exchange.specs.Moves.{Move, Sending, moves_of_row, moves_of_atom}
 use Rattle.placement.specs.Receiving.{GoesOnce}
 use Rattle.placement.specs.Laws.{IsPlaced, IsSharing, IsPlacing, AreWorkers, DestinationsAreWorkers, AreAmong, IsBalanced, MovesBalance, ExchangesBalance}
 use Rattle.placement.proofs.CellLemmas.{All-flat_map}
-use Rattle.placement.proofs.TogetherLemmas.{map-flat_map}
+use Rattle.row_exchange.proofs.MoveLemmas.{map-flat_map}
 use Rattle.placement.proofs.ScriptLemmas.{HasSources, home_of-lt, get_or-All, nothing_IsPlaced, All-made, steps-sources, checked-steps, steps-IsPlaced, found-IsPlaced}
 use Rattle.placement.proofs.PrefixLemmas.{map-through}
 

@@ -17,7 +17,7 @@ use Rattle.algebra.specs.ShapeConditions.{all_different}
 use Rattle.placement.specs.Exchanges.{kept_parts, by_broadcast}
 use Rattle.placement.specs.Layouts.{PlacedRelation, placed_nothing, part, rows_of, staying_atom, together}
 use Rattle.placement.specs.Laws.{IsPlaced, AreWide}
-use Rattle.placement.specs.Moves.{Sending}
+use Rattle.row_exchange.specs.Moves.{Sending}
 use Rattle.placement.specs.Receiving.{GoesOnce, sent_to, BroadcastsListWhatTheyAreGiven}
 use Rattle.placement.proofs.BalanceLemmas.{all-workers}
 use Rattle.placement.proofs.KeptLemmas.{candidates_are_kept}

@@ -18,7 +18,7 @@ use Rattle.placement.specs.Destinations.{meeting_cell}
 use Rattle.placement.specs.Exchanges.{by_cells, by_broadcast, by_keys}
 use Rattle.placement.specs.Layouts.{PlacedRelation, ByCells, ByKeys, Broadcast, placed_nothing, part, parts_by_home, rows_of, prefix_key, last_atom, staying_atom}
 use Rattle.placement.specs.Laws.{IsPlaced, AreWide, prefix_is_at, extended}
-use Rattle.placement.specs.Moves.{moves_of, rows_given, all_given}
+use Rattle.row_exchange.specs.Moves.{moves_of, rows_given, all_given}
 use Rattle.placement.specs.Receiving.{PartsAreListed}
 use Rattle.placement.proofs.BroadcastLemmas.{broadcasts_list_what_they_are_given}
 use Rattle.placement.proofs.CellLemmas.{passes}

@@ -27,7 +27,7 @@ use Rattle.placement.specs.Destinations.{destinations, is_destination, meeting_c
 use Rattle.placement.specs.Exchanges.{kept_parts, by_cells, prefix_parts, by_keys, partial_sending}
 use Rattle.placement.specs.Layouts.{PlacedRelation, Placing, Shuffle, ByCells, ByKeys, Broadcast, placed_nothing, rows_of, together, parts_by_home, prefix_key, item_key, last_atom, staying_atom, join_parts, listed_parts, parts_by_key}
 use Rattle.placement.specs.Laws.{IsPlaced, AreWide, prefix_is_at, item_is_at, extended}
-use Rattle.placement.specs.Moves.{Sending, moves_of, rows_given, all_given}
+use Rattle.row_exchange.specs.Moves.{Sending, moves_of, rows_given, all_given}
 use Rattle.placement.specs.Receiving.{GoesOnce, sent_to, CellsListWhatTheyAreGiven, StepsListWhatTheyAreGiven, ListedRowsAreGrouped, GroupsAreMerged}
 use Rattle.placement.proofs.BalanceLemmas.{destinations_are_workers}
 use Rattle.placement.proofs.MoveLemmas.{given-at, given-each}

@@ -18,7 +18,8 @@ use Rattle.algebra.specs.Trees.{Shape}
 use Rattle.algebra.specs.Shapes.{tests_of, ties_of, tie_test, listed_of}
 use Rattle.placement.specs.Layouts.{PlacedRelation, by_worker, part, together, placed_file}
 use Rattle.placement.specs.Laws.{IsPlaced}
-use Rattle.placement.proofs.TogetherLemmas.{homes-together, listed_from-append, map-flat_map, same_list}
+use Rattle.placement.proofs.TogetherLemmas.{homes-together, listed_from-append, same_list}
+use Rattle.row_exchange.proofs.MoveLemmas.{map-flat_map}
 
 -- ---- lists for each worker
 

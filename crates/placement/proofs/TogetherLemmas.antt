@@ -73,10 +73,6 @@ together-filter p [] = refl
 together-filter p (rows ∷ parts) = ap (λ rs. filter p rows ++ rs) (together-filter p parts) ∙ sym (filter-append p rows (together parts))
 
 -- what is made of each of many lists is made of all of them
-pub map-flat_map : {X Y Z : Type 0} (g : Y → Z) (f : X → List Y) (xs : List X) → map g (flat_map f xs) ≡ flat_map (λ x. map g (f x)) xs
-map-flat_map g f [] = refl
-map-flat_map g f (x ∷ xs) = map-append g (f x) (flat_map f xs) ∙ ap (λ zs. map g (f x) ++ zs) (map-flat_map g f xs)
-
 pub same_list : {X : Type 0} (xs ys : List X) → xs ≡ ys → IsPermutation xs ys
 same_list xs ys e = subst (λ zs. IsPermutation xs zs) e (IsPermutation-refl xs)
 

@@ -33,7 +33,7 @@ use Rattle.algebra.specs.Trees.{Shape, TermTree, Same, Empty, UnionAll, Diff, Di
 use Rattle.placement.specs.Destinations.{destinations, meeting_cell}
 use Rattle.placement.specs.Exchanges.{PlacedExchange, exchanges_of, traffic_of}
 use Rattle.placement.specs.Layouts.{PlacedRelation, Placing, ByCells, Broadcast, placed_stores}
-use Rattle.placement.specs.Moves.{Move, sent, received, rows_between, rows_given}
+use Rattle.row_exchange.specs.Moves.{Move, sent, received, rows_between, rows_given}
 use Rattle.placement.specs.Plans.{usual_shuffle, pushed_of, plan_of}
 
 -- ---- scripts as steps

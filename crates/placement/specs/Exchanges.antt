@@ -23,7 +23,7 @@ use Rattle.algebra.specs.Meanings.{needed_steps}
 use Rattle.hash_partition.specs.Hashing.{home_of}
 use Rattle.placement.specs.Destinations.{destinations}
 use Rattle.placement.specs.Layouts.{PlacedRelation, placed_nothing, Placing, Shuffle, ByCells, ByKeys, Broadcast, by_worker, parts_by_home, rows_of, prefix_key, item_key, staying_atom, listed_parts, term_parts, placed_source, placed_steps}
-use Rattle.placement.specs.Moves.{Move, Sending, moves_of, received}
+use Rattle.row_exchange.specs.Moves.{Move, Sending, moves_of, received}
 
 -- an exchange: its kind, the moves of its rows, and how many rows each worker lists after it
 pub record PlacedExchange : Type 0 where

@@ -37,7 +37,7 @@ use Rattle.algebra.specs.Rewriting.{AreTyped}
 use Rattle.placement.specs.Destinations.{IsDestination, destinations, is_destination, meeting_cell}
 use Rattle.placement.specs.Exchanges.{PlacedExchange, exchanges_of}
 use Rattle.placement.specs.Layouts.{PlacedRelation, Placing, Shuffle, ByCells, ByKeys, Broadcast, together, join_parts, rows_of, placed_source, placed_steps, placed_stores, prefix_key, item_key}
-use Rattle.placement.specs.Moves.{Move, sent, received}
+use Rattle.row_exchange.specs.Moves.{Move, sent, received}
 use Rattle.placement.specs.Plans.{usual_placing}
 
 -- ---- what is placed

@@ -1,7 +1,6 @@
 -- The words of this crate, lowest first.
 pub mod Destinations
 pub mod Layouts
-pub mod Moves
 pub mod Exchanges
 pub mod Plans
 pub mod Laws

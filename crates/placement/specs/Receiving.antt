@@ -21,15 +21,11 @@ use Rattle.placement.specs.Destinations.{meeting_cell}
 use Rattle.placement.specs.Exchanges.{by_cells, by_broadcast, by_keys, partial_sending}
 use Rattle.placement.specs.Layouts.{PlacedRelation, Placing, Shuffle, ByCells, ByKeys, Broadcast, placed_nothing, part, rows_of, last_atom, staying_atom, together, join_parts, listed_parts, parts_by_key}
 use Rattle.placement.specs.Laws.{IsPlaced, IsSharing, IsPlacing, AreWide, IsColumns, prefix_is_at, extended}
-use Rattle.placement.specs.Moves.{Sending, moves_of, rows_between, rows_given, all_given}
+use Rattle.row_exchange.specs.Moves.{Sending, no_sending, moves_of, rows_between, rows_given, all_given}
 
 -- no row goes to a worker twice
 abbrev pub GoesOnce : Sending → Type 0
 GoesOnce s = (row : Row) → IsTrue (all_different (s.goes_to row))
-
--- nothing, where there is no atom
-abbrev pub no_sending : Sending
-no_sending = record { parts = []; goes_to = λ row. [] }
 
 -- the rows that lie at u and go to w
 abbrev pub sent_from : Sending → ℕ → ℕ → Rows

@@ -2,8 +2,9 @@
 //! laws.
 //!
 //! Stands on `algebra` for shapes, terms and checked scripts, on `hash_partition` for homes and
-//! cells, on `share_chooser` for shares of least load, and on `bag_laws`. Nothing here runs: each
-//! law is the contract of a function with an empty body.
+//! cells, on `share_chooser` for shares of least load, on `row_exchange` for the moves of an
+//! exchange, and on `bag_laws`. Nothing here runs: each law is the contract of a function with an
+//! empty body.
 //!
 //! Promises: for every script, number of workers, hash seed and way of shuffling, all workers'
 //! rows together are the bag of the meaning. The rows of a candidate meet at one worker, and what
@@ -11,8 +12,8 @@
 //! one list of moves, and as many rows are sent as received. Not promised: that rows spread
 //! evenly.
 //!
-//! Read `specs/Destinations.antt`, `specs/Layouts.antt`, `specs/Moves.antt` and
-//! `specs/Exchanges.antt`, then `specs/Laws.antt` and `specs/Receiving.antt`.
+//! Read `specs/Destinations.antt`, `specs/Layouts.antt` and `specs/Exchanges.antt`, then
+//! `specs/Laws.antt` and `specs/Receiving.antt`.
 #![tactic(auto)]
 
 mod layouts;

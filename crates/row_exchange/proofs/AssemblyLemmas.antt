@@ -8,7 +8,7 @@ use Rattle.std.proofs.lemmas.List.Sums.{sum-map, get_or-le-sum_by}
 use Rattle.std.proofs.lemmas.List.Sorted.{IsPermutation-sym, IsPermutation-trans, sum_by-IsPermutation}
 use Rattle.std.specs.List.{flat_map, range_with_len}
 use Rattle.std.proofs.lemmas.Option.{same_Some}
-use Rattle.std.proofs.lemmas.List.{get_or-map, length-map, map-id, get_or-replicate, length-replicate, get_or_append_left, get_or_default}
+use Rattle.std.proofs.lemmas.List.{get_or-map, length-map, map-id, get_or-replicate, length-replicate, get_or_append_left, get_or_default, get_or_past}
 use Rattle.std.proofs.lemmas.List.FromFn.{get_or-range_with_len, length-range_with_len, get_or-map-range_with_len, fill_by_all}
 use Rattle.rel_base.specs.declared.failure.Memory.{Memory}
 use Rattle.rel_io.specs.declared.taps.Totals.{Totals}
@@ -23,11 +23,15 @@ use Rattle.exchange_channels.proofs.SendingLemmas.{took_all_sent}
 use Rattle.exchange_channels.specs.Messages.{rows_of, row_count, batches_of, rows_of_atom}
 use Rattle.exchange_channels.proofs.PortLemmas.{map_same}
 use Rattle.exchange_channels.proofs.DeliveryLemmas.{element}
-use Rattle.row_exchange.specs.Routes.{Row, Rows, IsRouted, rows_at, rows_to, all_rows_to, pairs_from, pairs_to}
-use Rattle.row_exchange.specs.Exchanges.{IsSize, IsBatch, AreLow, with_more_sent, with_more_got, IsTold, batches_between, Shows, IsGiven, IsExchanged, IsExchange}
+use Rattle.row_exchange.specs.Routes.{Row, Rows, IsRouted, rows_at}
+use Rattle.row_exchange.specs.inner.Pairs.{rows_to, all_rows_to, pairs_from, pairs_to}
+use Rattle.row_exchange.specs.Moves.{Move, sendings_of, moves_of, sent, received, rows_between, rows_given}
+use Rattle.row_exchange.specs.Exchanges.{IsSize, IsBatch, AreLow, with_more_sent, with_more_got, IsTold, InOrder, batches_between, Shows, IsGiven, IsExchanged, IsExchange}
 use Rattle.row_exchange.specs.declared.exchanging.Exchanged.{Exchanged}
 use Rattle.std.proofs.lemmas.Result.{IfOk-weaker, IfOk-from_err}
 use Rattle.row_exchange.proofs.SumLemmas.{sum_by-same, sum_by-range_same, sums-swap, sum_by-places, sum_by-flat_map, sum_by-bounded}
+use Rattle.row_exchange.proofs.MoveLemmas.{between-routed, given-routed, sent-routed, received-routed}
+use Rattle.row_exchange.proofs.ReceiptLemmas.{no-batches}
 use Rattle.row_exchange.proofs.MessageLemmas.{rows-permuted, rows-of-all, flat_map-places, rows-by-atom, first-ok, second-ok, parity}
 use Rattle.row_exchange.specs.declared.routes.Size.{Size}
 use Rattle.row_exchange.specs.declared.stations.Outgoing.{Outgoing}
@@ -355,7 +359,19 @@ module _ {W T : Type 0} (accepts : W → ℕ → Row → Type 0) (goes : W → �
               (get_or-map-range_with_len (λ cell. map (λ out. batches_of (sent_to out cell)) outs) 0 (cells_of keep) w w [] (omega (arith, inside, wired.same_cells)) (omega arith))
               ∙ get_or-map (λ out. batches_of (sent_to out w)) outs u o [] (omega (arith, below, outs-long))
 
-          pub shows : (d : Station W T) (o : OutletState) → capacity ≡ size.capacity → Shows (goes route) parts size (receipt_of keep outs)
+          -- what moves from one worker to another, of any atom
+          rows-moved : (u w atom : ℕ) (d : Station W T) (o : OutletState) → u < size.workers → w < size.workers
+              → rows_between (moves_of (sendings_of (goes route) parts)) atom u w ≡ rows_of_atom atom (batches_of (sent_to (get_or outs u o) w))
+          rows-moved u w atom d o below inside =
+              let s = sends-at u d o below in
+              between-routed (goes route) parts atom u w
+              ∙ ⊎_elim
+              (λ (h : atom < length parts). sym (s.rows_are w atom inside h))
+              (λ (h : length parts ≤ atom). ap (λ (p : List Rows). rows_to (goes route atom) w (get_or p u [])) (get_or_past parts atom [] h)
+              ∙ sym (no-batches (length parts) size.batch atom (batches_of (sent_to (get_or outs u o) w)) h (s.sized w inside)))
+              (cases_lt atom (length parts))
+
+          pub shows : (d : Station W T) (o : OutletState) → capacity ≡ size.capacity → Shows InOrder (length parts) size (moves_of (sendings_of (goes route) parts)) (receipt_of keep outs)
           shows d o same = record {
             capacity = wired.same_capacity ∙ same;
             cells = length-map (range_with_len 0 (cells_of keep)) (λ cell. map (λ out. batches_of (sent_to out cell)) outs) ∙ length-range_with_len 0 (cells_of keep) ∙ wired.same_cells;
@@ -363,13 +379,13 @@ module _ {W T : Type 0} (accepts : W → ℕ → Row → Type 0) (goes : W → �
                 ap length (get_or-map-range_with_len (λ cell. map (λ out. batches_of (sent_to out cell)) outs) 0 (cells_of keep) w w [] (omega (arith, inside, wired.same_cells)) (omega arith))
                 ∙ length-map outs (λ out. batches_of (sent_to out w)) ∙ outs-long;
             sized = λ u w below inside. subst (All (IsBatch (length parts) size.batch)) (sym (between u w o below inside)) ((sends-at u d o below).sized w inside);
-            rows_are = λ u w atom below inside one. ap (rows_of_atom atom) (between u w o below inside) ∙ (sends-at u d o below).rows_are w atom inside one;
+            rows_are = λ u w atom below inside. rows-moved u w atom d o below inside ∙ sym (ap (rows_of_atom atom) (between u w o below inside));
           }
 
-          pub sent-pairs : (d : Station W T) (o : OutletState) → map rows_sent outs ≡ map (pairs_from (goes route) parts) (range_with_len 0 size.workers)
+          pub sent-pairs : (d : Station W T) (o : OutletState) → map rows_sent outs ≡ map (sent (moves_of (sendings_of (goes route) parts))) (range_with_len 0 size.workers)
           sent-pairs d o =
-              fill_by_all (pairs_from (goes route) parts) (map rows_sent outs) size.workers 0 (length-map outs rows_sent ∙ outs-long)
-              (λ k below. get_or-map rows_sent outs k o 0 (omega (arith, below, outs-long)) ∙ (sends-at k d o below).count_is)
+              fill_by_all (sent (moves_of (sendings_of (goes route) parts))) (map rows_sent outs) size.workers 0 (length-map outs rows_sent ∙ outs-long)
+              (λ k below. get_or-map rows_sent outs k o 0 (omega (arith, below, outs-long)) ∙ (sends-at k d o below).count_is ∙ sym (sent-routed (goes route) parts k))
 
           rows-between : (u w : ℕ) (d : Station W T) (o : OutletState) → u < size.workers → w < size.workers
               → rows_of (sent_to (get_or outs u o) w) ≡ sum_by (λ atom. length (rows_to (goes route atom) w (rows_at parts atom u))) (range_with_len 0 (length parts))
@@ -379,27 +395,30 @@ module _ {W T : Type 0} (accepts : W → ℕ → Row → Type 0) (goes : W → �
               ∙ sum_by-range_same (λ atom. length (rows_of_atom atom (batches_of (sent_to (get_or outs u o) w)))) (λ atom. length (rows_to (goes route atom) w (rows_at parts atom u))) (length parts)
               (λ atom one. ap length (s.rows_are w atom inside one))
 
-          pub got-pairs : (d : Station W T) (o : OutletState) (i : IntakeState) → map (λ (x : IntakeState). rows_of x.got) ins ≡ map (pairs_to (goes route) parts size.workers) (range_with_len 0 size.workers)
+          pub got-pairs : (d : Station W T) (o : OutletState) (i : IntakeState) → map (λ (x : IntakeState). rows_of x.got) ins ≡ map (received (moves_of (sendings_of (goes route) parts))) (range_with_len 0 size.workers)
           got-pairs d o i =
-              fill_by_all (pairs_to (goes route) parts size.workers) (map (λ (x : IntakeState). rows_of x.got) ins) size.workers 0 (length-map ins (λ (x : IntakeState). rows_of x.got) ∙ ins-long)
+              fill_by_all (received (moves_of (sendings_of (goes route) parts))) (map (λ (x : IntakeState). rows_of x.got) ins) size.workers 0 (length-map ins (λ (x : IntakeState). rows_of x.got) ∙ ins-long)
               (λ w inside. get_or-map (λ (x : IntakeState). rows_of x.got) ins w i 0 (omega (arith, inside, ins-long))
               ∙ got-rows w d i inside
               ∙ sum_by-places (λ out. rows_of (sent_to out w)) outs o
               ∙ ap (λ (n : ℕ). sum_by (λ u. rows_of (sent_to (get_or outs u o) w)) (range_with_len 0 n)) outs-long
               ∙ sum_by-range_same (λ u. rows_of (sent_to (get_or outs u o) w)) (λ u. sum_by (λ atom. length (rows_to (goes route atom) w (rows_at parts atom u))) (range_with_len 0 (length parts))) size.workers
-              (λ u below. rows-between u w d o below inside))
+              (λ u below. rows-between u w d o below inside)
+              ∙ sym (received-routed (goes route) parts size.workers routed.each_worker w))
 
-          pub is-given : (d : Station W T) (o : OutletState) (i : IntakeState) → IsGiven (goes route) parts size.workers made
+          pub is-given : (d : Station W T) (o : OutletState) (i : IntakeState) → IsGiven (moves_of (sendings_of (goes route) parts)) (length parts) size.workers made
           is-given d o i = record {
             each_worker = made-long;
             each_atom = λ w inside. (received-of w d i inside).count;
             rows_are = λ w atom inside one.
                 let r = received-of w d i inside in
-                let sent : rows_of_atom atom (batches_of (all_sent_to outs w)) ≡ all_rows_to (goes route) parts size.workers atom w =
+                let given : Rows = rows_given (moves_of (sendings_of (goes route) parts)) atom w in
+                let sent : rows_of_atom atom (batches_of (all_sent_to outs w)) ≡ given =
                 rows-of-all atom (λ out. sent_to out w) outs
                 ∙ flat_map-places (λ out. rows_of_atom atom (batches_of (sent_to out w))) (λ u. rows_to (goes route atom) w (rows_at parts atom u)) outs o size.workers outs-long
-                (λ u below. (sends-at u d o below).rows_are w atom inside one) in
-                IsPermutation-trans (all_rows_to (goes route) parts size.workers atom w) (rows_of_atom atom (batches_of (get_or ins w i).got)) (get_or (get_or made w []) atom [])
+                (λ u below. (sends-at u d o below).rows_are w atom inside one)
+                ∙ sym (given-routed (goes route) parts size.workers atom w one (routed.each_worker atom [] one)) in
+                IsPermutation-trans given (rows_of_atom atom (batches_of (get_or ins w i).got)) (get_or (get_or made w []) atom [])
                 (subst (λ (l : Rows). IsPermutation l (rows_of_atom atom (batches_of (get_or ins w i).got))) sent
                 (IsPermutation-sym (rows_of_atom atom (batches_of (get_or ins w i).got)) (rows_of_atom atom (batches_of (all_sent_to outs w)))
                 (rows-permuted atom (get_or ins w i).got (all_sent_to outs w) (took-at w d i inside))))
@@ -411,16 +430,16 @@ module _ {W T : Type 0} (accepts : W → ℕ → Row → Type 0) (goes : W → �
         module _ (tail whole told : List T) (low : All (λ t. AreLow (totals t)) whole) (is_whole : front ++ tail ≡ whole) (is_told : told ≡ taps ++ tail)
             (receipt : ReceiptState) (is_receipt : receipt ≡ receipt_of keep outs) (same : capacity ≡ size.capacity) where
           pub is-exchange : (answer : Result Exchanged Memory) → IfOk answer (λ made. (given ≡ Ok made.given) × (made.receipt ≡ receipt))
-              → IsExchange (goes route) parts size totals tag whole told answer
+              → IsExchange (moves_of (sendings_of (goes route) parts)) (length parts) size totals tag whole told answer
           is-exchange answer if_ok = record {
             sent = map rows_sent outs;
             got = map (λ (x : IntakeState). rows_of x.got) ins;
             told = is-told tail whole told low is_whole is_told d o i;
-            ok = IfOk-weaker answer (λ made. (given ≡ Ok made.given) × (made.receipt ≡ receipt)) (IsExchanged (goes route) parts size (map rows_sent outs) (map (λ (x : IntakeState). rows_of x.got) ins))
+            ok = IfOk-weaker answer (λ made. (given ≡ Ok made.given) × (made.receipt ≡ receipt)) (IsExchanged (moves_of (sendings_of (goes route) parts)) (length parts) size (map rows_sent outs) (map (λ (x : IntakeState). rows_of x.got) ins))
                 (λ made h. record {
                   sent_are = sent-pairs made.given h.0 d o;
                   got_are = got-pairs made.given h.0 d o i;
-                  receipt = subst (Shows (goes route) parts size) (sym (h.1 ∙ is_receipt)) (shows made.given h.0 d o same);
+                  receipt = subst (Shows InOrder (length parts) size (moves_of (sendings_of (goes route) parts))) (sym (h.1 ∙ is_receipt)) (shows made.given h.0 d o same);
                   given = is-given made.given h.0 d o i;
                 }) if_ok;
           }
@@ -442,9 +461,9 @@ no-more-sent t n none = let e : t.sent ≡ t.sent + n = omega arith in λ i. rec
 no-more-got : (t : Totals) (n : ℕ) → n ≡ 0 → t ≡ with_more_got t n
 no-more-got t n none = let e : t.got ≡ t.got + n = omega arith in λ i. record t { got = e i }
 
-pub nothing-done : {T : Type 0} (goes : ℕ → Row → List ℕ) (parts : List (List Rows)) (size : Size) (totals : T → Totals) (tag : T → ℕ) (taps : List T) (answer : Result Exchanged Memory)
-    → IsErr answer → IsExchange goes parts size totals tag taps taps answer
-nothing-done goes parts size totals tag taps answer err = record {
+pub nothing-done : {T : Type 0} (moves : List Move) (atoms : ℕ) (size : Size) (totals : T → Totals) (tag : T → ℕ) (taps : List T) (answer : Result Exchanged Memory)
+    → IsErr answer → IsExchange moves atoms size totals tag taps taps answer
+nothing-done moves atoms size totals tag taps answer err = record {
   sent = replicate size.workers 0;
   got = replicate size.workers 0;
   told = record {
@@ -457,7 +476,7 @@ nothing-done goes parts size totals tag taps answer err = record {
     sent_by_all = length-replicate size.workers 0;
     got_by_all = length-replicate size.workers 0;
   };
-  ok = IfOk-from_err answer (IsExchanged goes parts size (replicate size.workers 0) (replicate size.workers 0)) err;
+  ok = IfOk-from_err answer (IsExchanged moves atoms size (replicate size.workers 0) (replicate size.workers 0)) err;
 }
 
 pub wired-outs : (keep : WiringState) (outlets : List OutletState) (intakes : List IntakeState) (cells senders capacity : ℕ) → IsWired keep outlets intakes cells senders capacity → length outlets ≡ senders

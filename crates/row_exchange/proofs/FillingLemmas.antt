@@ -18,7 +18,8 @@ use Rattle.rel_base.specs.Picks.{items_at}
 use Rattle.rel_base.proofs.PickLemmas.{length-items_at, one_item}
 use Rattle.rel_base.proofs.SortLemmas.{All-one}
 use Rattle.exchange_channels.specs.declared.messages.Batch.{Batch}
-use Rattle.row_exchange.specs.Routes.{Row, Rows, GoesWithin, rows_at, times_to, rows_to, pairs_of, pairs_from}
+use Rattle.row_exchange.specs.Routes.{Row, Rows, GoesWithin, rows_at}
+use Rattle.row_exchange.specs.inner.Pairs.{times_to, rows_to, pairs_of, pairs_from}
 use Rattle.row_exchange.specs.Exchanges.{IsBatch}
 use Rattle.row_exchange.specs.inner.Shipments.{Shipment, shipped_in, shipped, rows_in, IsShipment, FillingState, pending_for, waiting, gathered, counted, IsFilling, IsSameWork, Gathers, no_more, row_at, filling_of, Finishes, AddsAtom, IsFilledTo, IsFilled}
 

@@ -6,6 +6,8 @@ pub mod ShippingLemmas
 pub mod ReceivingLemmas
 pub mod GatheringLemmas
 pub mod SumLemmas
-pub mod AssemblyLemmas
 pub mod MessageLemmas
+pub mod MoveLemmas
+pub mod ReceiptLemmas
+pub mod AssemblyLemmas
 pub mod WorkedRows

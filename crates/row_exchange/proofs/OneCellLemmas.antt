@@ -9,7 +9,8 @@ use Rattle.std.proofs.lemmas.List.Elements.{All-append, All-head, All-tail}
 use Rattle.std.proofs.lemmas.Grind.{flat_map-append}
 use Rattle.std.proofs.Math.Seq.{take-add}
 use Rattle.rel_base.proofs.SortLemmas.{All-one}
-use Rattle.row_exchange.specs.Routes.{Row, Rows, AreRouted, times_to, rows_to, pairs_of}
+use Rattle.row_exchange.specs.Routes.{Row, Rows, AreRouted}
+use Rattle.row_exchange.specs.inner.Pairs.{times_to, rows_to, pairs_of}
 use Rattle.row_exchange.specs.inner.Shipments.{Shipment, shipped_in, shipped, rows_in, IsShipment, AddsAtom}
 use Rattle.row_exchange.proofs.FillingLemmas.{shipped-push, rows_in-push}
 

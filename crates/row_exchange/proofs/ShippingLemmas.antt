@@ -17,7 +17,8 @@ use Rattle.exchange_channels.specs.declared.messages.Batch.{Batch}
 use Rattle.exchange_channels.specs.declared.messages.Message.{Message}
 use Rattle.exchange_channels.specs.Messages.{batch_of, end_of, batches_of, batch_rows, row_count, rows_of, rows_of_atom}
 use Rattle.exchange_channels.specs.Wirings.{OutletState, sent_to, with_sent_to, with_ends}
-use Rattle.row_exchange.specs.Routes.{Row, Rows, rows_at, rows_to, pairs_from}
+use Rattle.row_exchange.specs.Routes.{Row, Rows, rows_at}
+use Rattle.row_exchange.specs.inner.Pairs.{rows_to, pairs_from}
 use Rattle.row_exchange.specs.Exchanges.{IsBatch}
 use Rattle.row_exchange.specs.inner.Shipments.{Shipment, shipped_in, shipped, rows_in, IsShipment, IsFilled}
 use Rattle.row_exchange.specs.inner.Stations.{IsFresh, rows_sent, HasShipped, SendsAll, HasSentAll}

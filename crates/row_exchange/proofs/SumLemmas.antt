@@ -15,7 +15,8 @@ use Rattle.rel_base.specs.Bags.{sorted_by}
 use Rattle.rel_base.specs.Values.{row_order}
 use Rattle.rel_base.specs.ValueLaws.{row_order_total, row_order-IsAntisymmetric}
 use Rattle.rel_base.proofs.SortedLemmas.{occurrences, occurrences-IsPermutation, same_counts, Ascending-sorted_by, IsPermutation-sorted_by}
-use Rattle.row_exchange.specs.Routes.{Row, Rows, times_to, rows_to, pairs_of, GoesWithin}
+use Rattle.row_exchange.specs.Routes.{Row, Rows, GoesWithin}
+use Rattle.row_exchange.specs.inner.Pairs.{times_to, rows_to, pairs_of}
 use Rattle.row_exchange.proofs.FillingLemmas.{sum_by-range_more}
 
 -- sums of functions that agree

@@ -3,7 +3,10 @@
 use Rattle.std.proofs.Common.{◌≡◌, ℕ, ◌==◌, List, [], ◌∷◌, length, refl}
 use Rattle.std.specs.Prelude.{pos, if◌then◌else◌}
 use Rattle.rel_base.specs.declared.values.Value.TheVariants as variant
-use Rattle.row_exchange.specs.Routes.{Row, Rows, rows_at, times_to, rows_to, all_rows_to, pairs_of, pairs_from, pairs_to}
+use Rattle.row_exchange.specs.Routes.{Row, Rows, rows_at}
+use Rattle.row_exchange.specs.Moves.{Move, sendings_of, moves_of, sent, received, rows_between, all_given}
+use Rattle.row_exchange.specs.Exchanges.{InOrder}
+use Rattle.row_exchange.specs.inner.Pairs.{times_to, rows_to, all_rows_to, pairs_of, pairs_from, pairs_to}
 
 abbrev first_row : Row
 first_row = variant.Int (pos 1) ∷ []
@@ -54,3 +57,38 @@ no_atom = refl
 
 no_worker : rows_at parts 0 2 ≡ []
 no_worker = refl
+
+-- ---- the same, read off the moves
+
+abbrev moves : List Move
+moves = moves_of (sendings_of goes parts)
+
+-- five pairs of a row and a cell
+five_moves : length moves ≡ 5
+five_moves = refl
+
+moved_to_the_other : rows_between moves 0 0 1 ≡ second_row ∷ []
+moved_to_the_other = refl
+
+moved_to_itself : rows_between moves 0 0 0 ≡ first_row ∷ second_row ∷ []
+moved_to_itself = refl
+
+-- no row is of an atom that there isn't
+moved_of_no_atom : rows_between moves 1 0 0 ≡ []
+moved_of_no_atom = refl
+
+rows_of_the_other : all_given moves 1 1 ≡ (second_row ∷ third_row ∷ []) ∷ []
+rows_of_the_other = refl
+
+moves_from_worker_0 : sent moves 0 ≡ 3
+moves_from_worker_0 = refl
+
+moves_to_worker_1 : received moves 1 ≡ 2
+moves_to_worker_1 = refl
+
+-- rows in another order are the same as a bag, and not in order
+same_in_order : InOrder (first_row ∷ second_row ∷ []) (first_row ∷ second_row ∷ [])
+same_in_order = refl
+
+not_in_order : InOrder (first_row ∷ second_row ∷ []) (second_row ∷ first_row ∷ []) → ⊥
+not_in_order e = absurd (cc)

@@ -6,8 +6,10 @@
 --   AreLow sums                      the sums of a tap are far from their end
 --   IsTold .. sent got before after  taps before and after so many rows were sent and received by
 --                                    the workers
---   Shows goes parts size receipt    a receipt shows the rows that go from each worker to each
---   IsGiven goes parts workers given each worker is given the rows that go to it
+--   InOrder rows others              these are the same rows in the same order
+--   Shows Same atoms size moves receipt    a receipt shows the rows that move from each worker to
+--                                    each, in order or as a bag
+--   IsGiven moves atoms workers given    each worker is given the rows that go to it
 --   IsExchange ..                    what an exchange does, whatever it answers
 use Rattle.std.specs.Prelude.{◌≡◌, ℕ, ◌+◌, ◌*◌, ◌<◌, ◌≤◌, List, [], length, map, sum, All, Result, IfOk, slice_index_or}
 use Rattle.std.specs.List.{range_with_len}
@@ -20,7 +22,8 @@ use Rattle.exchange_channels.specs.Messages.{rows_of_atom}
 use Rattle.exchange_channels.specs.Wirings.{ReceiptState}
 use Rattle.row_exchange.specs.declared.routes.Size.{Size}
 use Rattle.row_exchange.specs.declared.exchanging.Exchanged.{Exchanged}
-use Rattle.row_exchange.specs.Routes.{Row, Rows, rows_at, rows_to, all_rows_to, pairs_from, pairs_to}
+use Rattle.row_exchange.specs.Routes.{Rows}
+use Rattle.row_exchange.specs.Moves.{Move, sent, received, rows_between, rows_given}
 
 -- the workers, the messages that may wait and the rows of a batch are at least one each, and no
 -- more than are allowed
@@ -73,48 +76,51 @@ pub record IsTold {T : Type 0} (totals : T → Totals) (tag : T → ℕ) (worker
 
 -- ---- the receipt and what was given
 
+-- these are the same rows in the same order
+abbrev pub InOrder : Rows → Rows → Type 0
+InOrder rows others = rows ≡ others
+
 -- the batches that a receipt shows from sender u to cell w
 abbrev pub batches_between : ReceiptState → ℕ → ℕ → List Batch
 batches_between receipt u w = slice_index_or (slice_index_or receipt.batches w []) u []
 
--- the receipt shows for all workers u and w, and each atom, the rows that lie at u and go to w, in
--- batches of 1 to so many rows
-pub record Shows (goes : ℕ → Row → List ℕ) (parts : List (List Rows)) (size : Size)
+-- the receipt is of so many workers and messages, and shows for all workers u and w, and each atom,
+-- the rows that move from u to w, in order or as a bag, in batches of 1 to so many rows
+pub record Shows (Same : Rows → Rows → Type 0) (atoms : ℕ) (size : Size) (moves : List Move)
     (receipt : ReceiptState) : Type 0 where
   pub capacity : receipt.capacity ≡ size.capacity
   pub cells : length receipt.batches ≡ size.workers
   pub senders : (w : ℕ) → w < size.workers
       → length (slice_index_or receipt.batches w []) ≡ size.workers
   pub sized : (u w : ℕ) → u < size.workers → w < size.workers
-      → All (IsBatch (length parts) size.batch) (batches_between receipt u w)
-  pub rows_are : (u w atom : ℕ) → u < size.workers → w < size.workers → atom < length parts
-      → rows_of_atom atom (batches_between receipt u w)
-      ≡ rows_to (goes atom) w (rows_at parts atom u)
+      → All (IsBatch atoms size.batch) (batches_between receipt u w)
+  pub rows_are : (u w atom : ℕ) → u < size.workers → w < size.workers
+      → Same (rows_between moves atom u w) (rows_of_atom atom (batches_between receipt u w))
 
 -- each worker has for each atom the rows that go to it, as a bag
-pub record IsGiven (goes : ℕ → Row → List ℕ) (parts : List (List Rows)) (workers : ℕ)
+pub record IsGiven (moves : List Move) (atoms workers : ℕ)
     (given : List (List Rows)) : Type 0 where
   pub each_worker : length given ≡ workers
-  pub each_atom : (w : ℕ) → w < workers → length (slice_index_or given w []) ≡ length parts
-  pub rows_are : (w atom : ℕ) → w < workers → atom < length parts
-      → SameBag (all_rows_to goes parts workers atom w)
-      (slice_index_or (slice_index_or given w []) atom [])
+  pub each_atom : (w : ℕ) → w < workers → length (slice_index_or given w []) ≡ atoms
+  pub rows_are : (w atom : ℕ) → w < workers → atom < atoms
+      → SameBag (rows_given moves atom w) (slice_index_or (slice_index_or given w []) atom [])
 
--- what an exchange gives: the numbers of rows sent and received are those of the pairs, the
--- receipt shows them, and each worker is given them
-pub record IsExchanged (goes : ℕ → Row → List ℕ) (parts : List (List Rows)) (size : Size)
-    (sent got : List ℕ) (made : Exchanged) : Type 0 where
-  pub sent_are : sent ≡ map (pairs_from goes parts) (range_with_len 0 size.workers)
-  pub got_are : got ≡ map (pairs_to goes parts size.workers) (range_with_len 0 size.workers)
-  pub receipt : Shows goes parts size made.receipt
-  pub given : IsGiven goes parts size.workers made.given
+-- what an exchange gives: the numbers of rows sent and received are those of the moves, the receipt
+-- shows them, and each worker is given them
+pub record IsExchanged (moves : List Move) (atoms : ℕ) (size : Size) (sent_by got_by : List ℕ)
+    (made : Exchanged) : Type 0 where
+  pub sent_are : sent_by ≡ map (sent moves) (range_with_len 0 size.workers)
+  pub got_are : got_by ≡ map (received moves) (range_with_len 0 size.workers)
+  pub receipt : Shows InOrder atoms size moves made.receipt
+  pub given : IsGiven moves atoms size.workers made.given
 
--- what an exchange does, whatever it answers: there are numbers of rows sent and received by the
--- workers, as many in all, of which the taps are told; and on Ok they are those of the pairs
-pub record IsExchange {T : Type 0} (goes : ℕ → Row → List ℕ) (parts : List (List Rows))
-    (size : Size) (totals : T → Totals) (tag : T → ℕ)
-    (before after : List T) (answer : Result Exchanged Memory) : Type 0 where
+-- what an exchange of these moves does, whatever it answers: there are numbers of rows sent and
+-- received by the workers, as many in all, of which the taps are told; and on Ok they are those of
+-- the moves
+pub record IsExchange {T : Type 0} (moves : List Move) (atoms : ℕ) (size : Size)
+    (totals : T → Totals) (tag : T → ℕ) (before after : List T)
+    (answer : Result Exchanged Memory) : Type 0 where
   pub sent : List ℕ
   pub got : List ℕ
   pub told : IsTold totals tag size.workers sent got before after
-  pub ok : IfOk answer (IsExchanged goes parts size sent got)
+  pub ok : IfOk answer (IsExchanged moves atoms size sent got)

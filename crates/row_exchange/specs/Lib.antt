@@ -2,5 +2,6 @@
 pub use Rattle.exchange_channels.specs.Messages
 pub use Rattle.exchange_channels.specs.Wirings
 pub mod Routes
+pub mod Moves
 pub mod Exchanges
 pub mod inner

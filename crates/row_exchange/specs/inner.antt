@@ -1,4 +1,5 @@
 -- Words of private functions.
+pub mod Pairs
 pub mod Shipments
 pub mod Stations
 pub mod Gatherings

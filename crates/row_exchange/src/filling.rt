@@ -1,7 +1,8 @@
 //! Filling batches: each row's place goes to the batch of each of its cells.
 ghost use Rattle.std.specs.Prelude.{◌≡◌, ◌<◌, ◌^◌, [], ◌∷◌, length, map, replicate, All, IfOk, IfSome, OnOk, slice_set};
 ghost use Rattle.rel_base.specs.Picks.{items_at};
-ghost use Rattle.row_exchange.specs.Routes.{times_to, AreRouted, IsRouted};
+ghost use Rattle.row_exchange.specs.Routes.{AreRouted, IsRouted};
+ghost use Rattle.row_exchange.specs.inner.Pairs.{times_to};
 ghost use Rattle.row_exchange.specs.Exchanges.{IsSize};
 ghost use Rattle.row_exchange.specs.inner.Shipments.{Gathers, no_more, pending_for, row_at, filling_of, IsFilling, IsShipment};
 ghost use Rattle.row_exchange.specs.inner.Shipments.{Finishes, AddsAtom, IsFilled, AreFrom};

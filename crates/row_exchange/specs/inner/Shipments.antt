@@ -13,7 +13,8 @@ use Rattle.rel_base.specs.Picks.{items_at}
 use Rattle.exchange_channels.specs.declared.messages.Batch.{Batch}
 use Rattle.exchange_channels.specs.Messages.{batch_rows, rows_of_atom, batches_of, rows_of}
 use Rattle.exchange_channels.specs.Wirings.{OutletState, sent_to, cells_of}
-use Rattle.row_exchange.specs.Routes.{Row, Rows, rows_at, times_to, rows_to, pairs_of, pairs_from}
+use Rattle.row_exchange.specs.Routes.{Row, Rows, rows_at}
+use Rattle.row_exchange.specs.inner.Pairs.{times_to, rows_to, pairs_of, pairs_from}
 use Rattle.row_exchange.specs.Exchanges.{IsBatch}
 
 -- a batch, behind the cell that it goes to

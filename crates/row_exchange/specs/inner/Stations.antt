@@ -21,7 +21,8 @@ use Rattle.row_exchange.specs.declared.stations.Incoming.{Incoming}
 use Rattle.row_exchange.specs.declared.stations.Station.{Station}
 use Rattle.row_exchange.specs.declared.stations.Half.{Half}
 use Rattle.row_exchange.specs.declared.stations.Half.TheVariants as half
-use Rattle.row_exchange.specs.Routes.{Row, Rows, rows_at, rows_to, pairs_from, IsRouted}
+use Rattle.row_exchange.specs.Routes.{Row, Rows, rows_at, IsRouted}
+use Rattle.row_exchange.specs.inner.Pairs.{rows_to, pairs_from}
 use Rattle.row_exchange.specs.Exchanges.{IsBatch, IsSize}
 use Rattle.row_exchange.specs.inner.Shipments.{Shipment, shipped, rows_in, IsShipment}
 

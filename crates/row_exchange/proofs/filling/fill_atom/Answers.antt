@@ -1,6 +1,6 @@
 use Rattle.std.proofs.Common.{◌≡◌, ◌<◌, ◌∙◌, ◌∷◌, ℕ, [], List, All, length, get_or, take, subst, sym, ap, arith}
 use Rattle.std.proofs.lemmas.List.{length-replicate}
-use Rattle.row_exchange.specs.Routes.{rows_to, pairs_of}
+use Rattle.row_exchange.specs.inner.Pairs.{rows_to, pairs_of}
 use Rattle.row_exchange.specs.inner.Shipments.{FillingState, filling_of, Gathers, no_more}
 use Rattle.row_exchange.proofs.FillingLemmas.{next-row, fill-step, Gathers-nothing, Gathers-same, fill-atom, took-all, pairs-few, IfOk-then}
 use Rattle.row_exchange.proofs.OneCellLemmas.{same-cells, cell-inside}

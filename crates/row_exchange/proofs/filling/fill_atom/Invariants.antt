@@ -1,5 +1,5 @@
 use Rattle.std.proofs.Common.{◌≡◌, take, drop}
-use Rattle.row_exchange.specs.Routes.{rows_to, pairs_of}
+use Rattle.row_exchange.specs.inner.Pairs.{rows_to, pairs_of}
 use Rattle.row_exchange.specs.inner.Shipments.{Gathers, filling_of}
 use Rattle.row_exchange.proofs.filling.fill_atom.Given as goal
 

@@ -1,5 +1,5 @@
 use Rattle.std.proofs.Common.{take}
-use Rattle.row_exchange.specs.Routes.{times_to}
+use Rattle.row_exchange.specs.inner.Pairs.{times_to}
 use Rattle.row_exchange.specs.inner.Shipments.{Gathers, row_at}
 use Rattle.row_exchange.proofs.filling.Filling.put_row.Given as goal
 

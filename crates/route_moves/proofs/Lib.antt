@@ -1,2 +1,0 @@
--- Laws of what the crate promises.
-pub mod MoveLemmas
