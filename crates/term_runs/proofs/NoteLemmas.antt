@@ -8,7 +8,7 @@ use Rattle.myrial_ast.specs.Combinations.{Rows}
 use Rattle.algebra.specs.declared.notes.Traffic.{Traffic}
 use Rattle.placement.specs.Exchanges.{PlacedExchange, traffic_note}
 use Rattle.placement.specs.Layouts.{by_worker}
-use Rattle.placement.specs.Moves.{received}
+use Rattle.row_exchange.specs.Moves.{received}
 use Rattle.term_runs.specs.TermRuns.{AreMoved, IsListedAt}
 use Rattle.term_runs.specs.Notes.{AreSeconds, HaveRisen, IsNoteSince}
 use Rattle.term_runs.specs.Laws.{NotesTellMoves}

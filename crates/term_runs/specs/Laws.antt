@@ -4,10 +4,8 @@
 --   FairnessIsKept          taps that stay even step by step stay even, and so they do in each exchange
 --   ToldIsMoved             what the taps are told of an exchange, and of rows listed behind it, is what it moves
 --   NotesTellMoves          the numbers that are read off the taps are those of the exchange
---   ReceiptsShowMoves       receipts of moves show their rows
 --   RunsAreJoined           receipts and runs, one after another
 use Rattle.std.specs.Prelude.{◌≡◌, ℕ, ◌*◌, ◌<◌, ◌≤◌, List, [], ◌∷◌, ◌++◌, length, All}
-use Rattle.rel_base.specs.Limits.{most_items}
 use Rattle.rel_io.specs.declared.taps.Totals.{Totals}
 use Rattle.exchange_channels.specs.Wirings.{ReceiptState}
 use Rattle.myrial_ast.specs.Combinations.{Rows}
@@ -15,14 +13,13 @@ use Rattle.algebra.specs.declared.notes.Traffic.{Traffic}
 use Rattle.algebra.specs.declared.settings.Settings.{Settings}
 use Rattle.placement.specs.Exchanges.{PlacedExchange, row_counts, traffic_note}
 use Rattle.placement.specs.Layouts.{by_worker}
-use Rattle.placement.specs.Moves.{Move, sent, received}
+use Rattle.row_exchange.specs.Moves.{Move, sent, received}
 use Rattle.row_exchange.specs.declared.routes.Size.{Size}
 use Rattle.row_exchange.specs.Exchanges.{IsTold}
-use Rattle.route_moves.specs.Moved.{ShowsMoves}
 use Rattle.worker_joins.specs.RouteJoins.{AreCounted}
 use Rattle.term_runs.specs.declared.moved.Moved.{Moved}
 use Rattle.term_runs.specs.Notes.{AreSeconds, HaveRisen, IsNoteSince}
-use Rattle.term_runs.specs.TermRuns.{ShowsRows, AreShown, all_sent, all_received, all_listed, AreMoved, AreFair, IsListedAt, IsMoved}
+use Rattle.term_runs.specs.TermRuns.{AreShown, all_sent, all_received, all_listed, AreMoved, AreFair, IsListedAt, IsMoved}
 
 module _ {T : Type 0} (totals : T → Totals) (tag : T → ℕ) where
   -- taps rise by no exchange where nothing is done, and by all exchanges where by some and then by others
@@ -64,12 +61,6 @@ module _ {T : Type 0} (totals : T → Totals) (tag : T → ℕ) where
     pub note : (n number : ℕ) (e : PlacedExchange) (before after : List T) (since : List Totals) (note : Traffic)
         → 2 * n ≤ length before → length e.listed ≡ n → AreMoved totals tag n (e ∷ []) before after
         → AreSeconds totals n before since → IsNoteSince totals number e.kind since after note → note ≡ traffic_note n (number, e)
-
--- a receipt of moves, of few atoms, shows their rows
-abbrev pub ReceiptsShowMoves : Type 0
-ReceiptsShowMoves =
-    (moves : List Move) (atoms : ℕ) (size : Size) (receipt : ReceiptState) → atoms ≤ most_items
-    → All (λ (m : Move). m.atom < atoms) moves → ShowsMoves moves atoms size receipt → ShowsRows size moves receipt
 
 -- receipts, and runs, one after another
 pub record RunsAreJoined : Type 0 where

@@ -1,7 +1,6 @@
 -- What running a term at workers does: the rows that it leaves at each worker, and what its exchanges tell.
 --
 --   shown_moves e                         the moves whose rows the receipts of an exchange show
---   ShowsRows size moves receipt          a receipt shows the rows that move from each worker to each
 --   AreShown size moves receipts          receipts show these moves, one after another
 --   all_sent, all_received, all_listed    how many rows a worker sends, receives and lists in exchanges
 --   AreMoved .. exchanges before after    taps before and after these exchanges
@@ -14,17 +13,16 @@ use Rattle.std.specs.List.{flat_map}
 use Rattle.rel_base.specs.Bags.{SameBag}
 use Rattle.rel_base.specs.Limits.{most_items}
 use Rattle.rel_io.specs.declared.taps.Totals.{Totals}
-use Rattle.exchange_channels.specs.Messages.{rows_of_atom}
 use Rattle.exchange_channels.specs.Wirings.{ReceiptState}
 use Rattle.myrial_ast.specs.Combinations.{Rows}
 use Rattle.bag_laws.specs.Permuted.{SameTables}
 use Rattle.algebra.specs.declared.notes.Exchange.{Exchange}
 use Rattle.algebra.specs.declared.notes.Exchange.TheVariants as exchange
 use Rattle.algebra.specs.declared.settings.Settings.{Settings}
-use Rattle.placement.specs.Moves.{Move, sent, received, rows_between}
+use Rattle.row_exchange.specs.Moves.{Move, sent, received}
 use Rattle.placement.specs.Exchanges.{PlacedExchange, traffic_note}
 use Rattle.row_exchange.specs.declared.routes.Size.{Size}
-use Rattle.row_exchange.specs.Exchanges.{IsBatch, batches_between}
+use Rattle.row_exchange.specs.Exchanges.{Shows}
 use Rattle.placed_joins.specs.PlacedJoins.{size_of}
 use Rattle.term_runs.specs.declared.moved.Moved.{Moved}
 
@@ -44,23 +42,11 @@ shown_moves e = of e.kind
     of exchange.Diff = moves_alone 0 e.moves ∷ moves_alone 1 e.moves ∷ []
     of kind = e.moves ∷ []
 
--- the receipt is of so many workers and messages, and shows for all workers u and w, and each atom, the rows that move from u
--- to w, as a bag, in batches of 1 to so many rows
-pub record ShowsRows (size : Size) (moves : List Move) (receipt : ReceiptState) : Type 0 where
-  pub capacity : receipt.capacity ≡ size.capacity
-  pub cells : length receipt.batches ≡ size.workers
-  pub senders : (w : ℕ) → w < size.workers
-      → length (slice_index_or receipt.batches w []) ≡ size.workers
-  pub sized : (u w : ℕ) → u < size.workers → w < size.workers
-      → All (IsBatch most_items size.batch) (batches_between receipt u w)
-  pub rows_are : (u w atom : ℕ) → u < size.workers → w < size.workers
-      → SameBag (rows_between moves atom u w) (rows_of_atom atom (batches_between receipt u w))
-
--- the receipts show these moves, one after another
+-- the receipts show these moves, one after another: of each the rows as bags
 pub data AreShown (size : Size) : List (List Move) → List ReceiptState → Type 0 where
   no_receipt : AreShown size [] []
   a_receipt : (moves : List Move) (receipt : ReceiptState) (rest : List (List Move))
-      (others : List ReceiptState) → ShowsRows size moves receipt → AreShown size rest others
+      (others : List ReceiptState) → Shows SameBag most_items size moves receipt → AreShown size rest others
       → AreShown size (moves ∷ rest) (receipt ∷ others)
 
 -- ---- taps

@@ -1,5 +1,5 @@
 //! The laws by which what exchanges tell is put together.
-ghost use Rattle.term_runs.specs.Laws.{MovesAreJoined, FairnessIsKept, ToldIsMoved, NotesTellMoves, ReceiptsShowMoves, RunsAreJoined};
+ghost use Rattle.term_runs.specs.Laws.{MovesAreJoined, FairnessIsKept, ToldIsMoved, NotesTellMoves, RunsAreJoined};
 
 use rel_io::Tap;
 
@@ -21,11 +21,6 @@ pub fn told_is_moved<T: Tap>()
 /// Law: the numbers that are read off the taps are those of the exchange.
 pub fn notes_tell_moves<T: Tap>()
     ensures { NotesTellMoves T.totals T.tag }
-{}
-
-/// Law: receipts of moves show their rows.
-pub fn receipts_show_moves()
-    ensures { ReceiptsShowMoves }
 {}
 
 /// Law: receipts and runs, one after another, are those of all exchanges.

@@ -18,8 +18,7 @@ mod noting;
 mod telling;
 
 pub use laws::{
-    fairness_is_kept, moves_are_joined, notes_tell_moves, receipts_show_moves, runs_are_joined,
-    told_is_moved,
+    fairness_is_kept, moves_are_joined, notes_tell_moves, runs_are_joined, told_is_moved,
 };
 pub use moved::Moved;
 pub use noting::{seconds_of, traffic_since};
