@@ -15,13 +15,14 @@ use Rattle.hash_partition.specs.Hashing.{key_of}
 use Rattle.placement.specs.Layouts.{together}
 use Rattle.placement.specs.Layouts.{parts_by_home}
 use Rattle.placement.proofs.ScriptLemmas.{home_of-lt}
-use Rattle.row_exchange.specs.Routes.{rows_at, all_rows_to, AreRouted, IsRouted}
+use Rattle.placement.specs.Receiving.{GoesOnce}
+use Rattle.placement.proofs.MoveLemmas.{given-at}
+use Rattle.row_exchange.specs.Routes.{rows_at, AreRouted, IsRouted}
+use Rattle.row_exchange.specs.Moves.{Move, sendings_of, moves_of, rows_given}
 use Rattle.row_exchange.specs.Exchanges.{IsGiven, IsExchange}
 use Rattle.row_exchange.specs.declared.exchanging.Exchanged.{Exchanged}
 use Rattle.row_exchange.specs.declared.routes.Size.{Size}
-use Rattle.route_moves.specs.Moved.{GoOnce, AreRead}
-use Rattle.route_moves.proofs.MoveLemmas.{rows-to-worker, routes_are_moves, moves-shown}
-use Rattle.regular_shuffle.specs.KeySpreads.{HasColumns, key_home, moves_by_key, IsSpread, IsSpreadByKey}
+use Rattle.regular_shuffle.specs.KeySpreads.{HasColumns, key_home, by_key_home, moves_by_key, IsSpread, IsSpreadByKey}
 use Rattle.regular_shuffle.specs.inner.KeyRoutes.{columns_for}
 
 -- ---- the route
@@ -38,19 +39,13 @@ module _ (seed workers : ℕ) (columns : List ℕ) (parts : List Rows) (each : l
   abbrev goes : ℕ → Row → List ℕ
   goes = goes_home seed workers columns columns
 
-  once : GoOnce goes
-  once atom row = refl
-
   each-atom : All (λ spread. length spread ≡ workers) (parts ∷ [])
   each-atom = All-one (λ (spread : List Rows). length spread ≡ workers) parts each
 
-  read : AreRead goes (parts ∷ []) workers (moves_by_key seed workers columns parts)
-  read = routes_are_moves goes (parts ∷ []) workers each-atom once
-
   -- the rows that go to w are those whose key has its home there
-  at-home : (w : ℕ) → all_rows_to goes (parts ∷ []) workers 0 w ≡ filter (λ row. key_home seed workers columns row == w) (together parts)
+  at-home : (w : ℕ) → rows_given (moves_by_key seed workers columns parts) 0 w ≡ filter (λ row. key_home seed workers columns row == w) (together parts)
   at-home w =
-      rows-to-worker goes (parts ∷ []) workers 0 w (once 0) each
+      given-at (by_key_home seed workers columns parts ∷ []) (All-one GoesOnce (by_key_home seed workers columns parts) (λ row. refl)) 0 (omega arith) w
       ∙ (λ i. filter (λ row. one-way (key_home seed workers columns row == w) i) (together parts))
 
   -- each row is one that the route knows, and its cell is a worker
@@ -84,29 +79,28 @@ module _ (seed seed' workers workers' : ℕ) (columns first others : List ℕ) (
       (sym (λ i. (((same_seed i, same_workers i), (is_first i, is_others i)), one i))) r
 
   pub exchange-by : {T : Type 0} (size : Size) (totals : T → Totals) (tag : T → ℕ) (before after : List T) (ex : Result Exchanged Memory)
-      → IsExchange (goes_home seed' workers' first others) spreads size totals tag before after ex
-      → IsExchange (goes_home seed workers columns columns) (parts ∷ []) size totals tag before after ex
+      → IsExchange (moves_of (sendings_of (goes_home seed' workers' first others) spreads)) (length spreads) size totals tag before after ex
+      → IsExchange (moves_by_key seed workers columns parts) 1 size totals tag before after ex
   exchange-by size totals tag before after ex x =
       subst (λ (t : ((ℕ × ℕ) × (List ℕ × List ℕ)) × List (List Rows)).
-      IsExchange (goes_home t.0.0.0 t.0.0.1 t.0.1.0 t.0.1.1) t.1 size totals tag before after ex)
+      IsExchange (moves_of (sendings_of (goes_home t.0.0.0 t.0.0.1 t.0.1.0 t.0.1.1) t.1)) (length t.1) size totals tag before after ex)
       (λ i. (((same_seed i, same_workers i), (is_first i, is_others i)), one i)) x
 
 -- each worker was given one atom
-pub one-atom : (goes : ℕ → Row → List ℕ) (parts : List Rows) (workers : ℕ) (given : List (List Rows)) → IsGiven goes (parts ∷ []) workers given
-    → All (λ atoms. length atoms ≡ 1) given
-one-atom goes parts workers given is k d below =
+pub one-atom : (moves : List Move) (workers : ℕ) (given : List (List Rows)) → IsGiven moves 1 workers given → All (λ atoms. length atoms ≡ 1) given
+one-atom moves workers given is k d below =
     subst (λ (atoms : List Rows). length atoms ≡ 1) (get_or_default given k [] d below) (is.each_atom k (omega (arith, below, is.each_worker)))
 
 -- ---- what is answered
 
 module _ {T : Type 0} (seed : ℕ) (columns : List ℕ) (parts : List Rows) (size : Size) (each : length parts ≡ size.workers) (totals : T → Totals) (tag : T → ℕ)
     (before after : List T) where
-  abbrev home_goes : ℕ → Row → List ℕ
-  home_goes = goes_home seed size.workers columns columns
+  abbrev moves : List Move
+  moves = moves_by_key seed size.workers columns parts
 
   -- the taps, where memory was refused
   pub refused : (ex : Result Exchanged Memory) (answer : Result (List Rows × ReceiptState) Memory)
-      → IsExchange home_goes (parts ∷ []) size totals tag before after ex → IsErr answer → IsSpreadByKey seed columns parts size totals tag before after answer
+      → IsExchange moves 1 size totals tag before after ex → IsErr answer → IsSpreadByKey seed columns parts size totals tag before after answer
   refused ex answer x err = record {
     sent_by = x.sent;
     got_by = x.got;
@@ -114,7 +108,7 @@ module _ {T : Type 0} (seed : ℕ) (columns : List ℕ) (parts : List Rows) (siz
     ok = IfOk-from_err answer (λ made. IsSpread seed columns parts size x.sent x.got made.0 made.1) err;
   }
 
-  pub is-spread : (ex : Exchanged) (made : List Rows) → IsExchange home_goes (parts ∷ []) size totals tag before after (Ok ex)
+  pub is-spread : (ex : Exchanged) (made : List Rows) → IsExchange moves 1 size totals tag before after (Ok ex)
       → made ≡ map (λ atoms. get_or atoms 0 []) ex.given → IsSpreadByKey seed columns parts size totals tag before after (Ok (made, ex.receipt))
   is-spread ex made x is = record {
     sent_by = x.sent;
@@ -123,9 +117,9 @@ module _ {T : Type 0} (seed : ℕ) (columns : List ℕ) (parts : List Rows) (siz
     ok = record {
       each_worker = ap length is ∙ length-map ex.given (λ (atoms : List Rows). get_or atoms 0 []) ∙ x.ok.given.each_worker;
       rows_are = rows-are;
-      receipt_shows = moves-shown home_goes (parts ∷ []) size ex.receipt (moves_by_key seed size.workers columns parts) (read seed size.workers columns parts each) x.ok.receipt;
-      sent_are = x.ok.sent_are ∙ (λ i. map (λ u. (read seed size.workers columns parts each).sent_are u i) (range_with_len 0 size.workers));
-      got_are = x.ok.got_are ∙ (λ i. map (λ w. (read seed size.workers columns parts each).received_are w i) (range_with_len 0 size.workers));
+      receipt_shows = x.ok.receipt;
+      sent_are = x.ok.sent_are;
+      got_are = x.ok.got_are;
     };
   }
     where
@@ -135,6 +129,6 @@ module _ {T : Type 0} (seed : ℕ) (columns : List ℕ) (parts : List Rows) (siz
           subst (λ (rows : Rows). SameBag rows (get_or made w []))
           (at-home seed size.workers columns parts each w
           ∙ sym (get_or-map-range_with_len (λ w. filter (λ row. key_home seed size.workers columns row == w) (together parts)) 0 size.workers w w [] inside (omega arith)))
-          (subst (λ (rows : Rows). SameBag (all_rows_to home_goes (parts ∷ []) size.workers 0 w) rows)
+          (subst (λ (rows : Rows). SameBag (rows_given moves 0 w) rows)
           (sym (ap (λ (l : List Rows). get_or l w []) is ∙ get_or-map (λ (atoms : List Rows). get_or atoms 0 []) ex.given w [] [] (omega (arith, inside, x.ok.given.each_worker))))
           (x.ok.given.rows_are w 0 inside (omega arith)))

@@ -32,20 +32,18 @@ use Rattle.algebra.proofs.ShapeLemmas.{both}
 use Rattle.placement.specs.Exchanges.{kept_parts, prefix_parts, row_counts}
 use Rattle.placement.specs.Laws.{prefix_is_at, extended}
 use Rattle.placement.specs.Layouts.{PlacedRelation, placed_nothing, ByKeys, by_worker, together, rows_of, parts_by_home, prefix_key, last_atom, join_parts}
-use Rattle.placement.specs.Moves.{rows_given, sent, received}
+use Rattle.row_exchange.specs.Moves.{Move, sendings_of, moves_of, rows_given, all_given, sent, received}
 use Rattle.placement.proofs.CellLemmas.{passes}
 use Rattle.placement.proofs.KeptLemmas.{reads-hold, ties-agree, agreeing}
 use Rattle.placement.proofs.PrefixLemmas.{behind_it, filter-inside}
 use Rattle.placement.proofs.ReceivedLemmas.{steps_list_what_they_are_given}
 use Rattle.placement.proofs.ScriptLemmas.{home_of-lt}
 use Rattle.placement.proofs.TogetherLemmas.{dealt-together}
-use Rattle.row_exchange.specs.Routes.{rows_at, all_rows_to, pairs_from, pairs_to}
 use Rattle.row_exchange.specs.declared.routes.Size.{Size}
-use Rattle.route_moves.proofs.MoveLemmas.{rows-to-worker, sum_by-map}
 use Rattle.worker_joins.specs.Listings.{all_candidates, some_overflow, AreListed, IsListFault}
-use Rattle.worker_joins.specs.RouteJoins.{ArePartsAtWorkers, IsRouteJoined, IsRouteJoin, rows_for, all_rows_for}
+use Rattle.worker_joins.specs.RouteJoins.{ArePartsAtWorkers, given_to_each, IsRouteJoined, IsRouteJoin}
 use Rattle.worker_joins.proofs.RouteLemmas.{any-permuted}
-use Rattle.worker_joins.proofs.RouteLemmas as routed
+use Rattle.row_exchange.proofs.MoveLemmas as lists
 use Rattle.placed_joins.specs.PlacedJoins.{placed_rows, placed_items}
 use Rattle.placed_joins.proofs.PartLemmas.{items-placed, items-wide, items-long}
 use Rattle.placed_joins.proofs.WorkerLemmas.{same-lengths}
@@ -55,7 +53,7 @@ use Rattle.regular_shuffle.proofs.BroadcastLemmas.{flat-same}
 use Rattle.regular_shuffle.proofs.ColumnLemmas.{rows-emitted}
 use Rattle.regular_shuffle.proofs.FrontLemmas.{fronts-are}
 use Rattle.regular_shuffle.proofs.LastLemmas.{combined-two, all-pairs, middle-candidates, last-candidates}
-use Rattle.regular_shuffle.proofs.StepRouteLemmas.{map-alike, goes-once, pair-long, sent-same, got-same, bags-shown, tables-same, given-fronts, given-owns}
+use Rattle.regular_shuffle.proofs.StepRouteLemmas.{map-alike, pair-long, sent-same, got-same, bags-shown, tables-same, given-fronts, given-owns}
 
 -- ---- the candidates of the last step
 
@@ -106,15 +104,6 @@ none-any : (p : Row → Bool) (rows : Rows) → All (λ row. p row ≡ false) ro
 none-any p [] all = refl
 none-any p (row ∷ rows) all = λ i. All-head (λ row. p row ≡ false) row rows all i || none-any p rows (All-tail (λ row. p row ≡ false) row rows all) i
 
-all-joined : (P : Row → Type 0) (xs ys : Rows) → All P xs → All P ys → All P (xs ++ ys)
-all-joined P [] ys h k = k
-all-joined P (x ∷ xs) ys h k = All-cons P x (xs ++ ys) (All-head P x xs h) (all-joined P xs ys (All-tail P x xs h) k)
-
-rows-all : (P : Row → Type 0) (parts : List Rows) → All (All P) parts → All P (together parts)
-rows-all P [] all = All-nil P
-rows-all P (rows ∷ parts) all =
-    subst (All P) (sym (flat_map-cons (λ (r : Rows). r) rows parts)) (all-joined P rows (together parts) (All-head (All P) rows parts all) (rows-all P parts (All-tail (All P) rows parts all)))
-
 -- ---- all workers' candidates together
 
 any-map : {X Y : Type 0} (p : Y → Bool) (f : X → Y) (xs : List X) → list_any p (map f xs) ≡ list_any (λ x. p (f x)) xs
@@ -128,7 +117,7 @@ any-flat_map p f (x ∷ xs) = list_any-append p (f x) (flat_map f xs) ∙ ap (λ
 module _ (step : Shape) (n : ℕ) (given : ℕ → List Rows) (rows : Rows) (whole : SameBag rows (flat_map (λ w. candidates_of step (given w)) (range_with_len 0 n))) where
   all-counted : all_candidates step (map given (range_with_len 0 n)) ≡ length rows
   all-counted =
-      sum_by-map (λ parts. length (candidates_of step parts)) given (range_with_len 0 n)
+      lists.sum_by-map (λ parts. length (candidates_of step parts)) given (range_with_len 0 n)
       ∙ sym (length-flat_map (λ w. candidates_of step (given w)) (range_with_len 0 n))
       ∙ length_permutation rows (flat_map (λ w. candidates_of step (given w)) (range_with_len 0 n)) whole
 
@@ -157,8 +146,11 @@ module _ (seed : ℕ) (size : Size) (shape : Shape) (parts : List (List Rows)) (
   abbrev pub goes : ℕ → Row → List ℕ
   goes = step_cells seed n shape i
 
+  abbrev routed : List Move
+  routed = moves_of (sendings_of goes pair)
+
   abbrev given : ℕ → List Rows
-  given = rows_for goes pair n
+  given = all_given routed 2
 
   abbrev step : Shape
   step = shape_at shape i
@@ -237,10 +229,10 @@ module _ (seed : ℕ) (size : Size) (shape : Shape) (parts : List (List Rows)) (
       (sym (flat_map-map (λ (r : Rows). r) (λ w. filter (λ row. home row == w) found) (range_with_len 0 n)))
       (flat-same (λ w. filter (at_home w) found) (λ w. candidates_of step (given w)) n 0 n (omega arith) (λ w low. here w)))
 
-  step-counted : all_candidates step (all_rows_for goes pair n) ≡ length found
+  step-counted : all_candidates step (given_to_each routed 2 n) ≡ length found
   step-counted = all-counted step n given found whole
 
-  step-overflow : some_overflow step (all_rows_for goes pair n) ≡ list_any (overflows_on step.arith step.emits) found
+  step-overflow : some_overflow step (given_to_each routed 2 n) ≡ list_any (overflows_on step.arith step.emits) found
   step-overflow = overflow-found step n given found whole
 
   -- ---- what is listed
@@ -308,17 +300,14 @@ module _ (seed : ℕ) (size : Size) (shape : Shape) (parts : List (List Rows)) (
   abbrev pub AllFit : Type 0
   AllFit = All (All (All Fits)) pair
 
-  given-fits : AllFit → (j w : ℕ) → j < 2 → All Fits (all_rows_to goes pair n j w)
-  given-fits fit j w low =
-      subst (All Fits)
-      (sym (rows-to-worker goes pair n j w (goes-once seed n shape parts ready shaped some i one inside front is j) (pair-long seed n shape parts ready shaped some i one inside front is j [] low)))
-      (All-filter (λ row. list_any (λ c. c == w) (goes j row)) Fits (together (get_or pair j [])) (rows-all Fits (get_or pair j []) (fit j [] low)))
+  given-fits : AllFit → (j w : ℕ) → j < 2 → All Fits (rows_given routed j w)
+  given-fits fit j w low = lists.given-all goes pair Fits j w low (fit j [] low)
 
   candidates-fit : AllFit → (s : Shape) (w : ℕ) → All Fits (candidates_of s (given w))
   candidates-fit fit s w =
       All-filter (all_hold (tests_at s)) Fits (combined_rows (given w))
-      (subst (All Fits) (sym (combined-two (all_rows_to goes pair n 0 w) (all_rows_to goes pair n 1 w)))
-      (all-pairs Fits Fits Fits (λ front row f r. list_all-append (λ v. in_64_bits (number_of v)) front row ∙ (λ j. f j && r j)) (all_rows_to goes pair n 0 w) (all_rows_to goes pair n 1 w)
+      (subst (All Fits) (sym (combined-two (rows_given routed 0 w) (rows_given routed 1 w)))
+      (all-pairs Fits Fits Fits (λ front row f r. list_all-append (λ v. in_64_bits (number_of v)) front row ∙ (λ j. f j && r j)) (rows_given routed 0 w) (rows_given routed 1 w)
       (given-fits fit 0 w (omega arith)) (given-fits fit 1 w (omega arith))))
 
   no-overflow : AllFit → (width : ℕ) → list_any (overflows_on [] (every_column width)) found ≡ false
@@ -326,11 +315,11 @@ module _ (seed : ℕ) (size : Size) (shape : Shape) (parts : List (List Rows)) (
       none-any (overflows_on [] (every_column width)) found
       (All-weaker Fits (λ row. overflows_on [] (every_column width) row ≡ false) (λ row f. none-overflows width row f) found
       (All-permutation Fits (flat_map (λ w. candidates_of step (given w)) (range_with_len 0 n)) found (IsPermutation-sym found (flat_map (λ w. candidates_of step (given w)) (range_with_len 0 n)) whole)
-      (routed.All-flat_map Fits (λ w. candidates_of step (given w)) (range_with_len 0 n) (λ k d below. candidates-fit fit step (get_or (range_with_len 0 n) k d)))))
+      (lists.All-flat_map Fits (λ w. candidates_of step (given w)) (range_with_len 0 n) (λ k d below. candidates-fit fit step (get_or (range_with_len 0 n) k d)))))
 
   -- ---- what the step does
 
-  run-ok : (sent_by got_by listed : List ℕ) (made : List Rows) (receipt : ReceiptState) → IsRouteJoined goes pair step size sent_by got_by listed made receipt
+  run-ok : (sent_by got_by listed : List ℕ) (made : List Rows) (receipt : ReceiptState) → IsRouteJoined routed 2 step size sent_by got_by listed made receipt
       → HasRunStep seed shape parts size i sent_by got_by listed made receipt
   run-ok sent_by got_by listed made receipt j =
       let are = j.listing in
@@ -346,8 +335,8 @@ module _ (seed : ℕ) (size : Size) (shape : Shape) (parts : List (List Rows)) (
         each_worker = long;
         rows_are = same;
         receipt_shows = bags-shown seed n shape parts ready shaped some i one inside front is size receipt refl j.shows;
-        sent_are = j.sent_are ∙ map-alike (λ u. pairs_from goes pair u) (sent (step_moves n seed shape parts i)) 0 n n (omega arith) (λ u low. sent-same seed n shape parts ready shaped some i one inside front is u low);
-        got_are = j.got_are ∙ map-alike (λ w. pairs_to goes pair n w) (received (step_moves n seed shape parts i)) 0 n n (omega arith) (λ w low. got-same seed n shape parts ready shaped some i one inside front is w);
+        sent_are = j.sent_are ∙ map-alike (sent routed) (sent (step_moves n seed shape parts i)) 0 n n (omega arith) (λ u low. lists.sent-routed goes pair u ∙ sent-same seed n shape parts ready shaped some i one inside front is u low);
+        got_are = j.got_are ∙ map-alike (received routed) (received (step_moves n seed shape parts i)) 0 n n (omega arith) (λ w low. lists.received-routed goes pair n (pair-long seed n shape parts ready shaped some i one inside front is) w ∙ got-same seed n shape parts ready shaped some i one inside front is w);
         listed_are = are.listed_are ∙ sym (same-lengths (step_parts n seed shape parts i) made (parts-long ∙ sym long) (λ w below. same w (omega (arith, below, parts-long))));
         listed_made = are.listed_are;
       }
@@ -357,7 +346,7 @@ module _ (seed : ℕ) (size : Size) (shape : Shape) (parts : List (List Rows)) (
       by true h = h
       by false h = refl
 
-  run-err : (fault : JoinFault) → (fault ≡ joined.Overflow → (suc i == length shape.atoms) ≡ false → AllFit) → IsListFault step (all_rows_for goes pair n) fault → IsStepFault shape parts i fault
+  run-err : (fault : JoinFault) → (fault ≡ joined.Overflow → (suc i == length shape.atoms) ≡ false → AllFit) → IsListFault step (given_to_each routed 2 n) fault → IsStepFault shape parts i fault
   run-err joined.TooManyRows fit h = subst (λ (m : ℕ). most_rows < m) step-counted h
   run-err joined.Overflow fit h =
       (subst (λ (m : ℕ). m ≤ most_rows) step-counted h.0, by (suc i == length shape.atoms) refl (sym step-overflow ∙ h.1))
@@ -370,7 +359,7 @@ module _ (seed : ℕ) (size : Size) (shape : Shape) (parts : List (List Rows)) (
   run-err joined.Memory fit h = tt
 
   pub is-run : {T : Type 0} (totals : T → Totals) (tag : T → ℕ) (before after : List T) (answer : Result (List Rows × ReceiptState) JoinFault)
-      → IsRouteJoin goes pair step size totals tag before after answer
+      → IsRouteJoin routed 2 step size totals tag before after answer
       → IfErr answer (λ fault. fault ≡ joined.Overflow → (suc i == length shape.atoms) ≡ false → AllFit)
       → IsStepRun seed shape parts size i totals tag before after answer
   is-run totals tag before after (Ok made) r fit = record {

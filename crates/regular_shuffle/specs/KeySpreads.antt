@@ -15,10 +15,9 @@ use Rattle.exchange_channels.specs.Wirings.{ReceiptState}
 use Rattle.myrial_ast.specs.Combinations.{Row, Rows}
 use Rattle.hash_partition.specs.Hashing.{key_of, home_of}
 use Rattle.placement.specs.Layouts.{together, parts_by_home}
-use Rattle.placement.specs.Moves.{Move, Sending, moves_of, sent, received}
-use Rattle.row_exchange.specs.Exchanges.{IsTold}
+use Rattle.row_exchange.specs.Moves.{Move, Sending, moves_of, sent, received}
+use Rattle.row_exchange.specs.Exchanges.{InOrder, Shows, IsTold}
 use Rattle.row_exchange.specs.declared.routes.Size.{Size}
-use Rattle.route_moves.specs.Moved.{ShowsMoves}
 
 -- a row has a value in each of these columns
 abbrev pub HasColumns : List ℕ → Row → Type 0
@@ -46,7 +45,7 @@ pub record IsSpread (seed : ℕ) (columns : List ℕ) (parts : List Rows) (size 
       → SameBag (slice_index_or
       (parts_by_home size.workers (key_home seed size.workers columns) (together parts)) w [])
       (slice_index_or made w [])
-  pub receipt_shows : ShowsMoves (moves_by_key seed size.workers columns parts) 1 size receipt
+  pub receipt_shows : Shows InOrder 1 size (moves_by_key seed size.workers columns parts) receipt
   pub sent_are : sent_by ≡ map (sent (moves_by_key seed size.workers columns parts))
       (range_with_len 0 size.workers)
   pub got_are : got_by ≡ map (received (moves_by_key seed size.workers columns parts))
