@@ -22,7 +22,7 @@ use Rattle.algebra.specs.Meanings.{has_long_prefix}
 use Rattle.placement.specs.Destinations.{first_in, coordinate_in, cells, agrees, destinations, meeting_cell}
 use Rattle.placement.specs.Exchanges.{kept_parts, row_counts, prefix_parts, by_cells, by_broadcast, by_keys, cells_exchange, broadcast_exchange, key_exchange, shuffle_exchanges}
 use Rattle.placement.specs.Layouts.{PlacedRelation, Shuffle, ByCells, ByKeys, Broadcast, placed_nothing, parts_by_home, values_in, prefix_key, item_key, is_most, staying_atom, rows_of, last_atom, join_parts}
-use Rattle.placement.specs.Moves.{Sending}
+use Rattle.row_exchange.specs.Moves.{Sending}
 use Rattle.placement.specs.Plans.{kept_sizes, usual_shuffle, uses_of}
 use Rattle.share_chooser.specs.Best.{best_shares}
 use Rattle.bag_runs.specs.SameExchanges.{IsSameExchange, AreSameExchanges, no_exchange, an_exchange}

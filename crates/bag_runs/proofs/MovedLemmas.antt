@@ -13,7 +13,7 @@ use Rattle.algebra.specs.declared.notes.Exchange.{Exchange}
 use Rattle.algebra.specs.declared.notes.Exchange.TheVariants as exchange
 use Rattle.algebra.specs.declared.notes.Traffic.{Traffic}
 use Rattle.placement.specs.Exchanges.{PlacedExchange, traffic_note}
-use Rattle.placement.specs.Moves.{Move, sent, received, rows_between}
+use Rattle.row_exchange.specs.Moves.{Move, sent, received, rows_between}
 use Rattle.placement.specs.Layouts.{by_worker}
 use Rattle.row_exchange.specs.declared.routes.Size.{Size}
 use Rattle.row_exchange.specs.Exchanges.{batches_between}

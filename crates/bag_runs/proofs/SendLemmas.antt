@@ -9,7 +9,7 @@ use Rattle.myrial_ast.specs.Combinations.{Row, Rows}
 use Rattle.bag_laws.specs.Permuted.{SameTables, no_table, a_table}
 use Rattle.algebra.specs.declared.notes.Exchange.{Exchange}
 use Rattle.placement.specs.Exchanges.{PlacedExchange}
-use Rattle.placement.specs.Moves.{Move, Sending, moves_of_row, moves_of_atom, moves_of}
+use Rattle.row_exchange.specs.Moves.{Move, Sending, moves_of_row, moves_of_atom, moves_of}
 use Rattle.bag_runs.specs.SameExchanges.{IsSameExchange, AreSameExchanges, no_exchange, an_exchange}
 use Rattle.bag_runs.proofs.TableLemmas.{rows-make}
 

@@ -9,7 +9,7 @@ use Rattle.rel_base.specs.Bags.{SameBag}
 use Rattle.myrial_ast.specs.Combinations.{Rows}
 use Rattle.bag_laws.specs.Permuted.{SameTables}
 use Rattle.algebra.specs.declared.settings.Settings.{Settings}
-use Rattle.placement.specs.Moves.{sent, received, rows_between}
+use Rattle.row_exchange.specs.Moves.{sent, received, rows_between}
 use Rattle.placement.specs.Exchanges.{PlacedExchange}
 use Rattle.term_runs.specs.declared.moved.Moved.{Moved}
 use Rattle.term_runs.specs.TermRuns.{IsMoved, all_sent, all_received, all_listed}
