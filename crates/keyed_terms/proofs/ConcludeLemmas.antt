@@ -14,7 +14,7 @@ use Rattle.bag_laws.specs.Permuted.{SameTables, no_table, a_table}
 use Rattle.algebra.specs.declared.settings.Settings.{Settings}
 use Rattle.placement.specs.Exchanges.{PlacedExchange, row_counts}
 use Rattle.placement.specs.Layouts.{by_worker}
-use Rattle.placement.specs.Moves.{sent, received}
+use Rattle.row_exchange.specs.Moves.{sent, received}
 use Rattle.placed_joins.specs.PlacedJoins.{size_of}
 use Rattle.row_exchange.specs.Exchanges.{IsTold}
 use Rattle.row_exchange.proofs.MessageLemmas.{parity}

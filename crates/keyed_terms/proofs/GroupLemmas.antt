@@ -23,7 +23,8 @@ use Rattle.placement.specs.Layouts.{together}
 use Rattle.placement.proofs.ScriptLemmas.{home_of-lt}
 use Rattle.placement.proofs.TogetherLemmas.{homes-together}
 use Rattle.regular_shuffle.specs.KeySpreads.{HasColumns, key_home}
-use Rattle.worker_joins.proofs.RouteLemmas.{All-flat_map, same-tables}
+use Rattle.row_exchange.proofs.MoveLemmas.{All-flat_map}
+use Rattle.worker_joins.proofs.RouteLemmas.{same-tables}
 use Rattle.keyed_terms.specs.inner.Making.{AreMadeBy}
 
 -- ---- the columns of partial rows

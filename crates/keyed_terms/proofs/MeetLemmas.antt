@@ -2,6 +2,8 @@
 use Rattle.std.proofs.Common.{◌≡◌, ℕ, ◌+◌, List, [], ◌∷◌, get_or, All, Result, refl, sym, subst, arith}
 use Rattle.std.specs.Prelude.{IsErr}
 use Rattle.std.proofs.lemmas.Result.{IfOk-from_err}
+use Rattle.rel_base.specs.Bags.{SameBag}
+use Rattle.rel_base.specs.Limits.{most_items}
 use Rattle.rel_base.specs.declared.failure.Memory.{Memory}
 use Rattle.rel_io.specs.declared.taps.Totals.{Totals}
 use Rattle.exchange_channels.specs.Wirings.{ReceiptState}
@@ -9,11 +11,11 @@ use Rattle.myrial_ast.specs.Combinations.{Row, Rows}
 use Rattle.algebra.specs.declared.settings.Settings.{Settings}
 use Rattle.hash_partition.specs.Hashing.{home_of}
 use Rattle.placement.specs.Exchanges.{PlacedExchange}
-use Rattle.placement.specs.Moves.{Move, sent, received}
+use Rattle.row_exchange.specs.Moves.{Move, sent, received}
 use Rattle.placed_joins.specs.PlacedJoins.{size_of}
-use Rattle.row_exchange.specs.Exchanges.{IsTold}
+use Rattle.row_exchange.specs.Exchanges.{Shows, IsTold}
 use Rattle.worker_joins.specs.Listings.{IsLow}
-use Rattle.term_runs.specs.TermRuns.{ShowsRows, moves_alone, AreShown, no_receipt, a_receipt, all_sent, all_received, all_listed, AreMoved, AreFair}
+use Rattle.term_runs.specs.TermRuns.{moves_alone, AreShown, no_receipt, a_receipt, all_sent, all_received, all_listed, AreMoved, AreFair}
 use Rattle.term_runs.proofs.TapLemmas.{AreAdded, added-told, added-both, added-same, added-moved, moved-added}
 use Rattle.keyed_terms.specs.inner.Meeting.{unlisted_exchange, HaveMet, IsMeeting}
 use Rattle.keyed_terms.proofs.MoveLemmas.{first-alone, second-alone, sent-two, received-two}
@@ -53,9 +55,9 @@ module _ {T : Type 0} (s : Settings) (left right : List Rows) (totals : T → To
     shown =
         subst (AreShown (size_of s) (moves_alone 0 e.moves ∷ moves_alone 1 e.moves ∷ [])) (sym are)
         (a_receipt (moves_alone 0 e.moves) first (moves_alone 1 e.moves ∷ []) (second ∷ [])
-        (subst (λ (ms : List Move). ShowsRows (size_of s) ms first) (sym (first-alone home left right)) one.shows)
+        (subst (λ (ms : List Move). Shows SameBag most_items (size_of s) ms first) (sym (first-alone home left right)) one.shows)
         (a_receipt (moves_alone 1 e.moves) second [] []
-        (subst (λ (ms : List Move). ShowsRows (size_of s) ms second) (sym (second-alone home left right)) two.shows) no_receipt));
+        (subst (λ (ms : List Move). Shows SameBag most_items (size_of s) ms second) (sym (second-alone home left right)) two.shows) no_receipt));
   }
 
   -- what was told of both, as of one exchange

@@ -8,20 +8,21 @@ use Rattle.std.proofs.lemmas.List.Elements.{All-nil, All-head, All-tail, All-app
 use Rattle.std.proofs.lemmas.List.Sorted.{IsPermutation-refl, IsPermutation-sym, IsPermutation-trans, IsPermutation-append, IsPermutation-map, sum_by-IsPermutation}
 use Rattle.std.proofs.lemmas.List.Sums.{sum_by-append, length-filter}
 use Rattle.rel_base.specs.Bags.{SameBag}
+use Rattle.rel_base.specs.Limits.{most_items}
 use Rattle.rel_base.specs.Values.{row_order}
 use Rattle.rel_base.specs.ValueLaws.{row_order_total, row_order-IsAntisymmetric}
-use Rattle.exchange_channels.specs.Messages.{rows_of_atom}
 use Rattle.exchange_channels.specs.Wirings.{ReceiptState}
 use Rattle.myrial_ast.specs.Combinations.{Row, Rows}
 use Rattle.bag_laws.specs.Permuted.{SameTables, no_table, a_table}
 use Rattle.bag_laws.proofs.RowPermutations.{flat_map-same}
 use Rattle.bag_laws.proofs.PartialLemmas.{map-agree}
 use Rattle.placement.specs.Layouts.{together}
-use Rattle.placement.specs.Moves.{Move, Sending, moves_of_atom, moves_of, sent, received, rows_between}
-use Rattle.route_moves.proofs.MoveLemmas.{sum_by-map}
+use Rattle.row_exchange.specs.Moves.{Move, Sending, moves_of_atom, moves_of, sent, received, rows_between}
+use Rattle.row_exchange.proofs.MoveLemmas.{sum_by-map}
 use Rattle.row_exchange.specs.declared.routes.Size.{Size}
-use Rattle.row_exchange.specs.Exchanges.{batches_between}
-use Rattle.term_runs.specs.TermRuns.{ShowsRows, moves_alone}
+use Rattle.row_exchange.specs.Exchanges.{Shows}
+use Rattle.row_exchange.proofs.ReceiptLemmas.{shown-as}
+use Rattle.term_runs.specs.TermRuns.{moves_alone}
 
 -- each row goes to its home
 abbrev pub home_sending : (Row → ℕ) → List Rows → Sending
@@ -112,16 +113,11 @@ module _ (ms ns : List Move) (h : IsPermutation ms ns) where
       (flat_map-same row_order row_order_total row_order-IsAntisymmetric (λ (m : Move). cond (p m) (m.row ∷ []) []) ms ns h))
 
   -- a receipt that shows the rows of the one shows those of the other
-  pub shown-same : (size : Size) (receipt : ReceiptState) → ShowsRows size ms receipt → ShowsRows size ns receipt
-  shown-same size receipt x = record {
-    capacity = x.capacity;
-    cells = x.cells;
-    senders = x.senders;
-    sized = x.sized;
-    rows_are = λ u w atom from to.
-        IsPermutation-trans (rows_between ns atom u w) (rows_between ms atom u w) (rows_of_atom atom (batches_between receipt u w))
-        (IsPermutation-sym (rows_between ms atom u w) (rows_between ns atom u w) (between-same atom u w)) (x.rows_are u w atom from to);
-  }
+  pub shown-same : (size : Size) (receipt : ReceiptState) → Shows SameBag most_items size ms receipt → Shows SameBag most_items size ns receipt
+  shown-same size receipt =
+      shown-as SameBag SameBag most_items most_items size ms ns receipt (omega arith)
+      (λ u w atom rows same. IsPermutation-trans (rows_between ns atom u w) (rows_between ms atom u w) rows
+      (IsPermutation-sym (rows_between ms atom u w) (rows_between ns atom u w) (between-same atom u w)) same)
 
 -- ---- two atoms
 

@@ -7,6 +7,7 @@ use Rattle.std.proofs.lemmas.List.Elements.{All-head, All-tail, All-weaker}
 use Rattle.std.proofs.lemmas.List.Sorted.{IsPermutation-refl, IsPermutation-trans, IsPermutation-sym}
 use Rattle.std.specs.Prelude.{pos}
 use Rattle.rel_base.specs.Bags.{SameBag}
+use Rattle.rel_base.specs.Limits.{most_items}
 use Rattle.rel_base.specs.declared.values.Value.TheVariants as variant
 use Rattle.exchange_channels.specs.Wirings.{ReceiptState}
 use Rattle.myrial_ast.specs.Combinations.{Row, Rows}
@@ -14,20 +15,21 @@ use Rattle.bag_laws.specs.Permuted.{SameTables}
 use Rattle.bag_laws.proofs.RowPermutations.{filter_rows-same}
 use Rattle.hash_partition.specs.Hashing.{key_of, home_of}
 use Rattle.placement.specs.Layouts.{together}
-use Rattle.placement.specs.Moves.{Move, moves_of, sent, received}
+use Rattle.row_exchange.specs.Moves.{Move, moves_of, sent, received}
 use Rattle.regular_shuffle.specs.KeySpreads.{HasColumns, key_home, moves_by_key, IsSpread}
 use Rattle.row_exchange.specs.declared.routes.Size.{Size}
-use Rattle.term_runs.specs.TermRuns.{ShowsRows}
-use Rattle.term_runs.proofs.ReceiptLemmas.{receipts-show}
-use Rattle.worker_joins.proofs.RouteLemmas.{All-flat_map, same-tables}
+use Rattle.row_exchange.specs.Exchanges.{Shows}
+use Rattle.row_exchange.proofs.ReceiptLemmas.{bags-shown}
+use Rattle.row_exchange.proofs.MoveLemmas.{All-flat_map}
+use Rattle.worker_joins.proofs.RouteLemmas.{same-tables}
 use Rattle.keyed_terms.specs.KeyedTerms.{AreOfWidth}
 use Rattle.keyed_terms.specs.inner.Making.{AreMadeBy}
-use Rattle.keyed_terms.proofs.MoveLemmas.{home_sending, home_moves, moves-one, each-move, moves-agree, moves-same, together-same, sent-same, received-same, shown-same}
+use Rattle.keyed_terms.proofs.MoveLemmas.{home_sending, home_moves, moves-one, moves-agree, moves-same, together-same, sent-same, received-same, shown-same}
 
 -- rows of these parts came to their homes, the receipt shows their moves, and the numbers are those of the moves
 pub record IsSpreadAs (home : Row → ℕ) (expected : List Rows) (size : Size) (sent_by got_by : List ℕ) (made : List Rows) (receipt : ReceiptState) : Type 0 where
   pub rows : AreMadeBy size.workers (λ w. filter (λ row. home row == w) (together expected)) made
-  pub shows : ShowsRows size (moves_of (home_sending home expected ∷ [])) receipt
+  pub shows : Shows SameBag most_items size (moves_of (home_sending home expected ∷ [])) receipt
   pub sent_are : (u : ℕ) → u < size.workers → get_or sent_by u 0 ≡ sent (moves_of (home_sending home expected ∷ [])) u
   pub got_are : (w : ℕ) → w < size.workers → get_or got_by w 0 ≡ received (moves_of (home_sending home expected ∷ [])) w
 
@@ -53,10 +55,6 @@ module _ (seed : ℕ) (columns : List ℕ) (home : Row → ℕ) (expected given 
       (subst (λ (ms : List Move). IsPermutation (home_moves 0 0 home given) ms) (sym (moves-one home expected))
       (IsPermutation-sym (home_moves 0 0 home expected) (home_moves 0 0 home given) (moves-same 0 0 home expected given same)))
 
-  first-atom : All (λ (m : Move). m.atom < 1) (moves_by_key seed size.workers columns given)
-  first-atom =
-      subst (All (λ (m : Move). m.atom < 1)) (sym (moves-one key given)) (each-move (λ (m : Move). m.atom < 1) 0 key (λ u row. omega arith) 0 given)
-
   at-home : (w : ℕ) → w < size.workers → SameBag (filter (λ row. home row == w) (together expected)) (get_or made w [])
   at-home w below =
       let agreed : All (λ row. home row ≡ key row) (together given) = All-flat_map (λ (row : Row). home row ≡ key row) (λ (rows : Rows). rows) given agree in
@@ -74,7 +72,7 @@ module _ (seed : ℕ) (columns : List ℕ) (home : Row → ℕ) (expected given 
     rows = record { count = x.each_worker; rows_are = at-home };
     shows =
         shown-same (moves_by_key seed size.workers columns given) own moves-are size receipt
-        (receipts-show (moves_by_key seed size.workers columns given) 1 size receipt (omega arith) first-atom x.receipt_shows);
+        (bags-shown 1 most_items size (moves_by_key seed size.workers columns given) receipt (omega arith) x.receipt_shows);
     sent_are = λ u below.
         ap (λ (l : List ℕ). get_or l u 0) x.sent_are
         ∙ get_or-map-range_with_len (sent (moves_by_key seed size.workers columns given)) 0 size.workers u u 0 below (omega arith)

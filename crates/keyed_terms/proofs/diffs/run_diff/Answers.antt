@@ -6,7 +6,7 @@ use Rattle.algebra.specs.declared.notes.Exchange.TheVariants as exchange
 use Rattle.hash_partition.specs.Hashing.{home_of}
 use Rattle.placement.specs.Exchanges.{PlacedExchange, row_exchange}
 use Rattle.placement.specs.Layouts.{together}
-use Rattle.placement.specs.Moves.{sent, received}
+use Rattle.row_exchange.specs.Moves.{sent, received}
 use Rattle.placement.specs.Plans.{usual_placing}
 use Rattle.placed_joins.specs.PlacedJoins.{placed_rows}
 use Rattle.term_runs.specs.Notes.{AreSeconds}
