@@ -9,7 +9,7 @@ use crate::parts::SortedPart;
 use crate::ranges::{RowRange, ranges_of};
 use crate::sorting::Sorting;
 use crew::run_all;
-use rel_base::{Memory, Rows, Spread};
+use rel_base::{Duplicate, Memory, Rows, Spread};
 use std::alloc::Global;
 use std::marker::Model;
 use std::sync::Wait;
@@ -68,6 +68,31 @@ pub fn sort_parts<'a, R: Threads + Wait + Sync>(
     run_jobs(rt, &mut jobs);
     let parts = sorted_by_jobs(alloc, jobs)?;
     Ok(SortedRows { parts })
+}
+
+/// The rows of all parts in ascending order, as a list of its own; want of memory where they are
+/// more than a list holds. Rows that a part shares stay shared, and only those that it has alone
+/// are copied. No thread is asked for, so that all rows are sorted at once.
+pub fn collect(alloc: Global, parts: &Spread) -> Result<Rows, Memory>
+    ensures { IfOk result (λ rows. rows ≡ sorted (joined parts.now)) }
+{
+    let mut rows = put_together(alloc, parts.as_slice())?;
+    rows.sort(alloc)?;
+    Ok(rows)
+}
+
+/// The rows of all parts, one part behind another.
+fn put_together(alloc: Global, parts: &[Rows]) -> Result<Rows, Memory>
+    ensures { IfOk result (λ rows. rows ≡ joined parts.now) }
+{
+    let mut rows = Rows::new(alloc);
+    for part in parts {
+        if part.len() > Rows::MOST - rows.len() {
+            return Err(Memory);
+        }
+        rows.append(alloc, part.copy(alloc)?)?;
+    }
+    Ok(rows)
 }
 
 /// A sorting job for each part.

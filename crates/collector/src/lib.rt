@@ -2,10 +2,11 @@
 //!
 //! Stands on `crew`, which sorts the parts side by side, on `itertools`, whose `kmerge` merges
 //! them, and on `rel_base` for rows and their order. No row is copied or moved: what is sorted and
-//! merged are references.
+//! merged are references. `collect` is for callers that want a list, and nothing here calls it.
 //!
 //! Promises: `sort_parts` gives the rows of all parts in ascending order, each where its part has
-//! it, and `ranges` cuts them into ranges that follow one another, each of which gives its rows.
+//! it, and `ranges` cuts them into ranges that follow one another, each of which gives its rows;
+//! `collect` gives them as one list.
 //! Not promised: that memory is there, that parts are sorted at once, that ranges have equally many
 //! rows, and that `sort_parts` returns: it waits for its jobs.
 //!
@@ -29,5 +30,5 @@ mod rests;
 mod runs;
 mod sorting;
 
-pub use collecting::{SortedRows, sort_parts};
+pub use collecting::{SortedRows, collect, sort_parts};
 pub use ranges::RowRange;

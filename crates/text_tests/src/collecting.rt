@@ -1,6 +1,6 @@
 //! Parts that are in order, out of order and empty, as strings and numbers.
 use crate::pieces::every_third;
-use collector::sort_parts;
+use collector::{collect, sort_parts};
 use rel_base::{Memory, Row, Rows, Spread, Text, Value};
 use std::alloc::Global;
 use std::sync::Wait;
@@ -62,6 +62,26 @@ fn numbers_in_order<R: Threads + Wait + Sync>(
 fn parts_are_merged(rt: HostRuntime) -> Result<(), Fail> {
     let parts = three_parts(rt.alloc())?;
     let numbers = numbers_in_order(&rt, rt.alloc(), &parts)?;
+    assert_eq!(rt; numbers.as_slice(), [2, 9, 1, 0].as_slice());
+    Ok(())
+}
+
+/// The numbers of rows, as they stand.
+fn numbers_of(alloc: Global, rows: &Rows) -> Result<Vec<i64>, Memory> {
+    let mut numbers = Vec::with_capacity(alloc, rows.len() as usize)?;
+    for row in rows {
+        if let Some(number) = number_of(row) {
+            numbers.push(number)?;
+        }
+    }
+    Ok(numbers)
+}
+
+#[test]
+fn parts_are_collected_in_one_list(rt: HostRuntime) -> Result<(), Fail> {
+    let parts = three_parts(rt.alloc())?;
+    let rows = collect(rt.alloc(), &parts)?;
+    let numbers = numbers_of(rt.alloc(), &rows)?;
     assert_eq!(rt; numbers.as_slice(), [2, 9, 1, 0].as_slice());
     Ok(())
 }
