@@ -19,7 +19,7 @@ use Rattle.placement.specs.Destinations.{meeting_cell}
 use Rattle.placement.specs.Exchanges.{PlacedExchange, broadcast_exchange, cells_exchange, exchanges_of, group_exchange, join_exchanges, kept_parts, key_exchange, prefix_parts, row_counts, row_exchange, shuffle_exchanges, term_exchanges, traffic_note, traffic_of}
 use Rattle.placement.specs.Laws.{IsPlaced, IsPlacing}
 use Rattle.placement.specs.Layouts.{PlacedRelation, placed_nothing, Placing, Shuffle, ByCells, ByKeys, Broadcast, join_parts, last_atom, listed_parts, parts_by_home, placed_source, placed_steps, prefix_key, rows_of, staying_atom, term_parts}
-use Rattle.placement.specs.Moves.{received}
+use Rattle.row_exchange.specs.Moves.{received}
 use Rattle.placement.proofs.CellLemmas.{All-flat_map}
 use Rattle.placement.proofs.ScriptLemmas.{All-made, found-IsPlaced, get_or-All, nothing_IsPlaced, steps-IsPlaced}
 use Rattle.plan_printer.specs.TrafficTexts.{IsWhole}

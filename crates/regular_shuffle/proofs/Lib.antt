@@ -2,7 +2,6 @@
 pub mod MovingLemmas
 pub mod SpreadLemmas
 pub mod StayingLemmas
-pub mod TapLemmas
 pub mod ColumnLemmas
 pub mod BroadcastLemmas
 pub mod WorkedRows

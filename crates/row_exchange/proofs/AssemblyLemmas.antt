@@ -24,7 +24,7 @@ use Rattle.exchange_channels.specs.Messages.{rows_of, row_count, batches_of, row
 use Rattle.exchange_channels.proofs.PortLemmas.{map_same}
 use Rattle.exchange_channels.proofs.DeliveryLemmas.{element}
 use Rattle.row_exchange.specs.Routes.{Row, Rows, IsRouted, rows_at}
-use Rattle.row_exchange.specs.inner.Pairs.{rows_to, all_rows_to, pairs_from, pairs_to}
+use Rattle.row_exchange.specs.inner.Pairs.{rows_to}
 use Rattle.row_exchange.specs.Moves.{Move, sendings_of, moves_of, sent, received, rows_between, rows_given}
 use Rattle.row_exchange.specs.Exchanges.{IsSize, IsBatch, AreLow, with_more_sent, with_more_got, IsTold, InOrder, batches_between, Shows, IsGiven, IsExchanged, IsExchange}
 use Rattle.row_exchange.specs.declared.exchanging.Exchanged.{Exchanged}

@@ -13,7 +13,7 @@ use Rattle.std.proofs.lemmas.List.Sums.{sum_by-cons, length-filter}
 use Rattle.row_exchange.specs.Routes.{Row, Rows, rows_at}
 use Rattle.row_exchange.specs.Moves.{Move, Sending, no_sending, sendings_of, moves_of_row, moves_of_atom, moves_of, sent, received, rows_between, rows_given}
 use Rattle.row_exchange.specs.inner.Pairs.{times_to, rows_to, all_rows_to, pairs_of, pairs_from, pairs_to}
-use Rattle.row_exchange.proofs.SumLemmas.{sum_by-same, sum_by-range_same, sums-swap, sum_by-places, sum_by-flat_map}
+use Rattle.row_exchange.proofs.SumLemmas.{sum_by-range_same, sums-swap, sum_by-places, sum_by-flat_map}
 use Rattle.row_exchange.proofs.MessageLemmas.{flat_map-places}
 
 -- ---- lists

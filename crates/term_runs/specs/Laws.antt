@@ -5,7 +5,7 @@
 --   ToldIsMoved             what the taps are told of an exchange, and of rows listed behind it, is what it moves
 --   NotesTellMoves          the numbers that are read off the taps are those of the exchange
 --   RunsAreJoined           receipts and runs, one after another
-use Rattle.std.specs.Prelude.{◌≡◌, ℕ, ◌*◌, ◌<◌, ◌≤◌, List, [], ◌∷◌, ◌++◌, length, All}
+use Rattle.std.specs.Prelude.{◌≡◌, ℕ, ◌*◌, ◌≤◌, List, [], ◌∷◌, ◌++◌, length}
 use Rattle.rel_io.specs.declared.taps.Totals.{Totals}
 use Rattle.exchange_channels.specs.Wirings.{ReceiptState}
 use Rattle.myrial_ast.specs.Combinations.{Rows}

@@ -8,7 +8,7 @@
 --   AreFair .. before after               the taps stand in their order, and stay even if they were
 --   IsMoved s number expected exchanges made   what a run gives: the rows at each worker, notes and receipts
 --   IsTermRun ..                          what it does, whatever it answers
-use Rattle.std.specs.Prelude.{◌≡◌, ℕ, ◌+◌, ◌*◌, ◌<◌, ◌≤◌, ◌==◌, List, [], ◌∷◌, length, map, filter, sum_by, All, Result, IfOk, IfErr, slice_index_or}
+use Rattle.std.specs.Prelude.{◌≡◌, ℕ, ◌+◌, ◌*◌, ◌<◌, ◌≤◌, ◌==◌, List, [], ◌∷◌, length, map, filter, sum_by, Result, IfOk, IfErr, slice_index_or}
 use Rattle.std.specs.List.{flat_map}
 use Rattle.rel_base.specs.Bags.{SameBag}
 use Rattle.rel_base.specs.Limits.{most_items}
