@@ -124,7 +124,7 @@ types-fetched fetches files all = λ k d less. (all k d less).typed
 -- ---- one file more
 
 -- the items before the next place, and the item there
-take_more : {X : Type 0} (xs : List X) (i : ℕ) (x : X) → i < length xs → x ≡ get_or xs i x → take (i + 1) xs ≡ take i xs ++ x ∷ []
+pub take_more : {X : Type 0} (xs : List X) (i : ℕ) (x : X) → i < length xs → x ≡ get_or xs i x → take (i + 1) xs ≡ take i xs ++ x ∷ []
 take_more xs i x h is = (rw add-one (take-suc xs i x h)) ∙ ap (λ y. take i xs ++ y ∷ []) (sym is)
 
 pub one_more_read : (content same : List ℕ → Content) (fetches : List Fetch) (i : ℕ) (fetch : Fetch) (files more : List File)

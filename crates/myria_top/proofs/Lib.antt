@@ -4,6 +4,7 @@ mod RequestLemmas
 mod OneAnswerLemmas
 mod ScriptLemmas
 mod FetchLemmas
+mod EachFileLemmas
 mod TrialLemmas
 mod TrafficLemmas
 mod PrintedLemmas

@@ -1,5 +1,5 @@
 -- Receipts and taps of a run, by the request that asks for it.
-use Rattle.std.proofs.Common.{◌≡◌, ℕ, Bool, true, false, cond, List, [], Option, Ok, Result, sym, ◌∙◌, ap, subst}
+use Rattle.std.proofs.Common.{◌≡◌, ℕ, Bool, true, false, cond, List, [], Option, Ok, Result, refl, sym, ◌∙◌, ap, subst}
 use Rattle.std.specs.Prelude.{IfOk, Err}
 use Rattle.std.specs.List.{flat_map}
 use Rattle.rel_base.specs.Keys.{File}
@@ -22,16 +22,17 @@ use Rattle.command_words.specs.declared.requests.Request.{Request}
 use Rattle.command_words.specs.Requests.{Asked}
 use Rattle.myria_top.specs.declared.outcomes.Outcome.{Outcome}
 use Rattle.myria_top.specs.declared.outcomes.Outcome.TheVariants as outcome
-use Rattle.myria_top.specs.Moves.{HasMoved, HasMovedAfter, IsRunOf, script_run, trial_run, exchanges_asked}
+use Rattle.myria_top.specs.Moves.{HasMoved, HasMovedAfter, HasNoReceipt, IsRunOf, IsStill, script_run, trial_run, exchanges_asked}
 use Rattle.myria_top.specs.Reading.{Meets, RefusesBy}
 use Rattle.myria_top.specs.Requests.{Asks, is_check, is_trial}
 use Rattle.myria_top.specs.Runs.{files_verdict}
 use Rattle.myria_top.specs.Scripts.{ScriptComesTo, TextComesTo}
 use Rattle.myria_top.specs.Verdicts.{Verdict, passes, IfTold}
-use Rattle.myria_top.specs.inner.Working.{MovesAs}
+use Rattle.myria_top.specs.declared.unprinted.Unprinted.{Unprinted}
+use Rattle.myria_top.specs.inner.Working.{MovesAs, MovesNothing}
 use Rattle.myria_top.proofs.OneAnswerLemmas.{script_one, text_one}
 use Rattle.myria_top.proofs.RequestLemmas.{one-request, trial-or}
-use Rattle.myria_top.proofs.VerdictLemmas.{step_met}
+use Rattle.myria_top.proofs.VerdictLemmas.{passes-one, step_met}
 
 -- ---- with workers and without
 
@@ -70,9 +71,6 @@ checked-one files script c d is other = by (sym is ∙ other)
   where
     by : {X E : Type 0} {x y : X} → ◌≡◌ {A = Result X E} (Ok x) (Ok y) → x ≡ y
     by e = cc
-
-passes-one : {X : Type 0} {x y : X} → ◌≡◌ {A = Verdict X} (passes x) (passes y) → x ≡ y
-passes-one e = cc
 
 -- a step that passes is the one that was met
 met-one : {X : Type 0} (s : Verdict X) (x y : X) → IfTold s (λ t. t ≡ passes x) → s ≡ passes y → x ≡ y
@@ -126,6 +124,22 @@ pub moved-where-asked : {T : Type 0} (asked : Option Asked) (r : Request) (conte
 moved-where-asked asked r content totals tag before after receipts asks moved q files c other run =
     subst (λ (x : Request). IsRunOf x content files c → HasMoved x files c totals tag before after receipts)
     (one-request asked r q asks other) (moved files c) run
+
+-- ---- where nothing moves
+
+-- an answer that refuses has no receipt
+refused-receipt : {X : Type 0} (Comes : Verdict X → Type 0) (answer : Outcome) → RefusesBy Comes answer → HasNoReceipt answer
+refused-receipt Comes (outcome.Done receipts) h = absurd h
+refused-receipt Comes answer h = tt
+
+pub refused-still : {X T : Type 0} (Comes : Verdict X → Type 0) (before after : List T) (answer : Outcome) → RefusesBy Comes answer
+    → MovesNothing before after (Err answer) → IsStill before after answer
+refused-still Comes before after answer h none = record { taps = none.taps; receipts = refused-receipt Comes answer h }
+
+-- a check leaves the taps
+pub check-still : {T : Type 0} (taps : List T) (result : Result Unprinted Outcome) → IfOk result (λ made. made.receipts ≡ [])
+    → MovesNothing taps taps result
+check-still taps result none = record { taps = refl; receipts = none }
 
 -- a refusal before the output is no `Done`
 pub refused-moved : {X T : Type 0} (Comes : Verdict X → Type 0) (asked : Option Asked) (content : List ℕ → Content)

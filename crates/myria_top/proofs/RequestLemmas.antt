@@ -1,5 +1,5 @@
 -- One request is asked for, and what it says of the script.
-use Rattle.std.proofs.Common.{◌≡◌, ◌≤◌, ◌∙◌, ap, sym, Bool, true, false, cond, Option, Some, None}
+use Rattle.std.proofs.Common.{◌≡◌, ◌≤◌, ◌∙◌, refl, ap, sym, Bool, true, false, not, cond, Option, Some, None}
 use Rattle.std.specs.Coded.{×_prop, le_prop}
 use mathlib.Core.HLevel.{is_prop→PathP}
 use Rattle.algebra.specs.declared.settings.ShuffleKind.{ShuffleKind}
@@ -10,7 +10,7 @@ use Rattle.command_words.specs.declared.requests.Mode.{Mode}
 use Rattle.command_words.specs.declared.requests.Request.{Request}
 use Rattle.command_words.specs.Requests.{Asked, asked_of}
 use Rattle.command_words.proofs.SettingsLemmas.{same-settings}
-use Rattle.myria_top.specs.Requests.{Asks, is_check, is_trial, prefixes_in, script_asked}
+use Rattle.myria_top.specs.Requests.{Asks, is_check, is_trial, prefixes_in, script_asked, takes_workers}
 
 -- ---- one request
 
@@ -29,18 +29,18 @@ same-request r q same =
           r.size_in_range q.size_in_range i;
     }
 
-some-same : {X : Type 0} {x y : X} → ◌≡◌ {A = Option X} (Some x) (Some y) → x ≡ y
+pub some-same : {X : Type 0} {x y : X} → ◌≡◌ {A = Option X} (Some x) (Some y) → x ≡ y
 some-same e = cc
 
 pub one-request : (asked : Option Asked) (r q : Request) → Asks asked r → Asks asked q → r ≡ q
 one-request asked r q one other = same-request r q (some-same (sym one ∙ other))
 
+pub none-some : {X : Type 0} {x : X} → ◌≡◌ {A = Option X} None (Some x) → ⊥
+none-some e = cc
+
 -- words that ask for something are read
 pub read-asks : (asked : Option Asked) (r : Request) → asked ≡ None → Asks asked r → ⊥
 read-asks asked r none asks = none-some (sym none ∙ asks)
-  where
-    none-some : {X : Type 0} {x : X} → ◌≡◌ {A = Option X} None (Some x) → ⊥
-    none-some e = cc
 
 -- ---- its mode
 
@@ -50,9 +50,21 @@ trial-or m trial other = by (sym trial ∙ other)
     by : true ≡ false → ⊥
     by e = cc
 
+-- no script is asked for in a trial
+pub no-script : (asked : Option Asked) (r : Request) → Asks asked r → is_trial r.mode ≡ true → script_asked asked ≡ None
+no-script asked r asks trial = ap script_asked asks ∙ ap (λ (b : Bool). cond b None (Some r.script)) trial
+
 -- the script that is asked for
 pub script-named : (asked : Option Asked) (r : Request) → Asks asked r → is_trial r.mode ≡ false → script_asked asked ≡ Some r.script
 script-named asked r asks other = ap script_asked asks ∙ ap (λ (b : Bool). cond b None (Some r.script)) other
+
+-- where no workers are taken, a check is asked for
+pub check-asked : (asked : Option Asked) (r : Request) → Asks asked r → takes_workers asked ≡ false → is_check r.mode ≡ true
+check-asked asked r asks none = by (is_check r.mode) (ap takes_workers (sym asks) ∙ none)
+  where
+    by : (check : Bool) → not check ≡ false → check ≡ true
+    by true e = refl
+    by false e = cc
 
 -- prefixes count by the shuffle where there are workers
 pub prefixes-at-workers : (m : Mode) (shuffle : ShuffleKind) → is_check m ≡ false → prefixes_in m shuffle ≡ prefixes_of shuffle

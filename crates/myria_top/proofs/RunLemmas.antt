@@ -6,7 +6,7 @@ use Rattle.exchange_channels.specs.Wirings.{ReceiptState}
 use Rattle.rel_io.specs.declared.sinks.SinkFault.{SinkFault}
 use Rattle.rel_io.specs.declared.sinks.SinkFault.TheVariants as fault
 use Rattle.rel_io.specs.Outside.{Content}
-use Rattle.rel_io.specs.Sinks.{Offers, Written}
+use Rattle.rel_io.specs.Sinks.{Offers, TookAll, Written}
 use Rattle.rel_io.specs.Outside as outside
 use Rattle.myrial_ast.specs.Trees.{StatementTree}
 use Rattle.myrial_meaning.specs.declared.needed_files.Fetch.{Fetch}
@@ -30,7 +30,7 @@ use Rattle.myria_top.specs.Verdicts.{Verdict, untold, refused, passes, and_then,
 use Rattle.myria_top.specs.Runs.{ComesTo, of_script, of_trial, IsFileOf, files_verdict, printed_verdict, run_verdict, trial_verdict, typed_verdict, typing_answer, when_typed}
 use Rattle.myria_top.proofs.OneAnswerLemmas.{comes_to_one}
 use Rattle.myria_top.proofs.RequestLemmas.{script-named}
-use Rattle.myria_top.proofs.VerdictLemmas.{LiesWithin, HasCause-part, met, met_further, goes_second, step_met, meets_step, refused_first, refused_second}
+use Rattle.myria_top.proofs.VerdictLemmas.{LiesWithin, HasCause-part, met, met_further, goes_second, passes-one, step_met, meets_step, refused_first, refused_second}
 
 -- ---- the run of a script
 
@@ -203,6 +203,16 @@ module _ (run : Run) (step : Verdict (List ℕ)) (comes : ComesTo run.asked run.
 
 pub decided : (run : Run) (answer : Outcome) → Explains run answer → (step : Verdict (List ℕ)) → ComesTo run.asked run.content step → Decides step answer
 decided run answer e step comes = decided_from run step comes answer e
+
+-- a text that they come to is the one that was printed
+pub prints : (run : Run) (receipts : List ReceiptState) (text : List ℕ) → Explains run (outcome.Done receipts)
+    → ComesTo run.asked run.content (passes text) → TookAll run.out text
+prints run receipts text e comes =
+    by (subst (λ (s : Verdict (List ℕ)). IfTold s (λ t. (printed : List ℕ) × (t ≡ passes printed) × TookAll run.out printed))
+    (comes_to_one run.asked run.content e.step (passes text) e.comes comes) e.holds)
+  where
+    by : (printed : List ℕ) × (◌≡◌ {A = Verdict (List ℕ)} (passes text) (passes printed)) × TookAll run.out printed → TookAll run.out text
+    by h = let same : text ≡ h.0 = passes-one h.1 in subst (TookAll run.out) (sym same) h.2
 
 -- ---- the line of the answer
 

@@ -1,5 +1,5 @@
 -- What the first bytes of a script's file show of what the file comes to.
-use Rattle.std.proofs.Common.{◌≡◌, ℕ, ◌<◌, ◌≤◌, min, List, length, Ok, Err, Result, refl, ◌∙◌, ap, subst, arith}
+use Rattle.std.proofs.Common.{◌≡◌, ℕ, ◌<◌, ◌≤◌, min, List, length, Ok, Err, Result, refl, ◌∙◌, ap, subst, arith, inl, inr}
 use Rattle.std.specs.Prelude.{IfErr}
 use Rattle.std.proofs.lemmas.List.{take_all, length-take}
 use Rattle.rel_io.specs.Outside.{Content, IsGiven, MayBeMissing}
@@ -10,9 +10,9 @@ use Rattle.rel_io.specs.Shelves.{CallCounts}
 use Rattle.myria_top.specs.declared.outcomes.Outcome.{Outcome}
 use Rattle.myria_top.specs.declared.outcomes.Outcome.TheVariants as outcome
 use Rattle.myria_top.specs.Reading.{AgreesBy, HasCause, Meets, RefusesBy}
-use Rattle.myria_top.specs.Scripts.{TextComesTo, ScriptComesTo, not_told, no_script, too_long, short, trees_read, IsOfTexts}
+use Rattle.myria_top.specs.Scripts.{TextComesTo, ScriptComesTo, not_told, no_script, too_long, short, trees_read}
 use Rattle.myria_top.specs.declared.unprinted.Unprinted.{Unprinted}
-use Rattle.myria_top.specs.inner.Working.{text_of}
+use Rattle.myria_top.specs.inner.Working.{text_of, IsOfRun, IsOfText, NeedsNoCount}
 use Rattle.myria_top.specs.Verdicts.{Verdict, untold, refused, passes}
 
 -- ---- steps of one relation and another
@@ -73,22 +73,35 @@ text_read (outside.there file) bytes r given h a =
     agrees_further (TextComesTo bytes) (ScriptComesTo (outside.there file))
     (λ s comes. short file s fits (subst (λ (b : List ℕ). TextComesTo b s) same comes)) r a
 
--- a refusal of the texts needs no count
-no_count : (counts : CallCounts) (P : List ℕ → Type 0) (answer : Outcome) → IsOfTexts answer → HasCause counts P answer
-no_count counts P outcome.NoScript h = absurd h
-no_count counts P (outcome.NoRelation key) h = absurd h
-no_count counts P (outcome.RelTooLong key) h = absurd h
-no_count counts P (outcome.BadRelation key fault) h = absurd h
-no_count counts P (outcome.ReadFault name) h = absurd h
-no_count counts P answer h = tt
+-- a refusal of the text of a script, or of its run, needs no count
+of_text : (counts : CallCounts) (P : List ℕ → Type 0) (answer : Outcome) → IsOfText answer → HasCause counts P answer
+of_text counts P outcome.ScriptNotText h = tt
+of_text counts P (outcome.Lex line what) h = tt
+of_text counts P (outcome.Syntax statement) h = tt
+of_text counts P (outcome.TooMany statement what) h = tt
+of_text counts P outcome.Memory h = tt
+of_text counts P answer h = absurd h
 
-pub text_cause : (counts : CallCounts) (P : List ℕ → Type 0) (r : Result (List Stmt) Outcome) → IfErr r IsOfTexts → IfErr (trees_read r) (HasCause counts P)
+of_run : (counts : CallCounts) (P : List ℕ → Type 0) (answer : Outcome) → IsOfRun answer → HasCause counts P answer
+of_run counts P (outcome.Typing statement kind) h = tt
+of_run counts P (outcome.TooManyRows statement) h = tt
+of_run counts P (outcome.Overflow statement) h = tt
+of_run counts P (outcome.AggregateOverflow statement) h = tt
+of_run counts P outcome.Memory h = tt
+of_run counts P answer h = absurd h
+
+pub text_cause : (counts : CallCounts) (P : List ℕ → Type 0) (r : Result (List Stmt) Outcome) → IfErr r IsOfText → IfErr (trees_read r) (HasCause counts P)
 text_cause counts P (Ok x) h = tt
-text_cause counts P (Err answer) h = no_count counts P answer h
+text_cause counts P (Err answer) h = of_text counts P answer h
 
-pub run_cause : {X : Type 0} (counts : CallCounts) (P : List ℕ → Type 0) (r : Result X Outcome) → IfErr r IsOfTexts → IfErr r (HasCause counts P)
+pub run_cause : {X : Type 0} (counts : CallCounts) (P : List ℕ → Type 0) (r : Result X Outcome) → IfErr r IsOfRun → IfErr r (HasCause counts P)
 run_cause counts P (Ok x) h = tt
-run_cause counts P (Err answer) h = no_count counts P answer h
+run_cause counts P (Err answer) h = of_run counts P answer h
+
+pub trial_cause : {X : Type 0} (counts : CallCounts) (P : List ℕ → Type 0) (r : Result X Outcome) → IfErr r NeedsNoCount → IfErr r (HasCause counts P)
+trial_cause counts P (Ok x) h = tt
+trial_cause counts P (Err answer) (inl h) = of_text counts P answer h
+trial_cause counts P (Err answer) (inr h) = of_run counts P answer h
 
 -- a refusal of a run is that of its text
 pub text_kind : (P : Outcome → Type 0) (r : Result Unprinted Outcome) → IfErr r P → IfErr (text_of r) P

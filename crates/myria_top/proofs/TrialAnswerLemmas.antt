@@ -1,12 +1,10 @@
 -- What a trial may answer: its script has no fault, so it comes to its text or to the fault of its run.
-use Rattle.std.proofs.Common.{◌≡◌, ◌∙◌, ℕ, List, true, cond, Bool, Option, Some, None, Ok, ap, sym, subst}
+use Rattle.std.proofs.Common.{◌≡◌, ◌∙◌, ℕ, List, Option, Some, None, Ok, ap, sym, subst}
 use Rattle.std.proofs.Common.{inl, inr}
 use Rattle.std.specs.Option.{option_map_or}
 use Rattle.rel_base.specs.declared.faults.RunFault.{RunFault}
 use Rattle.rel_base.specs.declared.faults.RunFault.TheVariants as fault
 use Rattle.myrial_types.specs.Checking.{checked_of}
-use Rattle.command_words.specs.declared.requests.Request.{Request}
-use Rattle.command_words.specs.Requests.{Asked}
 use Rattle.trial_gen.specs.TrialScript.{trial_script}
 use Rattle.trial_gen.specs.Trials.{trial_files}
 use Rattle.trial_laws.specs.TrialSteps.{trial_checked}
@@ -14,19 +12,14 @@ use Rattle.trial_laws.specs.TrialTrees.{ReadsAs, trial_trees}
 use Rattle.myria_top.specs.declared.outcomes.Outcome.{Outcome}
 use Rattle.myria_top.specs.declared.outcomes.Outcome.TheVariants as outcome
 use Rattle.myria_top.specs.Verdicts.{Verdict, passes, refused}
-use Rattle.myria_top.specs.Requests.{Asks, is_trial, script_asked}
+use Rattle.myria_top.specs.Requests.{script_asked}
 use Rattle.myria_top.specs.Scripts.{a_script}
 use Rattle.myria_top.specs.Runs.{of_trial, run_answer, trial_verdict, typed_verdict, when_typed}
 use Rattle.myria_top.specs.Headline.{Run, IsAskedOf, the_script, of_untold, a_relation, Explains, IsInPlace, IsDone, Decides}
 use Rattle.myria_top.specs.TrialAnswers.{IsOfTrial, TrialsAreOfTheirRun}
+use Rattle.myria_top.proofs.RequestLemmas.{no-script, none-some}
 
 -- ---- no file is asked for
-
-no_script : (asked : Option Asked) (r : Request) → Asks asked r → is_trial r.mode ≡ true → script_asked asked ≡ None
-no_script asked r asks trial = ap script_asked asks ∙ ap (λ (b : Bool). cond b None (Some r.script)) trial
-
-none-some : {X : Type 0} {x : X} → ◌≡◌ {A = Option X} None (Some x) → ⊥
-none-some e = cc
 
 module _ (run : Run) (none : script_asked run.asked ≡ None) where
   unasked : (name : List ℕ) → IsAskedOf run.asked run.content name → ⊥
@@ -97,5 +90,5 @@ trial-answers read typed run err answer r kept asks trial =
     let comes = of_trial r (passes trial_trees) asks trial (a_script read.tokens trial_trees read.are read.is) in
     let same : trial_verdict r trial_trees ≡ typed_verdict r trial_trees (trial_files r.size) trial_checked =
     ap (λ c. when_typed c (typed_verdict r trial_trees (trial_files r.size))) (typed r.size) in
-    decided run (no_script run.asked r asks trial) answer kept.explained _ _
+    decided run (no-script run.asked r asks trial) answer kept.explained _ _
     (subst (λ (s : Verdict (List ℕ)). Decides s answer) same (kept.decided (trial_verdict r trial_trees) comes))

@@ -15,6 +15,9 @@ use Rattle.myria_top.specs.Runs.{files_verdict, one_file_more, relation_verdict}
 
 -- ---- one step after another
 
+pub passes-one : {X : Type 0} {x y : X} → ◌≡◌ {A = Verdict X} (passes x) (passes y) → x ≡ y
+passes-one e = cc
+
 pub carried : {X Y : Type 0} (s : Verdict X) (f : X → Verdict Y) (answer : Outcome) → IfTold s (λ t. t ≡ refused answer) → IfTold (and_then s f) (λ t. t ≡ refused answer)
 carried untold f answer h = tt
 carried (refused other) f answer h = let same : other ≡ answer = cc in ap refused same

@@ -1,12 +1,13 @@
 -- Worked runs, each proved by computing: what scripts come to over their files.
 use Rattle.std.proofs.Common.{◌≡◌, ℕ, true, false, inl, inr, cond, List, [], ◌∷◌, ◌++◌, Some, None, codes, refl, arith}
 use Rattle.std.specs.Str.{bytes_eq}
+use Rattle.std.proofs.lemmas.List.Elements.{All-cons, All-nil}
 use Rattle.std.specs.Fmt.{digits}
 use Rattle.relation_csv.specs.declared.faults.RelFault.TheVariants as fault
 use Rattle.relation_csv.proofs.OnLiterals.{files_on_literals}
 use Rattle.rel_base.specs.declared.names.Key.{Key}
 use Rattle.rel_base.specs.declared.values.ColType.TheVariants as type
-use Rattle.rel_io.specs.Outside.{Content, Rose, missing, there}
+use Rattle.rel_io.specs.Outside.{Content, Rose, missing, there, untold}
 use Rattle.rel_io.specs.Shelves.{CallCounts}
 use Rattle.rel_io.specs.declared.shelves.ShelfFault.TheVariants as refusal
 use Rattle.algebra.specs.declared.settings.ShuffleKind.{ShuffleKind}
@@ -25,15 +26,23 @@ use Rattle.myrial_ast.specs.declared.operators.BinOp.TheVariants as op
 use Rattle.myrial_ast.specs.declared.expressions.ColRef.TheVariants as ref
 use Rattle.myrial_ast.specs.declared.relations.FromItem.{FromItem}
 use Rattle.myrial_ast.specs.declared.relations.Operand.TheVariants as operand
-use Rattle.myrial_ast.specs.Trees.{Name, Tree, StatementTree, Nothing, Assign, Store, Copy, Distinct, From, Bin, Col, One}
+use Rattle.myrial_ast.specs.Trees.{Name, Tree, StatementTree, Nothing, Assign, Store, Copy, Diff, Distinct, From, Bin, Col, One}
+use Rattle.exchange_channels.specs.Wirings.{ReceiptState}
+use Rattle.myrial_meaning.specs.declared.needed_files.Fetch.{Fetch}
+use Rattle.myrial_parser.specs.Pieces.{Syntax, TooMany}
+use Rattle.trial_laws.specs.TrialTrees.{trial_trees}
 use Rattle.myrial_lexer.specs.declared.faults.LexWhat.TheVariants as lexical
 use Rattle.myrial_parser.specs.declared.faults.What.TheVariants as many
 use Rattle.myria_top.specs.declared.outcomes.Outcome.TheVariants as outcome
 use Rattle.myria_top.specs.Outcomes.{line_of}
 use Rattle.myria_top.specs.Reading.{HasFetchCause}
-use Rattle.myria_top.specs.Verdicts.{passes, refused}
-use Rattle.myria_top.specs.Requests.{script_asked}
-use Rattle.myria_top.specs.Runs.{printed_verdict}
+use Rattle.myria_top.specs.EachFile.{Allows, IsFirstBad, MayBeGood}
+use Rattle.myria_top.specs.Moves.{HasNoReceipt, IsStill}
+use Rattle.myria_top.specs.Verdicts.{Verdict, passes, refused, IfTold}
+use Rattle.myria_top.specs.Verdicts as verdict
+use Rattle.myria_top.specs.Requests.{script_asked, takes_workers}
+use Rattle.myria_top.specs.Runs.{files_verdict, printed_verdict, trial_verdict}
+use Rattle.myria_top.specs.Scripts.{ScriptComesTo, TextComesTo, no_script, too_long, short, not_text, bad_token, bad_piece, a_script}
 
 abbrev adhoc : Name → Key
 adhoc name = record { user = codes "public"; program = codes "adhoc"; name = name }
@@ -95,6 +104,27 @@ asked-trial = refl
 pub asked-unread : script_asked (asked (myria (codes "--plan" ∷ []))) ≡ None
 unfolding clap_on_literals command
 asked-unread = refl
+
+-- ---- whether workers are taken
+
+pub takes-run : takes_workers (asked (myria (codes "q" ∷ []))) ≡ true
+unfolding clap_on_literals command
+takes-run = refl
+
+pub takes-check : takes_workers (asked (myria (codes "--mode" ∷ codes "check" ∷ codes "q" ∷ []))) ≡ false
+unfolding clap_on_literals command
+takes-check = refl
+
+pub takes-unread : takes_workers (asked (myria (codes "--plan" ∷ []))) ≡ false
+unfolding clap_on_literals command
+takes-unread = refl
+
+-- an answer without receipts, and one with them
+pub still-refused : IsStill {T = ℕ} (1 ∷ []) (1 ∷ []) outcome.NoScript
+still-refused = record { taps = refl; receipts = tt }
+
+pub still-done : (receipt : ReceiptState) → HasNoReceipt (outcome.Done (receipt ∷ [])) → ⊥
+still-done receipt h = cc
 
 -- ---- a scan that is stored
 
@@ -192,6 +222,17 @@ pub printed-by_keys : printed_verdict (two_workers shuffle.Rs) keys join_of_keys
 unfolding files_on_literals digits
 printed-by_keys = refl
 
+-- a trial of size 1: all its numbers are 0, which has cell 0 of the variable with two shares
+pub printed-trial : trial_verdict (record (two_workers shuffle.Hc) { mode = mode.Trial; size = 1; size_in_range = (omega arith, omega arith) }) trial_trees
+    ≡ passes (codes "-- trial size 1\n-- rows 1\n-- distinct 1\n"
+    ++ codes "-- plan 1 copy rows 1\n-- plan 2 copy rows 1\n-- plan 3 copy rows 1\n-- plan 4 from rows 1\n"
+    ++ codes "-- item 1 rows 1 pushed 0 kept 1\n-- item 2 rows 1 pushed 0 kept 1\n-- item 3 rows 1 pushed 0 kept 1\n"
+    ++ codes "-- variable 1 1.$0 3.$1 share 1\n-- variable 2 1.$1 2.$0 share 1\n-- variable 3 2.$1 3.$0 share 2\n"
+    ++ codes "-- shuffle hc join tj cells 2 load 4/2\n"
+    ++ codes "-- traffic 4 join hc\n-- worker 0 received 3 listed 1\n-- worker 1 received 1 listed 0\n")
+unfolding files_on_literals digits load.comes_before load.load_of
+printed-trial = refl
+
 -- the plan alone
 pub printed-plan : printed_verdict (in_mode mode.Explain) (shelf_of (codes "public:adhoc:R.csv") (codes "x:int,y:int\n3,1\n1,2\n2,5\n")) scan_and_store
     ≡ passes (codes "-- plan 1 copy rows 3\n")
@@ -205,6 +246,21 @@ pub printed-distinct : printed_verdict usual edges (Assign (codes "A") (Distinct
     ≡ passes (codes "-- store public:adhoc:Out 3 rows\nx:int,y:int\n1,2\n2,3\n3,1\n")
 unfolding files_on_literals
 printed-distinct = refl
+
+-- a shelf of two files
+abbrev two_of : List ℕ → List ℕ → List ℕ → Content
+two_of first second name =
+    cond (bytes_eq name (codes "public:adhoc:R.csv")) (there first) (cond (bytes_eq name (codes "public:adhoc:S.csv")) (there second) missing)
+
+-- A = distinct(scan(R)); D = diff(scan(R), scan(S)); store(A, A); store(D, D); with two workers the keys 0 and 3 have worker 0
+pub printed-rows_by_keys : printed_verdict (record (two_workers shuffle.Hc) { plan = false }) (two_of (codes "x:int\n0\n0\n1\n2\n4\n") (codes "x:int\n2\n3\n"))
+    (Assign (codes "A") (Distinct (operand.Scan (adhoc (codes "R")))) ∷ Assign (codes "D") (Diff (operand.Scan (adhoc (codes "R"))) (operand.Scan (adhoc (codes "S"))))
+    ∷ Store (codes "A") (adhoc (codes "A")) ∷ Store (codes "D") (adhoc (codes "D")) ∷ [])
+    ≡ passes (codes "-- store public:adhoc:A 4 rows\nx:int\n0\n1\n2\n4\n-- store public:adhoc:D 3 rows\nx:int\n0\n1\n4\n"
+    ++ codes "-- traffic 1 distinct\n-- worker 0 received 2 listed 1\n-- worker 1 received 3 listed 3\n"
+    ++ codes "-- traffic 2 diff\n-- worker 0 received 3 listed 1\n-- worker 1 received 4 listed 2\n")
+unfolding files_on_literals digits
+printed-rows_by_keys = refl
 
 pub printed-another_name : printed_verdict usual edges (Assign (codes "A") (Distinct (operand.Scan (adhoc (codes "R")))) ∷ Store (codes "B") (adhoc (codes "Out")) ∷ [])
     ≡ refused (outcome.Typing 2 kind.UnknownRelation)
@@ -263,6 +319,62 @@ cause-no_fault h = by h
     by (inl less) = absurd (omega arith)
     by (inr last) = cc
 
+-- ---- what each file says by itself
+
+-- a shelf that tells one file alone
+abbrev told_of : List ℕ → Content → List ℕ → Content
+told_of file content name = cond (bytes_eq name file) content untold
+
+abbrev scan_of : Name → Fetch
+scan_of name = record { key = adhoc name; form = None }
+
+-- R isn't told, and S isn't there: what both come to isn't told
+abbrev without_S : List ℕ → Content
+without_S = told_of (codes "public:adhoc:S.csv") missing
+
+pub each-not_told : files_verdict without_S (scan_of (codes "R") ∷ scan_of (codes "S") ∷ []) ≡ verdict.untold
+each-not_told = refl
+
+-- where S stands first, it decides, whatever is told of R
+pub each-decided : files_verdict without_S (scan_of (codes "S") ∷ scan_of (codes "R") ∷ []) ≡ refused (outcome.NoRelation (adhoc (codes "S")))
+each-decided = refl
+
+-- behind R still S can't be good, and it is the first that isn't
+pub each-may_be_good : MayBeGood without_S (scan_of (codes "R"))
+each-may_be_good = tt
+
+pub each-not_good : MayBeGood without_S (scan_of (codes "S")) → ⊥
+each-not_good h = let wrong : refused (outcome.NoRelation (adhoc (codes "S"))) ≡ passes h.0 = h.1 in cc
+
+pub each-first_bad : IsFirstBad without_S (adhoc (codes "S")) (outcome.NoRelation (adhoc (codes "S"))) (scan_of (codes "R") ∷ scan_of (codes "S") ∷ [])
+each-first_bad = record {
+  before = scan_of (codes "R") ∷ [];
+  fetch = scan_of (codes "S");
+  behind = [];
+  are = refl;
+  good = All-cons (MayBeGood without_S) (scan_of (codes "R")) [] tt (All-nil (MayBeGood without_S));
+  of_key = refl;
+  is_refused = refl;
+}
+
+-- where a script isn't there, that may be answered; and where it is there, it can't
+pub each-no_script : Allows (told_of (codes "q") missing) (codes "q") outcome.NoScript
+each-no_script = record { step = refused outcome.NoScript; comes = no_script; is = refl }
+
+pub each-a_script : Allows (told_of (codes "q") (there [])) (codes "q") outcome.NoScript → ⊥
+each-a_script h = by h.step h.comes h.is
+  where
+    of_text : (s : Verdict (List StatementTree)) → TextComesTo [] s → IfTold s (λ t. t ≡ refused outcome.NoScript) → ⊥
+    of_text s (not_text n) is = cc
+    of_text s (bad_token line what first) is = cc
+    of_text s (bad_piece tokens number Syntax are first) is = cc
+    of_text s (bad_piece tokens number (TooMany what) are first) is = cc
+    of_text s (a_script tokens script are read) is = cc
+
+    by : (s : Verdict (List StatementTree)) → ScriptComesTo (there []) s → IfTold s (λ t. t ≡ refused outcome.NoScript) → ⊥
+    by s (too_long bytes long) is = cc
+    by s (short bytes t fits comes) is = of_text t comes is
+
 -- ---- lines on standard error
 
 pub line-usage : line_of [] outcome.Usage ≡ codes "myria: usage: myria [options] SCRIPT\n"
@@ -305,3 +417,9 @@ line-no_file = refl
 pub line-bad_load : line_of (codes "q") (outcome.BadRelation (load_key (codes "p.txt")) (fault.BadInt 1 2)) ≡ codes "myria: relation p.txt: record 1 column 2 is not an int\n"
 unfolding digits
 line-bad_load = refl
+
+pub line-memory : line_of (codes "q") outcome.Memory ≡ codes "myria: out of memory\n"
+line-memory = refl
+
+pub line-done : (receipts : List ReceiptState) → line_of (codes "q") (outcome.Done receipts) ≡ []
+line-done receipts = refl

@@ -12,6 +12,7 @@ use Rattle.myrial_ast.specs.Trees.{StatementTree}
 use Rattle.myrial_meaning.specs.declared.needed_files.Fetch.{Fetch}
 use Rattle.myrial_meaning.specs.Fetches.{fetches}
 use Rattle.command_words.specs.Requests.{Asked}
+use Rattle.myria_top.specs.EachFile.{Allows}
 use Rattle.myria_top.specs.FileNames.{file_name_of}
 use Rattle.myria_top.specs.declared.outcomes.Outcome.{Outcome}
 use Rattle.myria_top.specs.declared.outcomes.Outcome.TheVariants as outcome
@@ -92,5 +93,9 @@ pub record Headline (run : Run) (err : Written) (answer : Outcome) : Type 0 wher
   -- The words and the files decide the answer: the one refusal that they come to, or that the text is
   -- printed or could not be written. Want of memory and a fault of reading may come in its place.
   pub decided : (step : Verdict (List ℕ)) → ComesTo run.asked run.content step → Decides step answer
+  -- Where a script is asked for, each file by itself allows the answer, whatever the shelf tells of the
+  -- others: the script, and then each relation that it needs.
+  pub each_file : (name : List ℕ) → script_asked run.asked ≡ Some name
+      → Allows run.content name answer
   -- Standard error took the line of the answer.
   pub told : TellsLine err (line_of (name_given run.asked) answer)

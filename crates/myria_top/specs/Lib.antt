@@ -7,7 +7,9 @@ pub mod Scripts
 pub mod Requests
 pub mod Printed
 pub mod Runs
+pub mod EachFile
 pub mod Headline
 pub mod TrialAnswers
+pub mod OneAnswer
 pub mod Moves
 pub mod inner

@@ -4,6 +4,7 @@
 --   exchanges_asked r files c     the exchanges of such a run
 --   HasMoved r files c ..         receipts and taps are those of these exchanges
 --   HasMovedAfter .. answer       so they are after `Done`
+--   IsStill before after answer   the taps are as they were, and there is no receipt
 use Rattle.std.specs.Prelude.{◌≡◌, ℕ, true, false, ⊤, List, [], Option, Ok, if◌then◌else◌}
 use Rattle.std.specs.List.{flat_map}
 use Rattle.rel_base.specs.Keys.{File}
@@ -60,3 +61,13 @@ HasMovedAfter asked content totals tag before after (outcome.Done receipts) =
     (r : Request) (files : List File) (c : CheckedTree) → Asks asked r → IsRunOf r content files c
     → HasMoved r files c totals tag before after receipts
 HasMovedAfter asked content totals tag before after answer = ⊤
+
+-- the answer has no receipt
+abbrev pub HasNoReceipt : Outcome → Type 0
+HasNoReceipt (outcome.Done receipts) = receipts ≡ []
+HasNoReceipt answer = ⊤
+
+-- nothing moved, whatever the answer is
+pub record IsStill {T : Type 0} (before after : List T) (answer : Outcome) : Type 0 where
+  pub taps : after ≡ before
+  pub receipts : HasNoReceipt answer

@@ -3,11 +3,12 @@
 --   Asks asked request        this request is what is asked for
 --   is_trial mode             whether a run makes its own relations, and reads no file
 --   is_check mode             whether a run takes no workers
+--   takes_workers asked       whether what is asked for takes workers
 --   script_asked asked        the name of the script that is asked for; none where the words are
 --                             refused, or ask for a trial
 --   name_given asked          the name as it was given, for the line on standard error
 --   prefixes_in mode shuffle  whether prefixes count as candidates
-use Rattle.std.specs.Prelude.{◌≡◌, ℕ, Bool, true, false, List, [], Option, Some, None, option_and_then, if◌then◌else◌}
+use Rattle.std.specs.Prelude.{◌≡◌, ℕ, Bool, true, false, not, List, [], Option, Some, None, option_and_then, if◌then◌else◌}
 use Rattle.std.specs.Option.{option_map_or}
 use Rattle.myrial_ast.specs.CandidateFaults.{PrefixRule, Uncounted}
 use Rattle.algebra.specs.declared.settings.ShuffleKind.{ShuffleKind}
@@ -30,6 +31,10 @@ is_trial _ = false
 abbrev pub is_check : Mode → Bool
 is_check mode.Check = true
 is_check _ = false
+
+-- whether what is asked for takes workers: neither a check does, nor words that aren't read
+abbrev pub takes_workers : Option Asked → Bool
+takes_workers asked = option_map_or (λ a. not (is_check a.mode)) asked false
 
 -- the name of the script that is asked for, where one is
 abbrev pub script_asked : Option Asked → Option (List ℕ)

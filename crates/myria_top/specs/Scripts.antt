@@ -1,7 +1,7 @@
 -- What the file of a script comes to: a script, or the answer that refuses it.
 --
 --   ScriptComesTo content step       the file comes to this step
-use Rattle.std.specs.Prelude.{ℕ, ◌<◌, ◌≤◌, List, length, Result, Ok, Err, ⊤}
+use Rattle.std.specs.Prelude.{ℕ, ◌<◌, ◌≤◌, List, length, Result, Ok, Err}
 use Rattle.std.specs.Str.{IsUtf8}
 use Rattle.rel_io.specs.Outside.{Content}
 use Rattle.rel_io.specs.Outside as outside
@@ -42,15 +42,3 @@ pub data ScriptComesTo : Content → Verdict (List StatementTree) → Type 0 whe
 abbrev pub trees_read : Result (List Stmt) Outcome → Result (List StatementTree) Outcome
 trees_read (Ok statements) = Ok (trees_of statements)
 trees_read (Err answer) = Err answer
-
--- a refusal that is neither a fault of the outside nor of the words
-abbrev pub IsOfTexts : Outcome → Type 0
-IsOfTexts (outcome.Done receipts) = ⊥
-IsOfTexts outcome.WriteFault = ⊥
-IsOfTexts outcome.NoScript = ⊥
-IsOfTexts (outcome.NoRelation key) = ⊥
-IsOfTexts (outcome.RelTooLong key) = ⊥
-IsOfTexts (outcome.BadRelation key fault) = ⊥
-IsOfTexts (outcome.ReadFault name) = ⊥
-IsOfTexts outcome.Usage = ⊥
-IsOfTexts _ = ⊤

@@ -1,4 +1,5 @@
-//! A law of the headline.
+//! Laws of the headline.
+ghost use Rattle.myria_top.specs.OneAnswer.{ComesToOne, PrintsWhatItComesTo};
 ghost use Rattle.myria_top.specs.TrialAnswers.{TrialsAreOfTheirRun};
 
 use trial_laws::{trial_is_read, trial_is_typed};
@@ -10,3 +11,10 @@ pub fn trials_are_of_their_run()
     trial_is_read();
     trial_is_typed();
 }
+
+/// Law: what words and files come to is one verdict; so where it is a text, a run that is done
+/// printed this text. It does nothing.
+pub fn runs_have_one_answer()
+    ensures one { ComesToOne }
+    ensures printed { PrintsWhatItComesTo }
+{}

@@ -1,5 +1,5 @@
 //! A request as the text that its run prints.
-ghost use Rattle.std.specs.Prelude.{◌≡◌, ◌≢◌, ℕ, List, Some, Ok, Err, false, IfOk, IfErr, IsTrue, vec_len};
+ghost use Rattle.std.specs.Prelude.{◌≡◌, ◌≢◌, ℕ, List, Some, Ok, Err, true, false, IfOk, IfErr, IsTrue, vec_len};
 ghost use Rattle.rel_base.specs.Keys.{File};
 ghost use Rattle.rel_base.specs.Limits.{taps as tap_count};
 ghost use Rattle.rel_io.specs.Outside.{Content};
@@ -13,11 +13,11 @@ ghost use Rattle.command_words.specs.Requests.{asked_of};
 ghost use Rattle.myria_top.specs.Headline.{IsAskedOf};
 ghost use Rattle.myria_top.specs.Moves.{HasMoved};
 ghost use Rattle.myria_top.specs.Reading as read;
-ghost use Rattle.myria_top.specs.Requests.{is_trial};
+ghost use Rattle.myria_top.specs.Requests.{is_check, is_trial};
 ghost use Rattle.myria_top.specs.Runs.{ComesTo, IsFileOf, files_verdict, printed_verdict};
-ghost use Rattle.myria_top.specs.Scripts.{IsOfTexts};
+ghost use Rattle.myria_top.specs.Scripts.{ScriptComesTo};
 ghost use Rattle.myria_top.specs.Verdicts.{passes};
-ghost use Rattle.myria_top.specs.inner.Working.{text_of, MovesAs};
+ghost use Rattle.myria_top.specs.inner.Working.{text_of, IsAllowed, MovesAs, MovesNothing, NeedsNoCount};
 
 use crate::Outcome;
 use crate::reading::{read_files, read_script, script_of_text};
@@ -43,8 +43,12 @@ pub fn prepared<R: Threads + Wait + Sync, F: Shelf, T: Tap + Send>(
     ensures read { read.ReadsBy (ComesTo (Some (asked_of request.now)) (F.content shelf.old))
         (counts_of F.Shelf shelf.old shelf.new)
         (IsAskedOf (Some (asked_of request.now)) (F.content shelf.old)) (text_of result) }
+    ensures each { is_trial request.now.mode ≡ false
+        → IsAllowed (F.content shelf.old) request.now.script result }
     ensures part { result ≢ Err Outcome.Usage }
     ensures trial { IsTrue (is_trial request.now.mode) → shelf.new ≡ shelf.old }
+    ensures still { is_check request.now.mode ≡ true
+        → MovesNothing taps.old.items taps.new.items result }
     ensures fair { AreFair T.totals T.tag taps.old.items taps.new.items }
     ensures moved { IfOk result (λ made. MovesAs request.now (F.content shelf.old)
         T.totals T.tag taps.old.items taps.new.items made.receipts) }
@@ -68,7 +72,7 @@ fn prepared_trial<R: Threads + Wait + Sync, T: Tap + Send>(
     requires taps { vec_len taps.old ≡ tap_count }
     ensures agrees { (content : List ℕ → Content)
         → read.AgreesBy (ComesTo (Some (asked_of request.now)) content) (text_of result) }
-    ensures kind { IfErr result IsOfTexts }
+    ensures kind { IfErr result NeedsNoCount }
     ensures fair { AreFair T.totals T.tag taps.old.items taps.new.items }
     ensures moved { IfOk result (λ made. (content : List ℕ → Content)
         → MovesAs request.now content T.totals T.tag taps.old.items taps.new.items made.receipts) }
@@ -99,7 +103,10 @@ fn prepared_script<R: Threads + Wait + Sync, F: Shelf, T: Tap + Send>(
     ensures read { read.ReadsBy (ComesTo (Some (asked_of request.now)) (F.content shelf.old))
         (counts_of F.Shelf shelf.old shelf.new)
         (IsAskedOf (Some (asked_of request.now)) (F.content shelf.old)) (text_of result) }
+    ensures each { IsAllowed (F.content shelf.old) request.now.script result }
     ensures part { result ≢ Err Outcome.Usage }
+    ensures still { is_check request.now.mode ≡ true
+        → MovesNothing taps.old.items taps.new.items result }
     ensures fair { AreFair T.totals T.tag taps.old.items taps.new.items }
     ensures moved { IfOk result (λ made. MovesAs request.now (F.content shelf.old)
         T.totals T.tag taps.old.items taps.new.items made.receipts) }
@@ -125,7 +132,12 @@ fn prepared_files<R: Threads + Wait + Sync, F: Shelf, T: Tap + Send>(
         (printed_verdict request.now (F.content shelf.old) (trees_of script.now))
         (counts_of F.Shelf shelf.old shelf.new)
         (IsFileOf (fetches (trees_of script.now))) (text_of result) }
+    ensures each { (name : List ℕ)
+        → read.Meets (ScriptComesTo (F.content shelf.old name)) (passes (trees_of script.now))
+        → IsAllowed (F.content shelf.old) name result }
     ensures part { result ≢ Err Outcome.Usage }
+    ensures still { is_check request.now.mode ≡ true
+        → MovesNothing taps.old.items taps.new.items result }
     ensures fair { AreFair T.totals T.tag taps.old.items taps.new.items }
     ensures moved { IfOk result (λ made. (files : List File) (c : CheckedTree)
         → files_verdict (F.content shelf.old) (fetches (trees_of script.now)) ≡ passes files

@@ -3,10 +3,12 @@ ghost use Rattle.std.specs.Prelude.{◌≡◌, ◌≢◌, ◌≤◌, ◌<◌, �
 ghost use Rattle.std.specs.Prelude.{false, length, All, AllPairs, Err, IfOk, IfErr, IsTrue, OnOk};
 ghost use Rattle.rel_base.specs.Keys.{holds_key, same_key};
 ghost use Rattle.rel_base.specs.Relations.{HasTypes};
-ghost use Rattle.myria_top.specs.Scripts.{ScriptComesTo, TextComesTo, trees_read, IsOfTexts};
+ghost use Rattle.myria_top.specs.Scripts.{ScriptComesTo, TextComesTo, trees_read};
+ghost use Rattle.myria_top.specs.inner.Working.{IsOfText, IsOfScript, IsOfKey, HasFirstBad};
 ghost use Rattle.myrial_types.specs.Fetching.{has_form};
 ghost use Rattle.relation_csv.specs.Files.{IsReadAs};
 ghost use Rattle.rel_io.specs.Shelves.{HaveNotFallen, counts_of};
+ghost use Rattle.myria_top.specs.EachFile.{MayBeGood};
 ghost use Rattle.myria_top.specs.FileNames.{file_name_of};
 ghost use Rattle.rel_io.specs.Outside.{IsGiven};
 ghost use Rattle.myria_top.specs.Reading as spec;
@@ -32,6 +34,7 @@ pub fn read_script<F: Shelf>(alloc: Global, shelf: &mut F, name: &Text) -> Resul
     ensures read { spec.ReadsBy (ScriptComesTo (F.content shelf.old name.now))
         (counts_of F.Shelf shelf.old shelf.new)
         (λ asked. asked ≡ name.now) (trees_read result) }
+    ensures kind { IfErr result IsOfScript }
     ensures part { result ≢ Err Outcome.Usage }
     ensures content { F.content shelf.new ≡ F.content shelf.old }
 {
@@ -52,7 +55,7 @@ pub fn read_script<F: Shelf>(alloc: Global, shelf: &mut F, name: &Text) -> Resul
 pub fn script_of_text(alloc: Global, bytes: &[u8]) -> Result<Script, Outcome>
     requires { length bytes.now ≤ 65536 }
     ensures agrees { spec.AgreesBy (TextComesTo bytes.now) (trees_read result) }
-    ensures kind { IfErr result IsOfTexts }
+    ensures kind { IfErr result IsOfText }
 {
     let tokens = match lex(alloc, bytes) {
         Ok(tokens) => tokens,
@@ -80,6 +83,8 @@ pub fn read_files<R: Threads + Sync, F: Shelf>(
     ensures read { spec.ReadsStep (files_verdict (F.content shelf.old) fetches.now)
         (counts_of F.Shelf shelf.old shelf.new)
         (IsFileOf fetches.now) result }
+    ensures good { OnOk result (All (MayBeGood (F.content shelf.old)) fetches.now) }
+    ensures bad { IfErr result (HasFirstBad (F.content shelf.old) fetches.now) }
     ensures formed { IfOk result (All (IsFetchedBy fetches.now)) }
     ensures part { result ≢ Err Outcome.Usage }
     ensures content { F.content shelf.new ≡ F.content shelf.old }
@@ -121,6 +126,7 @@ pub fn read_fetched<R: Threads + Sync, F: Shelf>(
         (λ asked. asked ≡ file_name_of fetch.now.key) result }
     ensures formed { IfOk result (λ relation. IsTrue (has_form fetch.now.form relation)) }
     ensures typed { IfOk result (λ relation. All (HasTypes relation.schema) relation.rows) }
+    ensures kind { IfErr result (IsOfKey fetch.now.key) }
     ensures part { result ≢ Err Outcome.Usage }
     ensures content { F.content shelf.new ≡ F.content shelf.old }
 {

@@ -1,14 +1,15 @@
 //! One run of the program, from its words to its exit.
-ghost use Rattle.std.specs.Prelude.{◌≡◌, ◌≢◌, All, Some, None, IsTrue, vec_len};
+ghost use Rattle.std.specs.Prelude.{◌≡◌, ◌≢◌, All, Some, None, IsTrue, true, false, vec_len};
 ghost use Rattle.rel_base.specs.Limits.{taps as tap_count};
 ghost use Rattle.rel_io.specs.Shelves.{counts_of};
 ghost use Rattle.rel_io.specs.Sinks.{written_of};
 ghost use Rattle.rel_io.specs.Taps.{no_rows};
 ghost use Rattle.term_runs.specs.TermRuns.{AreFair};
 ghost use Rattle.command_words.specs.Requests.{asked, asked_of};
+ghost use Rattle.myria_top.specs.EachFile.{Allows};
 ghost use Rattle.myria_top.specs.Headline.{Headline, Explains};
-ghost use Rattle.myria_top.specs.Moves.{HasMovedAfter};
-ghost use Rattle.myria_top.specs.Requests.{is_trial, script_asked};
+ghost use Rattle.myria_top.specs.Moves.{HasMovedAfter, IsStill};
+ghost use Rattle.myria_top.specs.Requests.{is_check, is_trial, script_asked, takes_workers};
 
 use crate::Outcome;
 use crate::messages::tell;
@@ -49,7 +50,8 @@ pub fn run_words<R: Threads + Wait + Sync, F: Shelf, O: Sink, E: Sink, T: Tap + 
     })
         (written_of E.Sink err.old err.new) result }
     ensures unasked { script_asked (asked words.now) ≡ None → shelf.new ≡ shelf.old }
-    ensures unread { asked words.now ≡ None → taps.new.items ≡ taps.old.items }
+    ensures still { takes_workers (asked words.now) ≡ false
+        → IsStill taps.old.items taps.new.items result }
     ensures taps { AreFair T.totals T.tag taps.old.items taps.new.items }
     ensures moved { HasMovedAfter (asked words.now) (F.content shelf.old) T.totals T.tag
         taps.old.items taps.new.items result }
@@ -84,7 +86,11 @@ fn answer<R: Threads + Wait + Sync, F: Shelf, O: Sink, T: Tap + Send>(
       out = written_of O.Sink out.old out.new;
     }) result }
     ensures read { result ≢ Outcome.Usage }
+    ensures each { is_trial request.now.mode ≡ false
+        → Allows (F.content shelf.old) request.now.script result }
     ensures trial { IsTrue (is_trial request.now.mode) → shelf.new ≡ shelf.old }
+    ensures still { is_check request.now.mode ≡ true
+        → IsStill taps.old.items taps.new.items result }
     ensures fair { AreFair T.totals T.tag taps.old.items taps.new.items }
     ensures moved { HasMovedAfter (Some (asked_of request.now)) (F.content shelf.old) T.totals T.tag
         taps.old.items taps.new.items result }

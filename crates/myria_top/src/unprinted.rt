@@ -1,5 +1,5 @@
 //! What a run comes to before anything is printed.
-ghost use Rattle.std.specs.Prelude.{◌≡◌, ◌++◌, [], map, All, IsTrue, Ok, false, IfOk, IfErr, OnOk, vec_len};
+ghost use Rattle.std.specs.Prelude.{◌≡◌, ◌++◌, [], map, All, IsTrue, Ok, true, false, IfOk, IfErr, OnOk, vec_len};
 ghost use Rattle.rel_base.specs.Limits.{taps as tap_count};
 ghost use Rattle.myrial_ast.specs.Trees.{trees_of};
 ghost use Rattle.myrial_meaning.specs.Runnable.{has_meaning};
@@ -17,8 +17,8 @@ ghost use Rattle.myria_top.specs.Printed.{notes_text, text_in};
 ghost use Rattle.myria_top.specs.Reading as read;
 ghost use Rattle.myria_top.specs.Requests.{is_check};
 ghost use Rattle.myria_top.specs.Runs.{run_verdict};
-ghost use Rattle.myria_top.specs.Scripts.{IsOfTexts};
 ghost use Rattle.myria_top.specs.inner.Working.{text_of, checked_verdict, evaluated_verdict};
+ghost use Rattle.myria_top.specs.inner.Working.{IsOfRun, MovesNothing};
 
 use crate::Outcome;
 use algebra::Checked;
@@ -64,7 +64,9 @@ pub fn text_of_run<R: Threads + Wait + Sync, T: Tap + Send>(
     requires taps { vec_len taps.old ≡ tap_count }
     ensures agrees { read.Agrees (run_verdict request.now (trees_of script.now) files)
         (text_of result) }
-    ensures kind { IfErr result IsOfTexts }
+    ensures kind { IfErr result IsOfRun }
+    ensures still { is_check request.now.mode ≡ true
+        → MovesNothing taps.old.items taps.new.items result }
     ensures fair { AreFair T.totals T.tag taps.old.items taps.new.items }
     ensures moved { IfOk result (λ made. (c : CheckedTree)
         → checked_of files (trees_of script.now) ≡ Ok c
@@ -96,7 +98,7 @@ fn text_of_evaluation(alloc: Global, script: &Script, files: Files) -> Result<Un
     requires { IsTrue (has_meaning files (trees_of script.now)) }
     ensures agrees { read.Agrees (evaluated_verdict (trees_of script.now) files)
         (text_of result) }
-    ensures kind { IfErr result IsOfTexts }
+    ensures kind { IfErr result IsOfRun }
     ensures moved { IfOk result (λ made. made.receipts ≡ []) }
 {
     let stored = match evaluate(alloc, script, &files) {
@@ -127,7 +129,7 @@ fn text_at_workers<R: Threads + Wait + Sync, T: Tap + Send>(
     requires taps { vec_len taps.old ≡ tap_count }
     ensures agrees { read.Agrees
         (checked_verdict request.now files (checked_tree_of checked.now)) (text_of result) }
-    ensures kind { IfErr result IsOfTexts }
+    ensures kind { IfErr result IsOfRun }
     ensures fair { AreFair T.totals T.tag taps.old.items taps.new.items }
     ensures moved { IfOk result (λ made. HasMoved request.now files
         (checked_tree_of checked.now) T.totals T.tag taps.old.items taps.new.items made.receipts) }

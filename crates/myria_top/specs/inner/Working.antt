@@ -4,21 +4,32 @@
 --   checked_verdict r files c     what a checked script comes to over its files
 --   evaluated_verdict script ..   what a script comes to over its files without workers
 --   MovesAs r content ..          receipts and taps are those of the run of the request
-use Rattle.std.specs.Prelude.{ℕ, List, Result, Ok, Err}
+--   MovesNothing before after ..  the taps are as they were, and there is no receipt
+--   IsOfText, IsOfScript          an answer to the text of a script, and to its file
+--   IsOfKey key                   an answer to the file of this key
+--   IsOfRun                       an answer to a script over its files
+--   NeedsNoCount                  an answer of which no count shows the cause
+--   HasFirstBad content fetches   an answer to these files, of which one is the first that isn't good
+--   IsAllowed content name ..     a text or an answer that each file by itself allows
+use Rattle.std.specs.Prelude.{◌≡◌, ◌⊎◌, ℕ, List, [], All, Result, Ok, Err, IfOk, ⊤}
 use Rattle.std.specs.Option.{option_map_or}
 use Rattle.rel_base.specs.Keys.{File}
+use Rattle.rel_base.specs.declared.names.Key.{Key}
 use Rattle.rel_io.specs.Outside.{Content}
 use Rattle.rel_io.specs.declared.taps.Totals.{Totals}
 use Rattle.exchange_channels.specs.Wirings.{ReceiptState}
 use Rattle.myrial_ast.specs.CandidateFaults.{Uncounted}
 use Rattle.myrial_ast.specs.Trees.{StatementTree}
+use Rattle.myrial_meaning.specs.declared.needed_files.Fetch.{Fetch}
 use Rattle.myrial_meaning.specs.Faults.{run_fault}
 use Rattle.myrial_meaning.specs.Meaning.{stored_relations}
 use Rattle.algebra.specs.Trees.{CheckedTree}
 use Rattle.algebra.specs.Meanings.{checked_fault, stored_by}
 use Rattle.output_texts.specs.OutputText.{output_text}
 use Rattle.command_words.specs.declared.requests.Request.{Request}
+use Rattle.myria_top.specs.EachFile.{Allows, IsFirstBad, MayBeGood, MayNeed}
 use Rattle.myria_top.specs.declared.outcomes.Outcome.{Outcome}
+use Rattle.myria_top.specs.declared.outcomes.Outcome.TheVariants as outcome
 use Rattle.myria_top.specs.declared.unprinted.Unprinted.{Unprinted}
 use Rattle.myria_top.specs.Moves.{HasMoved, IsRunOf}
 use Rattle.myria_top.specs.Printed.{printed_text}
@@ -50,3 +61,64 @@ abbrev pub MovesAs : {T : Type 0} → Request → (List ℕ → Content) → (T 
 MovesAs r content totals tag before after receipts =
     (files : List File) (c : CheckedTree) → IsRunOf r content files c
     → HasMoved r files c totals tag before after receipts
+
+-- the taps are as they were, and there is no receipt
+pub record MovesNothing {T : Type 0} (before after : List T)
+    (result : Result Unprinted Outcome) : Type 0 where
+  pub taps : after ≡ before
+  pub receipts : IfOk result (λ made. made.receipts ≡ [])
+
+-- an answer to the text of a script
+abbrev pub IsOfText : Outcome → Type 0
+IsOfText outcome.ScriptNotText = ⊤
+IsOfText (outcome.Lex line what) = ⊤
+IsOfText (outcome.Syntax statement) = ⊤
+IsOfText (outcome.TooMany statement what) = ⊤
+IsOfText outcome.Memory = ⊤
+IsOfText answer = ⊥
+
+-- an answer to the file of a script
+abbrev pub IsOfScript : Outcome → Type 0
+IsOfScript outcome.NoScript = ⊤
+IsOfScript outcome.ScriptTooLong = ⊤
+IsOfScript (outcome.ReadFault name) = ⊤
+IsOfScript answer = IsOfText answer
+
+-- an answer to the file of this key
+abbrev pub IsOfKey : Key → Outcome → Type 0
+IsOfKey key (outcome.NoRelation other) = key ≡ other
+IsOfKey key (outcome.RelTooLong other) = key ≡ other
+IsOfKey key (outcome.BadRelation other fault) = key ≡ other
+IsOfKey key (outcome.ReadFault name) = ⊤
+IsOfKey key outcome.Memory = ⊤
+IsOfKey key answer = ⊥
+
+-- an answer to a script over its files
+abbrev pub IsOfRun : Outcome → Type 0
+IsOfRun (outcome.Typing statement kind) = ⊤
+IsOfRun (outcome.TooManyRows statement) = ⊤
+IsOfRun (outcome.Overflow statement) = ⊤
+IsOfRun (outcome.AggregateOverflow statement) = ⊤
+IsOfRun outcome.Memory = ⊤
+IsOfRun answer = ⊥
+
+-- an answer to the text of a script or to its run, of which no count shows the cause
+abbrev pub NeedsNoCount : Outcome → Type 0
+NeedsNoCount answer = IsOfText answer ⊎ IsOfRun answer
+
+-- an answer to these files, of which one is the first that isn't good
+abbrev pub HasFirstBad : (List ℕ → Content) → List Fetch → Outcome → Type 0
+HasFirstBad content fetches (outcome.NoRelation key) =
+    IsFirstBad content key (outcome.NoRelation key) fetches
+HasFirstBad content fetches (outcome.RelTooLong key) =
+    IsFirstBad content key (outcome.RelTooLong key) fetches
+HasFirstBad content fetches (outcome.BadRelation key fault) =
+    IsFirstBad content key (outcome.BadRelation key fault) fetches
+HasFirstBad content fetches (outcome.ReadFault name) = ⊤
+HasFirstBad content fetches outcome.Memory = ⊤
+HasFirstBad content fetches answer = ⊥
+
+-- a text, or an answer, that each file by itself allows
+abbrev pub IsAllowed : (List ℕ → Content) → List ℕ → Result Unprinted Outcome → Type 0
+IsAllowed content name (Ok unprinted) = MayNeed content name (All (MayBeGood content))
+IsAllowed content name (Err answer) = Allows content name answer

@@ -2,10 +2,9 @@ use Rattle.std.proofs.Common.{arith, ℕ, List, Some}
 use Rattle.rel_io.specs.Shelves.{CallCounts, counts_of}
 use Rattle.command_words.specs.Requests.{asked_of}
 use Rattle.myria_top.specs.Headline.{IsAskedOf}
-use Rattle.myria_top.specs.Scripts.{IsOfTexts}
-use Rattle.myria_top.specs.inner.Working.{text_of}
+use Rattle.myria_top.specs.inner.Working.{text_of, NeedsNoCount}
 use Rattle.myria_top.proofs.MoveLemmas.{carried-ok}
-use Rattle.myria_top.proofs.ScriptLemmas.{run_cause, text_kind}
+use Rattle.myria_top.proofs.ScriptLemmas.{text_kind, trial_cause}
 use Rattle.myria_top.proofs.preparing.prepared.Goals as goal
 
 pub returns-in-Trial-clause-read : goal.returns-in-Trial-clause-read
@@ -15,8 +14,8 @@ returns-in-Trial-clause-read g c =
     record {
       agrees = c.prepared_trial.ensures.agrees content;
       cause =
-          run_cause {X = List ℕ} counts (IsAskedOf (Some (asked_of c.args.request.now)) content) (text_of c.prepared_trial.result)
-          (text_kind IsOfTexts c.prepared_trial.result c.prepared_trial.ensures.kind);
+          trial_cause {X = List ℕ} counts (IsAskedOf (Some (asked_of c.args.request.now)) content) (text_of c.prepared_trial.result)
+          (text_kind NeedsNoCount c.prepared_trial.result c.prepared_trial.ensures.kind);
       kept = record { faults = omega arith; misses = omega arith };
     }
 

@@ -8,8 +8,8 @@ use Rattle.myrial_types.specs.Checking.{checked_of}
 use Rattle.rel_io.specs.Shelves.{CallCounts, counts_of}
 use Rattle.myria_top.specs.Moves.{HasMoved}
 use Rattle.myria_top.specs.Runs.{IsFetchedBy, IsFileOf}
-use Rattle.myria_top.specs.Scripts.{IsOfTexts}
-use Rattle.myria_top.specs.inner.Working.{text_of}
+use Rattle.myria_top.specs.inner.Working.{text_of, IsOfRun}
+use Rattle.myria_top.proofs.EachFileLemmas.{files_allow, run_allowed}
 use Rattle.myria_top.proofs.FetchLemmas.{fetches-distinct, forms-fetched, types-fetched}
 use Rattle.myria_top.proofs.MoveLemmas.{carried-ok, files-one}
 use Rattle.myria_top.proofs.RunLemmas.{run_agrees}
@@ -38,9 +38,19 @@ returns-clause-read g c =
           (text_of c.text_of_run.result) c.in-Ok.ensures read.agrees c.text_of_run.ensures.agrees;
       cause =
           run_cause {X = List ℕ} counts (IsFileOf (fetches (trees_of c.args.script.now))) (text_of c.text_of_run.result)
-          (text_kind IsOfTexts c.text_of_run.result c.text_of_run.ensures.kind);
+          (text_kind IsOfRun c.text_of_run.result c.text_of_run.ensures.kind);
       kept = read.kept;
     }
+
+pub returns-in-Err-read_files-clause-each : goal.returns-in-Err-read_files-clause-each
+returns-in-Err-read_files-clause-each g c name read =
+    files_allow (g.F.Shelf.content c.args.shelf.now) name (trees_of c.args.script.now) read c.in-Ok.needed c.in-Ok.ensures
+    c.in-Err-read_files.refusal c.in-Err-read_files.ensures.bad
+
+pub returns-clause-each : goal.returns-clause-each
+returns-clause-each g c name read =
+    run_allowed (g.F.Shelf.content c.args.shelf.now) name (trees_of c.args.script.now) read c.in-Ok.needed c.in-Ok.ensures
+    c.in-Ok-read_files.ensures.good c.text_of_run.result c.text_of_run.ensures.kind
 
 pub returns-clause-moved : goal.returns-clause-moved
 returns-clause-moved g c =

@@ -4,6 +4,7 @@ use Rattle.term_runs.proofs.TapLemmas.{fair-none}
 use Rattle.command_words.specs.Requests.{asked_of}
 use Rattle.myria_top.specs.Headline.{IsAskedOf, the_script}
 use Rattle.myria_top.specs.inner.Working.{text_of}
+use Rattle.myria_top.proofs.EachFileLemmas.{allowed_on, script_allows}
 use Rattle.myria_top.proofs.MoveLemmas.{carried-ok, moved-of_script}
 use Rattle.myria_top.proofs.RequestLemmas.{script-named}
 use Rattle.myria_top.proofs.RunLemmas.{script_refuses, reads_on}
@@ -41,6 +42,15 @@ returns-clause-read g c =
       misses_to = omega arith;
     })
     run
+
+pub returns-in-Err-clause-each : goal.returns-in-Err-clause-each
+returns-in-Err-clause-each g c =
+    script_allows (g.F.Shelf.content c.args.shelf.now) c.args.request.now.script c.in-Err.refusal c.in-Err.ensures.kind c.in-Err.ensures.read.agrees
+
+pub returns-clause-each : goal.returns-clause-each
+returns-clause-each g c =
+    allowed_on (g.F.Shelf.content c.read_script.new.shelf) (g.F.Shelf.content c.args.shelf.now) c.args.request.now.script (trees_of c.in-Ok.script)
+    c.prepared_files.result c.in-Ok.ensures.content c.in-Ok.ensures.read.agrees c.prepared_files.ensures.each
 
 pub returns-in-Err-clause-fair : goal.returns-in-Err-clause-fair
 returns-in-Err-clause-fair g c = fair-none g.T.Tap.totals g.T.Tap.tag _

@@ -2,8 +2,11 @@ use Rattle.std.proofs.Common.{◌≡◌, ◌∙◌, refl, sym, subst, arith, Lis
 use Rattle.myria_top.specs.FileNames.{file_name_of}
 use Rattle.rel_io.specs.Outside.{Content}
 use Rattle.std.specs.Prelude.{Contains}
+use Rattle.myrial_meaning.specs.declared.needed_files.Fetch.{Fetch}
 use Rattle.myria_top.specs.Reading.{AgreesRefused}
 use Rattle.myria_top.specs.Runs.{files_verdict, relation_verdict, IsFileOf}
+use Rattle.myria_top.specs.inner.Working.{HasFirstBad}
+use Rattle.myria_top.proofs.EachFileLemmas.{one_bad, one_more_good}
 use Rattle.myria_top.proofs.FetchLemmas.{new_key, one_more_fetched, one_more_key, one_more_read, split_at}
 use Rattle.myria_top.proofs.VerdictLemmas.{files_refused, HasCause-part}
 use Rattle.myria_top.proofs.reading.read_files.Goals as goal
@@ -42,6 +45,14 @@ returns-in-Err-clause-read g c =
       kept = record { faults = omega (arith, kept.faults, read.kept.faults); misses = omega (arith, kept.misses, read.kept.misses) };
     }
 
+pub returns-in-Err-clause-bad : goal.returns-in-Err-clause-bad
+returns-in-Err-clause-bad g c =
+    let content = g.F.Shelf.content c.args.shelf.now in
+    let kept = c.loop-fetch.invariant in
+    subst (λ (fs : List Fetch). HasFirstBad content fs c.in-Err.refusal) c.as_slice-fetch-items.ensures.value
+    (one_bad content c.as_slice-fetch-items.result.now c.loop-fetch.fetch-index c.fetch-item.result c.loop-fetch-test.true c.fetch-item.is
+    kept.good (g.F.Shelf.content c.loop-fetch.shelf) c.in-Err.refusal kept.content c.in-Err.ensures.kind c.in-Err.ensures.read.agrees)
+
 pub add_file-requires-clause-new_key : goal.add_file-requires-clause-new_key
 add_file-requires-clause-new_key g c =
     new_key c.as_slice-fetch-items.result.now c.loop-fetch.fetch-index c.fetch-item.result c.loop-fetch.files
@@ -62,6 +73,9 @@ loop-fetch-preserved g c =
           one_more_read content _ fetches i fetch c.loop-fetch.files c.add_file.new.files relation c.loop-fetch-test.true c.fetch-item.is
           kept.content kept.read read.agrees grown;
       keys = one_more_key fetches i fetch c.loop-fetch.files c.add_file.new.files relation c.loop-fetch-test.true c.fetch-item.is kept.keys grown;
+      good =
+          one_more_good content fetches i fetch c.loop-fetch-test.true c.fetch-item.is kept.good (g.F.Shelf.content c.loop-fetch.shelf) relation
+          kept.content read.agrees;
       formed =
           one_more_fetched fetches c.loop-fetch.files c.add_file.new.files (fetch.key, relation) kept.formed
           (record {
