@@ -1,5 +1,5 @@
 //! Tests of scripts that are run at workers, over one relation: what they store is the same text by
-//! every setting, and senders and receivers run at once.
+//! every setting, senders and receivers run at once, and the local join is the one that is named.
 //!
 //! They stand in a crate of their own, above the engine, the readers of scripts and relations, and
 //! the text of what is stored.
@@ -11,3 +11,5 @@ mod gates;
 mod scripts;
 #[cfg(test)]
 mod shuffled;
+#[cfg(test)]
+mod turns;

@@ -43,7 +43,7 @@ const TEXT: &str = "-- store public:adhoc:Triangles 6 rows\nx:int,y:int,z:int\n\
 const SIZES: [(u32, u32, u32); 3] = [(1, 16, 256), (2, 1, 1), (7, 1, 1)];
 
 /// All taps, which were told nothing.
-fn blank_taps(alloc: Global) -> Result<Vec<CountTap>, Memory>
+pub(crate) fn blank_taps(alloc: Global) -> Result<Vec<CountTap>, Memory>
     ensures { IfOk result (λ made. vec_len made ≡ tap_count) }
 {
     let mut taps = Vec::with_capacity(alloc, TAPS)?;
