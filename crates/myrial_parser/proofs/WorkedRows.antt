@@ -1,5 +1,6 @@
 -- Worked cases of the grammar, each proved by computing.
 use Rattle.std.proofs.Common.{◌≡◌, ℕ, pos, neg_ℤ, true, false, List, [], ◌∷◌, Some, None, refl, sym, subst, ◌∙◌, append-nil, codes}
+use Rattle.std.specs.Fmt.{digits}
 use Rattle.rel_base.specs.declared.values.Value.TheVariants as value
 use Rattle.rel_base.specs.declared.values.ColType.TheVariants as type
 use Rattle.myrial_ast.specs.declared.operators.AggOp.TheVariants as agg
@@ -11,6 +12,9 @@ use Rattle.myrial_lexer.specs.declared.kinds.Token.{Token}
 use Rattle.myrial_lexer.specs.declared.kinds.TokenKind.TheVariants as kind
 use Rattle.myrial_lexer.specs.declared.kinds.Sign.TheVariants as sign
 use Rattle.myrial_parser.specs.declared.terminals.Keyword.TheVariants as keyword
+use Rattle.myrial_parser.specs.declared.faults.What.TheVariants as what
+use Rattle.myrial_parser.specs.declared.faults.ParseFault.TheVariants as fault
+use Rattle.myrial_parser.specs.Faults.{fault_text}
 use Rattle.myrial_parser.specs.Symbols as s
 use Rattle.myrial_parser.specs.Terminals.{Terminal, Fixed, Name, Number, Quoted, reserved}
 use Rattle.myrial_parser.specs.Grammar.{IsExpression, Reads, type_of}
@@ -275,3 +279,12 @@ one_piece = refl
 
 pub no_piece_at_all : pieces_of [] ≡ []
 no_piece_at_all = refl
+
+-- faults in words
+pub syntax_in_words : fault_text (fault.Syntax 2) ≡ codes "statement 2: syntax error"
+unfolding digits
+syntax_in_words = refl
+
+pub too_many_in_words : fault_text (fault.TooMany 12 what.Nesting) ≡ codes "statement 12: too many parentheses"
+unfolding digits
+too_many_in_words = refl

@@ -1,5 +1,6 @@
 //! The limits of the engine as constants.
-ghost use Rattle.std.specs.Prelude.{◌≡◌};
+ghost use Rattle.std.specs.Prelude.{◌≡◌, ◌-◌, ◌^◌};
+ghost use Rattle.rel_base.specs.declared.rows.TheConstants.Rows.{MOST};
 ghost use Rattle.rel_base.specs.Limits.{most_rows, most_columns, most_items, most_variables, most_script_bytes, most_relation_bytes, most_pieces, most_tokens, most_nesting, most_workers, most_capacity, most_batch, taps};
 
 /// The most rows of a relation, and the most candidates of a comprehension.
@@ -41,7 +42,7 @@ pub const MOST_BATCH: u32 = 4096;
 /// The taps of a run: one for what each worker sends, and one for what it receives and lists.
 pub const TAPS: usize = 128;
 
-/// Law: each constant is the limit that the definitions name.
+/// Law: each constant is the limit that the definitions name, and a list of rows holds as many as 32 bits count.
 pub fn limits_are_as_defined()
     ensures rows { MOST_ROWS ≡ most_rows }
     ensures columns { MOST_COLUMNS ≡ most_columns }
@@ -56,4 +57,5 @@ pub fn limits_are_as_defined()
     ensures capacity { MOST_CAPACITY ≡ most_capacity }
     ensures batch { MOST_BATCH ≡ most_batch }
     ensures taps { TAPS ≡ taps }
+    ensures listed { MOST ≡ 2 ^ 32 - 1 }
 {}

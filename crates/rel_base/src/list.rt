@@ -38,9 +38,6 @@ impl<T> Model for Items<T> {
 }
 
 impl<T> Items<T> {
-    /// The most items that a list holds.
-    pub const MOST: u32 = u32::MAX;
-
     /// An empty list, which takes no memory until the first item comes.
     pub fn new(alloc: Global) -> Self
         ensures { result ≡ [] }

@@ -6,3 +6,6 @@ returns-clause-rows c = search rules
 
 pub returns-clause-taps : goal.returns-clause-taps
 returns-clause-taps c = search rules
+
+pub returns-clause-listed : goal.returns-clause-listed
+returns-clause-listed c = search rules
