@@ -107,7 +107,7 @@ struct Outside {
     err: MemSink,
 }
 
-/// Three files, and sinks that have taken nothing. Standard error takes a byte at once.
+/// Three files, and sinks that have taken nothing and take a byte at once.
 fn outside_of(
     rt: &impl Abort,
     alloc: Global,
@@ -124,7 +124,7 @@ fn outside_of(
     let line = one_place(alloc, failing.2)?;
     Ok(Outside {
         shelf: MemShelf::new(contents, fetch),
-        out: MemSink::new(alloc, 1000, write),
+        out: MemSink::new(alloc, 1, write),
         err: MemSink::new(alloc, 1, line),
     })
 }
@@ -223,7 +223,7 @@ const PRINTING: [Case<'static>; 4] = [
     ),
 ];
 
-const REFUSED: [Case<'static>; 12] = [
+const REFUSED: [Case<'static>; 13] = [
     (
         "no script",
         NAMED,
@@ -282,6 +282,13 @@ const REFUSED: [Case<'static>; 12] = [
         (6, "", "myria: no relation public:adhoc:R\n"),
     ),
     (
+        "standard error fails at its first byte",
+        NAMED,
+        (NO_SCRIPT, RELATION, UNASKED),
+        (0, 0, 1),
+        (2, "", ""),
+    ),
+    (
         "standard error fails at its sixth byte",
         NAMED,
         (NO_SCRIPT, RELATION, UNASKED),
@@ -289,10 +296,10 @@ const REFUSED: [Case<'static>; 12] = [
         (2, "", "myria"),
     ),
     (
-        "the second write fails",
+        "the write behind the first line fails",
         NAMED,
         SCANNED,
-        (0, 2, 0),
+        (0, 34, 0),
         (
             12,
             "-- store public:adhoc:Out 3 rows\n",
