@@ -1,5 +1,5 @@
 -- From the stations that ran to what the exchange gives.
-use Rattle.std.proofs.Common.{◌≡◌, ◌≢◌, ℕ, zero, suc, ◌+◌, ◌-◌, ◌*◌, ◌<◌, ◌≤◌, List, [], ◌∷◌, ◌++◌, length, map, get_or, reverse, replicate, All, Option, Some, Result, Ok, Err, refl, sym, ap, ◌∙◌, subst, arith, append_assoc, append-nil, length-append, zero-add}
+use Rattle.std.proofs.Common.{◌≡◌, ℕ, zero, suc, ◌+◌, ◌*◌, ◌<◌, ◌≤◌, List, [], ◌∷◌, ◌++◌, length, map, get_or, replicate, All, Option, Some, Result, Ok, refl, sym, ap, ◌∙◌, subst, arith, append-nil, length-append, zero-add}
 use Rattle.std.specs.Prelude.{IsSome, IsErr, IfOk, IsPermutation, sum, sum_by}
 use Rattle.std.proofs.Common.{◌⊎◌, ⊎_elim}
 use Rattle.std.proofs.Math.Seq.{get_or-append_right}
@@ -8,7 +8,7 @@ use Rattle.std.proofs.lemmas.List.Sums.{sum-map, get_or-le-sum_by}
 use Rattle.std.proofs.lemmas.List.Sorted.{IsPermutation-sym, IsPermutation-trans, sum_by-IsPermutation}
 use Rattle.std.specs.List.{flat_map, range_with_len}
 use Rattle.std.proofs.lemmas.Option.{same_Some}
-use Rattle.std.proofs.lemmas.List.{get_or-map, length-map, map-id, get_or-replicate, length-replicate, get_or_append_left, get_or_default, get_or_past}
+use Rattle.std.proofs.lemmas.List.{get_or-map, length-map, map-id, get_or-replicate, length-replicate, get_or_append_left, get_or_past}
 use Rattle.std.proofs.lemmas.List.FromFn.{get_or-range_with_len, length-range_with_len, get_or-map-range_with_len, fill_by_all}
 use Rattle.rel_base.specs.declared.failure.Memory.{Memory}
 use Rattle.rel_io.specs.declared.taps.Totals.{Totals}
@@ -16,7 +16,8 @@ use Rattle.rel_io.specs.Taps.{with_sent, with_got}
 use Rattle.rel_io.specs.Outside.{capped_sum}
 use Rattle.std.specs.List.{AllZip}
 use Rattle.std.proofs.lemmas.List.Elements.{AllZip-get_or}
-use Rattle.exchange_channels.specs.Wirings.{WiringState, OutletState, IntakeState, IsWired, AreIntakes, AreOutletEnds, AreIntakeEnds, cells_of, new_outlet, new_outlets, untaken, HasEachEnd, sent_to, all_sent_to, IsDelivered, receipt_of, ReceiptState}
+use Rattle.std.proofs.lemmas.Slice.Zip.{AllZip-long}
+use Rattle.exchange_channels.specs.Wirings.{WiringState, OutletState, IntakeState, IsWired, AreIntakes, AreOutletEnds, AreIntakeEnds, cells_of, new_outlet, untaken, sent_to, all_sent_to, IsDelivered, receipt_of, ReceiptState}
 use Rattle.exchange_channels.specs.declared.messages.Batch.{Batch}
 use Rattle.exchange_channels.specs.declared.messages.Message.{Message}
 use Rattle.exchange_channels.proofs.SendingLemmas.{took_all_sent}
@@ -34,10 +35,8 @@ use Rattle.row_exchange.proofs.MoveLemmas.{between-routed, given-routed, sent-ro
 use Rattle.row_exchange.proofs.ReceiptLemmas.{no-batches}
 use Rattle.row_exchange.proofs.MessageLemmas.{rows-permuted, rows-of-all, flat_map-places, rows-by-atom, first-ok, second-ok, parity}
 use Rattle.row_exchange.specs.declared.routes.Size.{Size}
-use Rattle.row_exchange.specs.declared.stations.Outgoing.{Outgoing}
-use Rattle.row_exchange.specs.declared.stations.Station.{Station}
-use Rattle.row_exchange.specs.inner.Stations.{IsFresh, HasOutlet, rows_sent, SendsAll, HasSentAll, HasReceived, IsReadyOut, IsReadyStation, HasRunStation}
-use Rattle.row_exchange.specs.inner.Gatherings.{taps_of, opened, awaiting, out_of, taken_of, worker_of, outcome_of, HasEnds, WorksWith, IsOfWork, AreManned, IsTakenApart}
+use Rattle.row_exchange.specs.inner.Stations.{Station, HasOutlet, rows_sent, SendsAll, HasSentAll, HasReceived, IsReadyStation, HasRunStation}
+use Rattle.row_exchange.specs.inner.Gatherings.{taps_of, opened, awaiting, out_of, taken_of, worker_of, outcome_of, HasEnds, IsOfWork, AreManned, IsTakenApart}
 
 -- two taps of each station, one station after another
 pub first-tap : {W T : Type 0} (xs : List (Station W T)) (k : ℕ) (d : T) (e : Station W T) → k < length xs → get_or (flat_map taps_of xs) (2 * k) d ≡ (get_or xs k e).outgoing.tap
@@ -57,12 +56,6 @@ second-tap (x ∷ xs) (suc k) d e below =
 pub taps-long : {W T : Type 0} (xs : List (Station W T)) → length (flat_map taps_of xs) ≡ 2 * length xs
 taps-long [] = refl
 taps-long (x ∷ xs) = omega (arith, taps-long xs)
-
-AllZip-long : {X : Type 0} (R : X → X → Type 0) (xs ys : List X) → AllZip R xs ys → length ys ≡ length xs
-AllZip-long R [] [] all = refl
-AllZip-long R [] (y ∷ ys) all = absurd all
-AllZip-long R (x ∷ xs) [] all = absurd all
-AllZip-long R (x ∷ xs) (y ∷ ys) all = omega (arith, AllZip-long R xs ys all.1)
 
 module _ {W T : Type 0} (accepts : W → ℕ → Row → Type 0) (goes : W → ℕ → Row → List ℕ) (totals : T → Totals) (tag : T → ℕ)
     (route : W) (parts : List (List Rows)) (size : Size) (capacity : ℕ) (keep : WiringState) (outlets : List OutletState) (intakes : List IntakeState) (front : List T)

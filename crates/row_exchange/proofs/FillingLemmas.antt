@@ -1,8 +1,8 @@
 -- Filling batches, row by row and cell by cell.
-use Rattle.std.proofs.Common.{◌≡◌, ◌≢◌, ◌==◌, ℕ, zero, suc, ◌+◌, ◌*◌, ◌<◌, ◌≤◌, Bool, true, false, true≢false, cond, List, [], ◌∷◌, ◌++◌, length, map, get_or, set, take, drop, replicate, All, refl, sym, ap, ◌∙◌, subst, arith, append_assoc, append-nil, length-append, length-set, length-drop, ◌⊎◌, ⊎_elim, Result, Ok, Err, eq-eqb, ne_eqb, add-one}
+use Rattle.std.proofs.Common.{◌≡◌, ◌≢◌, ◌==◌, ℕ, zero, suc, ◌+◌, ◌*◌, ◌<◌, ◌≤◌, Bool, true, false, true≢false, cond, List, [], ◌∷◌, ◌++◌, length, map, get_or, set, take, drop, replicate, All, refl, sym, ap, ◌∙◌, subst, arith, append_assoc, append-nil, length-append, length-set, length-drop, ⊎_elim, Result, Ok, Err, eq-eqb, ne_eqb}
 use Rattle.std.specs.Prelude.{filter, sum_by, Vec, vec_len, IfOk}
 use Rattle.std.specs.declared.alloc.Global.{Global}
-use Rattle.std.specs.List.{flat_map, range_with_len}
+use Rattle.std.specs.List.{range_with_len}
 use Rattle.std.proofs.lemmas.Bool.Decides.{eqb_tells}
 use Rattle.std.proofs.lemmas.List.{map-append, map-set, map-id, get_or-map, get_or-set_same, get_or-set_other, set-get_or, take_more, take_all, get_or-replicate, length-replicate, get_or_default}
 use Rattle.std.proofs.lemmas.List.FromFn.{map-range_with_len_more}
@@ -17,11 +17,9 @@ use Rattle.std.proofs.lemmas.Grind.{flat_map-append}
 use Rattle.rel_base.specs.Picks.{items_at}
 use Rattle.rel_base.proofs.PickLemmas.{length-items_at, one_item}
 use Rattle.rel_base.proofs.SortLemmas.{All-one}
-use Rattle.exchange_channels.specs.declared.messages.Batch.{Batch}
 use Rattle.row_exchange.specs.Routes.{Row, Rows, GoesWithin, rows_at}
-use Rattle.row_exchange.specs.inner.Pairs.{times_to, rows_to, pairs_of, pairs_from}
-use Rattle.row_exchange.specs.Exchanges.{IsBatch}
-use Rattle.row_exchange.specs.inner.Shipments.{Shipment, shipped_in, shipped, rows_in, IsShipment, FillingState, pending_for, waiting, gathered, counted, IsFilling, IsSameWork, Gathers, no_more, row_at, filling_of, Finishes, AddsAtom, IsFilledTo, IsFilled}
+use Rattle.row_exchange.specs.inner.Pairs.{times_to, rows_to, pairs_of}
+use Rattle.row_exchange.specs.inner.Shipments.{Shipment, shipped_in, shipped, rows_in, IsShipment, FillingState, pending_for, waiting, gathered, counted, IsFilling, Gathers, no_more, row_at, filling_of, Finishes, AddsAtom, IsFilledTo, IsFilled}
 
 -- ---- batches
 

@@ -1,26 +1,24 @@
 -- Stations that are manned one by one, and taken apart one by one.
-use Rattle.std.proofs.Common.{◌≡◌, ℕ, zero, suc, ◌+◌, ◌-◌, ◌<◌, get_or, List, [], ◌∷◌, ◌++◌, length, map, reverse, All, Option, Some, Result, Ok, Err, refl, sym, ap, ◌∙◌, subst, arith, append_assoc, append-nil, length-append, drop}
+use Rattle.std.proofs.Common.{◌≡◌, ℕ, zero, suc, ◌+◌, ◌-◌, ◌<◌, get_or, List, [], ◌∷◌, ◌++◌, length, map, reverse, All, Some, Result, Ok, Err, refl, sym, ap, ◌∙◌, subst, arith, append_assoc, append-nil, length-append}
 use Rattle.std.specs.Prelude.{IfOk, IsOkAnd}
 use Rattle.std.specs.List.{flat_map, range_with_len, AllZip}
 use Rattle.rel_io.specs.declared.taps.Totals.{Totals}
 use Rattle.crew.specs.Jobs.{EachHasRun}
 use Rattle.crew.proofs.JobLemmas.{AllZip-from_run}
-use Rattle.std.proofs.lemmas.List.{map-append, map-id, reverse-append, length-map, get_or-reverse, length-reverse}
+use Rattle.std.proofs.lemmas.List.{map-append, map-id, reverse-append, get_or-reverse, length-reverse}
 use Rattle.std.proofs.lemmas.List.FromFn.{map-range_with_len_more}
 use Rattle.std.proofs.lemmas.List.Concat.{flat_map-cons}
-use Rattle.std.proofs.lemmas.List.Elements.{All-append}
+use Rattle.std.proofs.lemmas.List.Elements.{All-append, AllZip-push}
 use Rattle.rel_base.proofs.SortLemmas.{All-one}
 use Rattle.rel_base.specs.declared.failure.Memory.{Memory}
 use Rattle.exchange_channels.specs.Wirings.{OutletState, IntakeState}
 use Rattle.row_exchange.specs.Routes.{Row, Rows}
 use Rattle.row_exchange.specs.declared.routes.Size.{Size}
-use Rattle.row_exchange.specs.declared.stations.Station.{Station}
 use Rattle.row_exchange.specs.declared.stations.Outgoing.{Outgoing}
 use Rattle.row_exchange.specs.declared.stations.Incoming.{Incoming}
-use Rattle.row_exchange.specs.declared.stations.Half.{Half}
-use Rattle.row_exchange.specs.declared.stations.Half.TheVariants as half
-use Rattle.row_exchange.specs.inner.Stations.{HasRunHalf, HasRunStation, IsReadyHalf, IsReadyStation}
-use Rattle.row_exchange.specs.inner.Gatherings.{taps_of, opened, awaiting, out_of, taken_of, worker_of, outcome_of, IsOfWork, AreMannedBut, IsTakenApartBut, halves_of, stations_of, the_stations, IsPaired, IsOut, IsIn}
+use Rattle.row_exchange.specs.declared.stations.Halves.{Halves}
+use Rattle.row_exchange.specs.inner.Stations.{Station, IsReadyOut, IsReadyIn, IsReadyStation, HasGoneOut, HasComeIn, HasRunStation}
+use Rattle.row_exchange.specs.inner.Gatherings.{taps_of, opened, awaiting, out_of, taken_of, worker_of, outcome_of, IsOfWork, AreMannedBut, AreManned, IsTakenApartBut, IsTakenApart, stations_of, the_stations, ArePaired}
 
 pub reverse-snoc : {X : Type 0} (xs : List X) (x : X) → reverse (xs ++ x ∷ []) ≡ x ∷ reverse xs
 reverse-snoc xs x = reverse-append xs (x ∷ [])
@@ -58,6 +56,22 @@ unshift-pair f whole xs ys pair s left rest e is same grown =
     ∙ ap (λ l. xs ++ l) (sym (flat_map-cons f s rest))
     ∙ ap (λ l. xs ++ flat_map f l) (sym is) ∙ e
 
+-- two lists turned round
+turned : {X : Type 0} (R : X → X → Type 0) (xs ys : List X) → AllZip R xs ys → AllZip R (reverse xs) (reverse ys)
+turned R [] [] all = tt
+turned R [] (y ∷ ys) all = absurd all
+turned R (x ∷ xs) [] all = absurd all
+turned R (x ∷ xs) (y ∷ ys) all =
+    let turned_xs = reverse-append (x ∷ []) xs in
+    let turned_ys = reverse-append (y ∷ []) ys in
+    subst (λ (l : List _ × List _). AllZip R l.0 l.1) (λ i. (sym turned_xs i, sym turned_ys i)) (AllZip-push R (reverse xs) (reverse ys) x y (turned R xs ys all.1) all.0)
+
+All-turned : {X : Type 0} (P : X → Type 0) (xs : List X) → All P (reverse xs) → All P xs
+All-turned P xs all j d below =
+    let inside : length xs - 1 - j < length xs = omega arith in
+    let back : length xs - 1 - (length xs - 1 - j) ≡ j = omega arith in
+    subst P (get_or-reverse xs (length xs - 1 - j) d inside ∙ ap (λ (m : ℕ). get_or xs m d) back) (all (length xs - 1 - j) d (omega (arith, inside, length-reverse xs)))
+
 module _ {W T : Type 0} where
   pub manned-none : (route : W) (parts : List (List Rows)) (size : Size) (outlets : List OutletState) (intakes : List IntakeState) (taps : List T) (stations : List (Station W T))
       → stations ≡ [] → AreMannedBut route parts size outlets outlets intakes intakes taps taps stations
@@ -82,6 +96,13 @@ module _ {W T : Type 0} where
         (ap (range_with_len 0) (let n : length left ≡ length rest + 1 = omega (arith, ap length e, length-append rest (o ∷ [])) in n) ∙ range-more (length rest)) is_w grown;
     same_work = subst (All (IsOfWork route parts size)) (sym grown) (All-append (IsOfWork route parts size) (s ∷ []) stations (All-one (IsOfWork route parts size) s works) m.same_work);
   }
+
+  pub manned-all : (route : W) (parts : List (List Rows)) (size : Size) (outlets left : List OutletState) (intakes in_left : List IntakeState) (taps taps_left : List T) (stations : List (Station W T))
+      → length left ≡ 0 → length in_left ≡ 0 → length taps_left ≡ 0 → AreMannedBut route parts size outlets left intakes in_left taps taps_left stations → AreManned route parts size outlets intakes taps stations
+  manned-all route parts size outlets [] intakes [] taps [] stations e f t m = m
+  manned-all route parts size outlets (o ∷ left) intakes in_left taps taps_left stations e f t m = absurd (omega (arith, e))
+  manned-all route parts size outlets [] intakes (i ∷ in_left) taps taps_left stations e f t m = absurd (omega (arith, f))
+  manned-all route parts size outlets [] intakes [] taps (a ∷ taps_left) stations e f t m = absurd (omega (arith, t))
 
   pub apart-none : (stations : List (Station W T)) (taps : List T) (outs : List OutletState) (ins : List IntakeState) (given : List (List Rows))
       → IsTakenApartBut stations stations taps taps outs outs ins ins given (Ok given)
@@ -111,107 +132,72 @@ module _ {W T : Type 0} where
     given_is = given-more (map Ok given ++ map outcome_of stations) given1 given2 outcome s left rest e (sym is_r) m.given_is has;
   }
 
-  -- ---- halves in pairs
+  -- ---- halves side by side
 
-  -- two halves more
-  pub pushed : (halves mid more : List (Half W T)) (s : Station W T) → IsPaired halves → mid ≡ halves ++ half.In s.incoming ∷ [] → more ≡ mid ++ half.Out s.outgoing ∷ []
-      → (the_stations more ≡ s ∷ the_stations halves) × IsPaired more
-  pushed halves mid more s paired e f =
-      let turned : reverse more ≡ half.Out s.outgoing ∷ half.In s.incoming ∷ reverse halves =
-      ap reverse f ∙ reverse-snoc mid (half.Out s.outgoing) ∙ ap (λ l. half.Out s.outgoing ∷ l) (ap reverse e ∙ reverse-snoc halves (half.In s.incoming)) in
-      let stations : the_stations more ≡ s ∷ the_stations halves = ap stations_of turned in
-      (stations, turned ∙ ap (λ l. half.Out s.outgoing ∷ half.In s.incoming ∷ l) paired ∙ sym (flat_map-cons halves_of s (the_stations halves)) ∙ ap (flat_map halves_of) (sym stations))
+  -- one half more of each kind
+  pub stations-more : (os more_os : List (Outgoing W T)) (is more_is : List (Incoming T)) (o : Outgoing W T) (i : Incoming T) → more_os ≡ os ++ o ∷ [] → more_is ≡ is ++ i ∷ []
+      → stations_of (reverse more_os) (reverse more_is) ≡ record { outgoing = o; incoming = i } ∷ stations_of (reverse os) (reverse is)
+  stations-more os more_os is more_is o i e f =
+      let turned_os : reverse more_os ≡ o ∷ reverse os = ap reverse e ∙ reverse-snoc os o in
+      let turned_is : reverse more_is ≡ i ∷ reverse is = ap reverse f ∙ reverse-snoc is i in
+      λ j. stations_of (turned_os j) (turned_is j)
 
-  pub none-paired : (halves : List (Half W T)) → halves ≡ [] → IsPaired halves × (the_stations halves ≡ [])
-  none-paired halves none = subst (λ (h : List (Half W T)). IsPaired h × (the_stations h ≡ [])) (sym none) (refl, refl)
+  pub stations-long : (os : List (Outgoing W T)) (is : List (Incoming T)) → length is ≡ length os → length (stations_of (reverse os) (reverse is)) ≡ length os
+  stations-long os is paired = long (reverse os) (reverse is) (length-reverse is ∙ paired ∙ sym (length-reverse os)) ∙ length-reverse os
+    where
+      long : (os : List (Outgoing W T)) (is : List (Incoming T)) → length is ≡ length os → length (stations_of os is) ≡ length os
+      long [] is e = refl
+      long (o ∷ os) [] e = absurd (omega (arith, e))
+      long (o ∷ os) (i ∷ is) e = omega (arith, long os is (omega (arith, e)))
 
-  -- the last half of pairs is a sending one
-  first-out : (h : Half W T) (hs : List (Half W T)) → h ∷ hs ≡ flat_map halves_of (stations_of (h ∷ hs)) → IsOut h
-  first-out (half.Out o) hs paired = tt
-  first-out (half.In i) hs paired = absurd (omega (arith, ap length paired))
-
-  pub last-out : (halves : List (Half W T)) (h : Half W T) → IsPaired (halves ++ h ∷ []) → IsOut h
-  last-out halves h paired = first-out h (reverse halves) (subst (λ l. l ≡ flat_map halves_of (stations_of l)) (reverse-snoc halves h) paired)
-
-  -- behind it stands a receiving one
-  second-in : (o : Outgoing W T) (h : Half W T) (hs : List (Half W T)) → half.Out o ∷ h ∷ hs ≡ flat_map halves_of (stations_of (half.Out o ∷ h ∷ hs)) → IsIn h
-  second-in o (half.In i) hs paired = tt
-  second-in o (half.Out p) hs paired = absurd (omega (arith, ap length paired))
-
-  turned-two : (halves : List (Half W T)) (h g : Half W T) → reverse ((halves ++ g ∷ []) ++ h ∷ []) ≡ h ∷ g ∷ reverse halves
-  turned-two halves h g = reverse-snoc (halves ++ g ∷ []) h ∙ ap (λ l. h ∷ l) (reverse-snoc halves g)
-
-  pub other-in : (old halves : List (Half W T)) (o : Outgoing W T) (h g : Half W T) → h ≡ half.Out o → old ≡ halves ++ g ∷ [] → IsPaired (old ++ h ∷ []) → IsIn g
-  other-in old halves o h g is e paired =
-      second-in o g (reverse halves) (subst (λ l. l ≡ flat_map halves_of (stations_of l))
-      (ap reverse (λ i. e i ++ is i ∷ []) ∙ turned-two halves (half.Out o) g) paired)
-
-  only-out : (o : Outgoing W T) → half.Out o ∷ [] ≡ flat_map halves_of (stations_of (half.Out o ∷ [])) → ⊥
-  only-out o paired = omega (arith, ap length paired)
-
-  pub other-there : (old : List (Half W T)) (o : Outgoing W T) (h : Half W T) → h ≡ half.Out o → IsPaired (old ++ h ∷ []) → old ≡ [] → ⊥
-  other-there old o h is paired none = only-out o (subst (λ l. l ≡ flat_map halves_of (stations_of l)) (ap reverse (λ i. none i ++ is i ∷ [])) paired)
-
-  pub popped : (old halves : List (Half W T)) (o : Outgoing W T) (i : Incoming T) (h g : Half W T) → h ≡ half.Out o → g ≡ half.In i → old ≡ halves ++ g ∷ [] → IsPaired (old ++ h ∷ [])
-      → (the_stations (old ++ h ∷ []) ≡ record { outgoing = o; incoming = i } ∷ the_stations halves) × IsPaired halves
-  popped old halves o i h g is_o is_i e paired =
-      let s : Station W T = record { outgoing = o; incoming = i } in
-      let turned : reverse (old ++ h ∷ []) ≡ half.Out o ∷ half.In i ∷ reverse halves =
-      ap reverse (λ j. e j ++ is_o j ∷ []) ∙ turned-two halves (half.Out o) g ∙ ap (λ k. half.Out o ∷ k ∷ reverse halves) is_i in
-      let whole : half.Out o ∷ half.In i ∷ reverse halves ≡ half.Out o ∷ half.In i ∷ flat_map halves_of (stations_of (reverse halves)) =
-      subst (λ l. l ≡ flat_map halves_of (stations_of l)) turned paired ∙ flat_map-cons halves_of s (stations_of (reverse halves)) in
-      (ap stations_of turned, ap (λ l. drop 2 l) whole)
+  pub apart-all : (stations : List (Station W T)) (os : List (Outgoing W T)) (is : List (Incoming T)) (taps taps' : List T) (outs outs' : List OutletState) (ins ins' : List IntakeState)
+      (given : List (List Rows)) (given' : Result (List (List Rows)) Memory) → length os ≡ 0
+      → IsTakenApartBut stations (stations_of (reverse os) (reverse is)) taps taps' outs outs' ins ins' given given' → IsTakenApart stations taps taps' outs outs' ins ins' given given'
+  apart-all stations [] is taps taps' outs outs' ins ins' given given' e m = m
+  apart-all stations (o ∷ os) is taps taps' outs outs' ins ins' given given' e m = absurd (omega (arith, e))
 
   -- ---- all halves ran
 
   module _ (goes : W → ℕ → Row → List ℕ) (totals : T → Totals) (tag : T → ℕ) where
-    -- halves that ran stand in pairs as before, and each station ran
-    ran : (ss : List (Station W T)) (hs gs : List (Half W T)) → hs ≡ flat_map halves_of ss → AllZip (HasRunHalf goes totals tag) hs gs
-        → (gs ≡ flat_map halves_of (stations_of gs)) × AllZip (HasRunStation goes totals tag) ss (stations_of gs)
-    ran ss hs gs e all = by ss gs (subst (λ l. AllZip (HasRunHalf goes totals tag) l gs) e all)
-      where
-        by : (ss : List (Station W T)) (gs : List (Half W T)) → AllZip (HasRunHalf goes totals tag) (flat_map halves_of ss) gs
-            → (gs ≡ flat_map halves_of (stations_of gs)) × AllZip (HasRunStation goes totals tag) ss (stations_of gs)
-        by [] [] all = (refl, tt)
-        by [] (g ∷ gs) all = absurd all
-        by (s ∷ ss) [] all = absurd all
-        by (s ∷ ss) (half.In i ∷ gs) all = absurd all.0
-        by (s ∷ ss) (half.Out o ∷ []) all = absurd all.1
-        by (s ∷ ss) (half.Out o ∷ half.Out p ∷ gs) all = absurd all.1.0
-        by (s ∷ ss) (half.Out o ∷ half.In i ∷ gs) all =
-            let rest = by ss gs all.1.1 in
-            (ap (λ l. half.Out o ∷ half.In i ∷ l) rest.0, (record { out = all.0; taken = all.1.0 }, rest.1))
+    ran : (os ps : List (Outgoing W T)) (is js : List (Incoming T)) → AllZip (HasGoneOut goes totals tag) os ps → AllZip (HasComeIn totals tag) is js
+        → AllZip (HasRunStation goes totals tag) (stations_of os is) (stations_of ps js)
+    ran [] [] is js outs ins = tt
+    ran [] (p ∷ ps) is js outs ins = absurd outs
+    ran (o ∷ os) [] is js outs ins = absurd outs
+    ran (o ∷ os) (p ∷ ps) [] [] outs ins = tt
+    ran (o ∷ os) (p ∷ ps) [] (j ∷ js) outs ins = absurd ins
+    ran (o ∷ os) (p ∷ ps) (i ∷ is) [] outs ins = absurd ins
+    ran (o ∷ os) (p ∷ ps) (i ∷ is) (j ∷ js) outs ins = (record { out = outs.0; taken = ins.0 }, ran os ps is js outs.1 ins.1)
 
-    reversed : (hs gs : List (Half W T)) → AllZip (HasRunHalf goes totals tag) hs gs → AllZip (HasRunHalf goes totals tag) (reverse hs) (reverse gs)
-    reversed [] [] all = tt
-    reversed [] (g ∷ gs) all = absurd all
-    reversed (h ∷ hs) [] all = absurd all
-    reversed (h ∷ hs) (g ∷ gs) all =
-        subst (λ (x : List (Half W T) × List (Half W T)). AllZip (HasRunHalf goes totals tag) x.0 x.1)
-        (λ i. (sym (reverse-append (h ∷ []) hs) i, sym (reverse-append (g ∷ []) gs) i))
-        (joined (reverse hs) (reverse gs) h g (reversed hs gs all.1) all.0)
-      where
-        joined : (xs ys : List (Half W T)) (x y : Half W T) → AllZip (HasRunHalf goes totals tag) xs ys → HasRunHalf goes totals tag x y → AllZip (HasRunHalf goes totals tag) (xs ++ x ∷ []) (ys ++ y ∷ [])
-        joined [] [] x y all one = (one, tt)
-        joined [] (y' ∷ ys) x y all one = absurd all
-        joined (x' ∷ xs) [] x y all one = absurd all
-        joined (x' ∷ xs) (y' ∷ ys) x y all one = (all.0, joined xs ys x y all.1 one)
-
-    pub stations-ran : (before after : List (Half W T)) → IsPaired before → EachHasRun (HasRunHalf goes totals tag) before after
-        → IsPaired after × AllZip (HasRunStation goes totals tag) (the_stations before) (the_stations after)
-    stations-ran before after paired run =
-        ran (the_stations before) (reverse before) (reverse after) paired (reversed before after (AllZip-from_run (HasRunHalf goes totals tag) before after run))
+    pub stations-ran : (before after : Halves W T) → EachHasRun (HasGoneOut goes totals tag) before.senders.items after.senders.items
+        → EachHasRun (HasComeIn totals tag) before.receivers.items after.receivers.items → AllZip (HasRunStation goes totals tag) (the_stations before) (the_stations after)
+    stations-ran before after outs ins =
+        ran (reverse before.senders.items) (reverse after.senders.items) (reverse before.receivers.items) (reverse after.receivers.items)
+        (turned (HasGoneOut goes totals tag) before.senders.items after.senders.items (AllZip-from_run (HasGoneOut goes totals tag) before.senders.items after.senders.items outs))
+        (turned (HasComeIn totals tag) before.receivers.items after.receivers.items (AllZip-from_run (HasComeIn totals tag) before.receivers.items after.receivers.items ins))
 
   module _ (accepts : W → ℕ → Row → Type 0) (goes : W → ℕ → Row → List ℕ) where
-    ready-pairs : (ss : List (Station W T)) → All (IsReadyStation accepts goes) ss → All (IsReadyHalf accepts goes) (flat_map halves_of ss)
-    ready-pairs [] all k d below = absurd (omega arith)
-    ready-pairs (s ∷ ss) all zero d below = (all 0 s (omega arith)).out
-    ready-pairs (s ∷ ss) all (suc zero) d below = (all 0 s (omega arith)).intake
-    ready-pairs (s ∷ ss) all (suc (suc k)) d below = ready-pairs ss (λ j e inside. all (suc j) e (omega arith)) k d (omega arith)
+    ready-halves : (os : List (Outgoing W T)) (is : List (Incoming T)) → length is ≡ length os → All (IsReadyStation accepts goes) (stations_of os is)
+        → All (IsReadyOut accepts goes) os × All IsReadyIn is
+    ready-halves os is paired all = (outs os is paired all, ins os is paired all)
+      where
+        outs : (os : List (Outgoing W T)) (is : List (Incoming T)) → length is ≡ length os → All (IsReadyStation accepts goes) (stations_of os is) → All (IsReadyOut accepts goes) os
+        outs [] is e all k d below = absurd (omega arith)
+        outs (o ∷ os) [] e all k d below = absurd (omega (arith, e))
+        outs (o ∷ os) (i ∷ is) e all zero d below = (all 0 (record { outgoing = o; incoming = i }) (omega arith)).out
+        outs (o ∷ os) (i ∷ is) e all (suc k) d below = outs os is (omega (arith, e)) (λ j s inside. all (suc j) s (omega arith)) k d (omega arith)
 
-    pub halves-ready : (halves : List (Half W T)) → IsPaired halves → All (IsReadyStation accepts goes) (the_stations halves) → All (IsReadyHalf accepts goes) halves
-    halves-ready halves paired all j d below =
-        let inside : length halves - 1 - j < length halves = omega arith in
-        let back : length halves - 1 - (length halves - 1 - j) ≡ j = omega arith in
-        subst (IsReadyHalf accepts goes) (get_or-reverse halves (length halves - 1 - j) d inside ∙ ap (λ (m : ℕ). get_or halves m d) back)
-        (subst (All (IsReadyHalf accepts goes)) (sym paired) (ready-pairs (the_stations halves) all) (length halves - 1 - j) d (omega (arith, inside, length-reverse halves)))
+        ins : (os : List (Outgoing W T)) (is : List (Incoming T)) → length is ≡ length os → All (IsReadyStation accepts goes) (stations_of os is) → All IsReadyIn is
+        ins [] [] e all k d below = absurd (omega arith)
+        ins [] (i ∷ is) e all k d below = absurd (omega (arith, e))
+        ins (o ∷ os) [] e all k d below = absurd (omega arith)
+        ins (o ∷ os) (i ∷ is) e all zero d below = (all 0 (record { outgoing = o; incoming = i }) (omega arith)).intake
+        ins (o ∷ os) (i ∷ is) e all (suc k) d below = ins os is (omega (arith, e)) (λ j s inside. all (suc j) s (omega arith)) k d (omega arith)
+
+    pub halves-ready : (halves : Halves W T) → ArePaired halves → All (IsReadyStation accepts goes) (the_stations halves)
+        → All (IsReadyOut accepts goes) halves.senders.items × All IsReadyIn halves.receivers.items
+    halves-ready halves paired all =
+        let os = halves.senders.items in
+        let is = halves.receivers.items in
+        let ready = ready-halves (reverse os) (reverse is) (length-reverse is ∙ paired ∙ sym (length-reverse os)) all in
+        (All-turned (IsReadyOut accepts goes) os ready.0, All-turned IsReadyIn is ready.1)

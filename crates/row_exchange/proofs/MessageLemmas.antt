@@ -1,5 +1,5 @@
 -- Rows of messages, atom by atom.
-use Rattle.std.proofs.Common.{◌≡◌, ◌≢◌, ◌==◌, ℕ, zero, suc, ◌+◌, ◌*◌, ◌<◌, ◌≤◌, Bool, true, false, cond, List, [], ◌∷◌, ◌++◌, length, map, get_or, All, Option, Some, None, Result, Ok, Err, refl, sym, ap, ◌∙◌, subst, arith, append-nil, length-append, ◌⊎◌, inl, inr}
+use Rattle.std.proofs.Common.{◌≡◌, ◌==◌, ℕ, zero, suc, ◌+◌, ◌*◌, ◌<◌, Bool, true, false, cond, List, [], ◌∷◌, ◌++◌, length, map, get_or, All, Option, Some, None, Result, Ok, Err, refl, sym, ap, ◌∙◌, subst, arith, length-append, ◌⊎◌, inl, inr}
 use Rattle.std.specs.Prelude.{sum_by, IsPermutation, IfOk, OnOk}
 use Rattle.std.specs.List.{flat_map, range_with_len}
 use Rattle.std.proofs.lemmas.List.{length-map, get_or-map}
@@ -13,7 +13,7 @@ use Rattle.rel_base.specs.declared.failure.Memory.{Memory}
 use Rattle.exchange_channels.specs.declared.messages.Batch.{Batch}
 use Rattle.exchange_channels.specs.declared.messages.Message.{Message}
 use Rattle.exchange_channels.specs.Messages.{batches_of, batch_rows, row_count, rows_of, rows_of_atom}
-use Rattle.row_exchange.specs.Routes.{Row, Rows}
+use Rattle.row_exchange.specs.Routes.{Rows}
 use Rattle.row_exchange.specs.Exchanges.{IsBatch}
 use Rattle.row_exchange.specs.inner.Gatherings.{both}
 use Rattle.row_exchange.proofs.SumLemmas.{sum_by-range_same, sum_by-range_add, sum_by-range_once, sum_by-range_zero, flat_map-permuted}

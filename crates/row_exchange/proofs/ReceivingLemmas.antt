@@ -1,20 +1,19 @@
 -- What was drained, put together atom by atom.
-use Rattle.std.proofs.Common.{◌≡◌, ◌≢◌, ◌==◌, ℕ, ◌+◌, ◌<◌, ◌≤◌, Bool, true, false, true≢false, cond, List, [], ◌∷◌, ◌++◌, length, get_or, set, replicate, refl, sym, ap, ◌∙◌, subst, arith, append_assoc, append-nil, length-set, ⊎_elim, eq-eqb, ne_eqb}
+use Rattle.std.proofs.Common.{◌≡◌, ◌≢◌, ℕ, ◌<◌, ◌≤◌, Bool, true≢false, cond, List, [], ◌∷◌, ◌++◌, length, get_or, set, replicate, refl, sym, ap, ◌∙◌, subst, arith, append_assoc, append-nil, length-set, ⊎_elim, eq-eqb, ne_eqb}
 use Rattle.std.specs.Prelude.{IsPermutation, IfOk, IsOkAnd, IsSome, ◌↔◌}
-use Rattle.std.proofs.Common.{Result, Ok, Err, Option, Some, None}
+use Rattle.std.proofs.Common.{Result, Ok, Err, Option, None}
 use Rattle.std.proofs.lemmas.Bool.{cases_lt}
 use Rattle.rel_base.specs.declared.failure.Memory.{Memory}
-use Rattle.std.specs.List.{flat_map}
 use Rattle.std.proofs.lemmas.Bool.Decides.{eqb_tells}
 use Rattle.std.proofs.lemmas.List.{get_or-set_same, get_or-set_other, get_or-replicate, length-replicate}
 use Rattle.std.proofs.lemmas.List.Concat.{flat_map-cons}
-use Rattle.std.proofs.lemmas.List.Sorted.{IsPermutation-refl, IsPermutation-trans, IsPermutation-append_comm, IsPermutation-append_right}
+use Rattle.std.proofs.lemmas.List.Sorted.{IsPermutation-trans, IsPermutation-append_comm, IsPermutation-append_right}
 use Rattle.std.proofs.lemmas.Grind.{flat_map-append}
 use Rattle.exchange_channels.specs.declared.messages.Batch.{Batch}
 use Rattle.exchange_channels.specs.declared.messages.Message.{Message}
-use Rattle.exchange_channels.specs.Messages.{batches_of, batch_rows, rows_of_atom, drained_of, drained_rows}
+use Rattle.exchange_channels.specs.Messages.{batch_rows, drained_of, drained_rows}
 use Rattle.exchange_channels.proofs.SendingLemmas.{drained_rows-drained_of}
-use Rattle.row_exchange.specs.Routes.{Row, Rows}
+use Rattle.row_exchange.specs.Routes.{Rows}
 use Rattle.row_exchange.specs.inner.Stations.{AreGathered, AreGatheredBut, TakesIn, HasReceived}
 use Rattle.row_exchange.proofs.SumLemmas.{flat_map-permuted}
 

@@ -1,7 +1,6 @@
 -- Batches that are sent one after another, and then the end marks.
-use Rattle.std.proofs.Common.{◌≡◌, ◌≢◌, ◌==◌, ℕ, zero, suc, ◌+◌, ◌-◌, ◌<◌, ◌≤◌, Bool, true, false, cond, List, [], ◌∷◌, ◌++◌, length, map, get_or, set, replicate, All, Option, Some, None, refl, sym, ap, ◌∙◌, subst, arith, append_assoc, append-nil, length-append, length-set, ◌⊎◌, ⊎_elim, eq-eqb, ne_eqb}
-use Rattle.std.specs.Prelude.{filter, filter_map, sum_by}
-use Rattle.std.specs.List.{flat_map}
+use Rattle.std.proofs.Common.{◌≡◌, ◌≢◌, ℕ, ◌+◌, ◌-◌, ◌<◌, Bool, cond, List, [], ◌∷◌, ◌++◌, length, map, get_or, All, refl, sym, ap, ◌∙◌, subst, arith, append-nil, length-append, length-set, ⊎_elim, eq-eqb, ne_eqb}
+use Rattle.std.specs.Prelude.{sum_by}
 use Rattle.std.proofs.lemmas.Bool.Decides.{eqb_tells}
 use Rattle.std.proofs.lemmas.List.{get_or-map, length-map, get_or-set_same, get_or-set_other, length-replicate, get_or_append_left}
 use Rattle.std.proofs.Math.Seq.{get_or-append_right}
@@ -17,11 +16,10 @@ use Rattle.exchange_channels.specs.declared.messages.Batch.{Batch}
 use Rattle.exchange_channels.specs.declared.messages.Message.{Message}
 use Rattle.exchange_channels.specs.Messages.{batch_of, end_of, batches_of, batch_rows, row_count, rows_of, rows_of_atom}
 use Rattle.exchange_channels.specs.Wirings.{OutletState, sent_to, with_sent_to, with_ends}
-use Rattle.row_exchange.specs.Routes.{Row, Rows, rows_at}
-use Rattle.row_exchange.specs.inner.Pairs.{rows_to, pairs_from}
+use Rattle.row_exchange.specs.Routes.{Row, Rows}
 use Rattle.row_exchange.specs.Exchanges.{IsBatch}
-use Rattle.row_exchange.specs.inner.Shipments.{Shipment, shipped_in, shipped, rows_in, IsShipment, IsFilled}
-use Rattle.row_exchange.specs.inner.Stations.{IsFresh, rows_sent, HasShipped, SendsAll, HasSentAll}
+use Rattle.row_exchange.specs.inner.Shipments.{Shipment, shipped, rows_in, IsFilled}
+use Rattle.row_exchange.specs.inner.Stations.{IsFresh, rows_sent, HasShipped, SendsAll}
 use Rattle.row_exchange.proofs.FillingLemmas.{shipped-push, rows_in-push}
 
 All-front : {X : Type 0} (P : X → Type 0) (xs ys : List X) → All P (xs ++ ys) → All P xs

@@ -6,7 +6,7 @@ use Rattle.rel_base.specs.declared.values.Value.TheVariants as variant
 use Rattle.row_exchange.specs.Routes.{Row, Rows, rows_at}
 use Rattle.row_exchange.specs.Moves.{Move, sendings_of, moves_of, sent, received, rows_between, all_given}
 use Rattle.row_exchange.specs.Exchanges.{InOrder}
-use Rattle.row_exchange.specs.inner.Pairs.{times_to, rows_to, all_rows_to, pairs_of, pairs_from, pairs_to}
+use Rattle.row_exchange.specs.inner.Pairs.{times_to, rows_to, all_rows_to, pairs_from, pairs_to}
 
 abbrev first_row : Row
 first_row = variant.Int (pos 1) ∷ []

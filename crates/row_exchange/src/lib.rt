@@ -13,6 +13,11 @@
 //! that the call returns, since jobs wait for one another; the order in which a worker receives
 //! rows.
 //!
+//! Where the machine refuses threads: each worker's receiving half asks for its thread before the
+//! first half sends, and one that gets none takes what was sent once all have sent. So a call waits
+//! for ever only where a worker whose receiving half has no thread is sent more messages than the
+//! capacity, an end mark of each worker among them. No sending half needs a thread of its own.
+//!
 //! Read `routes.rt`, `specs/Routes.antt`, `specs/Exchanges.antt`, then `exchanging.rt`.
 #![tactic(auto)]
 

@@ -1,6 +1,5 @@
-//! Stations: what one worker does in an exchange. Its two halves run side by side.
-ghost use Rattle.std.specs.Prelude.{IsSome};
-ghost use Rattle.row_exchange.specs.inner.Stations.{IsReadyOut, HasGoneOut, HasComeIn};
+//! Stations: what one worker does in an exchange. Its sending half and its receiving half are a
+//! job each.
 
 use crate::receiving::receive;
 use crate::sending::send;
@@ -37,68 +36,57 @@ pub(crate) struct Incoming<T> {
     pub(crate) tap: T,
 }
 
-/// What one worker does in an exchange.
-pub(crate) struct Station<'a, W, T> {
-    pub(crate) outgoing: Outgoing<'a, W, T>,
-    pub(crate) incoming: Incoming<T>,
+/// The halves of all workers' stations, the last worker's first.
+pub(crate) struct Halves<'a, W, T> {
+    pub(crate) senders: Vec<Outgoing<'a, W, T>>,
+    pub(crate) receivers: Vec<Incoming<T>>,
 }
 
-/// One half of a station, which is a job of its own.
-pub(crate) enum Half<'a, W, T> {
-    Out(Outgoing<'a, W, T>),
-    In(Incoming<T>),
-}
+impl<'a, W: Route, T: Tap> Job for Outgoing<'a, W, T> {
+    ghost use Rattle.row_exchange.specs.inner.Stations.{IsReadyOut, HasGoneOut};
 
-/// Sends all rows of a worker.
-fn run_outgoing<R: Wait, W: Route, T: Tap>(rt: &R, half: &mut Outgoing<'_, W, T>)
-    requires { IsReadyOut W.accepts W.cells half.old }
-    ensures { HasGoneOut W.cells T.totals T.tag half.old half.new }
-{
-    match half.outlet.take() {
-        Some(outlet) => {
-            let (end, sent) = send(
-                rt,
-                half.alloc,
-                half.route,
-                half.parts,
-                half.size,
-                half.worker,
-                outlet,
-                &mut half.tap,
-            );
-            half.end = Some(end);
-            half.sent = sent;
-        }
-        None => unreachable!(),
-    }
-}
+    ghost is_ready = { IsReadyOut W.accepts W.cells };
 
-/// Takes all that is sent to a worker.
-fn run_incoming<R: Wait, T: Tap>(rt: &R, half: &mut Incoming<T>)
-    requires { IsSome half.old.intake }
-    ensures { HasComeIn T.totals T.tag half.old half.new }
-{
-    match half.intake.take() {
-        Some(intake) => {
-            let (end, received) = receive(rt, half.alloc, half.atoms, intake, &mut half.tap);
-            half.end = Some(end);
-            half.received = received;
-        }
-        None => unreachable!(),
-    }
-}
+    ghost has_run = { HasGoneOut W.cells T.totals T.tag };
 
-impl<'a, W: Route, T: Tap> Job for Half<'a, W, T> {
-    ghost use Rattle.row_exchange.specs.inner.Stations.{IsReadyHalf, HasRunHalf};
-
-    ghost is_ready = { IsReadyHalf W.accepts W.cells };
-
-    ghost has_run = { HasRunHalf W.cells T.totals T.tag };
-
+    /// Sends all rows of a worker.
     fn run<R: Threads + Wait + Sync>(&mut self, rt: &R) {
-        match self {
-            Half::Out(half) => run_outgoing(rt, half),
-            Half::In(half) => run_incoming(rt, half),
+        match self.outlet.take() {
+            Some(outlet) => {
+                let (end, sent) = send(
+                    rt,
+                    self.alloc,
+                    self.route,
+                    self.parts,
+                    self.size,
+                    self.worker,
+                    outlet,
+                    &mut self.tap,
+                );
+                self.end = Some(end);
+                self.sent = sent;
+            }
+            None => unreachable!(),
+        }
+    }
+}
+
+impl<T: Tap> Job for Incoming<T> {
+    ghost use Rattle.row_exchange.specs.inner.Stations.{IsReadyIn, HasComeIn};
+
+    ghost is_ready = { IsReadyIn };
+
+    ghost has_run = { HasComeIn T.totals T.tag };
+
+    /// Takes all that is sent to a worker.
+    fn run<R: Threads + Wait + Sync>(&mut self, rt: &R) {
+        match self.intake.take() {
+            Some(intake) => {
+                let (end, received) = receive(rt, self.alloc, self.atoms, intake, &mut self.tap);
+                self.end = Some(end);
+                self.received = received;
+            }
+            None => unreachable!(),
         }
     }
 }

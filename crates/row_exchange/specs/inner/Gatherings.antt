@@ -4,17 +4,18 @@
 --   taps_of, out_of, ..      what a station has
 --   AreManned ..             the stations of all workers, with these outlets, intakes and taps
 --   IsTakenApart ..          what the stations gave back
-use Rattle.std.specs.Prelude.{◌≡◌, ⊤, ℕ, ◌<◌, ◌≤◌, List, [], ◌∷◌, ◌++◌, length, map, reverse, All, Option, Some, IsSome, Result, Ok, Err, IfOk}
+use Rattle.std.specs.Prelude.{◌≡◌, ℕ, ◌≤◌, List, [], ◌∷◌, ◌++◌, length, map, reverse, All, Option, Some, IsSome, Result, Ok, Err, IfOk}
 use Rattle.std.specs.List.{flat_map, range_with_len}
+use Rattle.std.specs.Vec.{vec_capacity}
 use Rattle.rel_base.specs.declared.failure.Memory.{Memory}
 use Rattle.exchange_channels.specs.Wirings.{OutletState, IntakeState, IsWired}
 use Rattle.row_exchange.specs.declared.exchanging.Room.{Room}
-use Rattle.row_exchange.specs.Routes.{Row, Rows}
+use Rattle.row_exchange.specs.Routes.{Rows}
 use Rattle.row_exchange.specs.declared.routes.Size.{Size}
 use Rattle.row_exchange.specs.declared.stations.Outgoing.{Outgoing}
-use Rattle.row_exchange.specs.declared.stations.Station.{Station}
-use Rattle.row_exchange.specs.declared.stations.Half.{Half}
-use Rattle.row_exchange.specs.declared.stations.Half.TheVariants as half
+use Rattle.row_exchange.specs.declared.stations.Incoming.{Incoming}
+use Rattle.row_exchange.specs.declared.stations.Halves.{Halves}
+use Rattle.row_exchange.specs.inner.Stations.{Station}
 
 module _ {W T : Type 0} where
   -- the two taps of a station, in order
@@ -38,34 +39,26 @@ module _ {W T : Type 0} where
   abbrev pub worker_of : Station W T → ℕ
   worker_of s = s.outgoing.worker
 
-  -- the halves of a station, in order
-  abbrev pub halves_of : Station W T → List (Half W T)
-  halves_of s = half.Out s.outgoing ∷ half.In s.incoming ∷ []
+  -- sending and receiving halves, side by side
+  abbrev pub stations_of : List (Outgoing W T) → List (Incoming T) → List (Station W T)
+  stations_of [] is = []
+  stations_of (o ∷ os) [] = []
+  stations_of (o ∷ os) (i ∷ is) = record { outgoing = o; incoming = i } ∷ stations_of os is
 
-  -- the stations of halves that stand in pairs
-  abbrev pub stations_of : List (Half W T) → List (Station W T)
-  stations_of [] = []
-  stations_of (half.Out o ∷ []) = []
-  stations_of (half.Out o ∷ half.In i ∷ hs) = record { outgoing = o; incoming = i } ∷ stations_of hs
-  stations_of (half.Out o ∷ half.Out p ∷ hs) = []
-  stations_of (half.In i ∷ hs) = []
+  -- the stations of halves of which the last ones are the first worker's
+  abbrev pub the_stations : Halves W T → List (Station W T)
+  the_stations halves = stations_of (reverse halves.senders.items) (reverse halves.receivers.items)
 
-  -- the stations of halves of which the last one is the first worker's
-  abbrev pub the_stations : List (Half W T) → List (Station W T)
-  the_stations halves = stations_of (reverse halves)
+  -- there is a receiving half for each sending half
+  abbrev pub ArePaired : Halves W T → Type 0
+  ArePaired halves = length halves.receivers.items ≡ length halves.senders.items
 
-  -- the halves are those of stations
-  abbrev pub IsPaired : List (Half W T) → Type 0
-  IsPaired halves = reverse halves ≡ flat_map halves_of (the_stations halves)
-
-  -- which half it is
-  abbrev pub IsOut : Half W T → Type 0
-  IsOut (half.Out o) = ⊤
-  IsOut (half.In i) = ⊥
-
-  abbrev pub IsIn : Half W T → Type 0
-  IsIn (half.Out o) = ⊥
-  IsIn (half.In i) = ⊤
+  -- no half so far, and room for those of so many workers
+  pub record HaveRoom (workers : ℕ) (halves : Halves W T) : Type 0 where
+    pub senders : halves.senders.items ≡ []
+    pub senders_room : workers ≤ vec_capacity halves.senders
+    pub receivers : halves.receivers.items ≡ []
+    pub receivers_room : workers ≤ vec_capacity halves.receivers
 
 -- what was received, where all was sent
 abbrev pub both : {X Y : Type 0} → Result X Memory → Result Y Memory → Result Y Memory

@@ -6,15 +6,14 @@
 --   FillingState                 what a worker fills from the rows of one atom
 --   gathered s w atom            the rows of an atom for w so far, in batches and not yet
 --   counted s                    how many these are
-use Rattle.std.specs.Prelude.{◌≡◌, ℕ, ◌+◌, ◌*◌, ◌==◌, ◌&&◌, ◌<◌, ◌≤◌, List, [], ◌∷◌, ◌++◌, if◌then◌else◌, length, All, slice_index_or, sum_by, replicate}
+use Rattle.std.specs.Prelude.{◌≡◌, ℕ, ◌+◌, ◌*◌, ◌==◌, ◌<◌, ◌≤◌, List, [], ◌++◌, if◌then◌else◌, length, All, slice_index_or, sum_by, replicate}
 use Rattle.std.specs.List.{flat_map, range_with_len}
 use Rattle.rel_base.specs.Limits.{most_workers}
 use Rattle.rel_base.specs.Picks.{items_at}
 use Rattle.exchange_channels.specs.declared.messages.Batch.{Batch}
-use Rattle.exchange_channels.specs.Messages.{batch_rows, rows_of_atom, batches_of, rows_of}
-use Rattle.exchange_channels.specs.Wirings.{OutletState, sent_to, cells_of}
+use Rattle.exchange_channels.specs.Messages.{batch_rows}
 use Rattle.row_exchange.specs.Routes.{Row, Rows, rows_at}
-use Rattle.row_exchange.specs.inner.Pairs.{times_to, rows_to, pairs_of, pairs_from}
+use Rattle.row_exchange.specs.inner.Pairs.{rows_to, pairs_of, pairs_from}
 use Rattle.row_exchange.specs.Exchanges.{IsBatch}
 
 -- a batch, behind the cell that it goes to

@@ -7,7 +7,7 @@
 --   HasSentAll .. outlet end r       an outlet before and after all rows of a worker were sent, or
 --                                    memory was refused
 --   HasReceived atoms got parts      what was taken, put together atom by atom
-use Rattle.std.specs.Prelude.{◌≡◌, ℕ, ◌+◌, ◌<◌, ◌≤◌, List, [], ◌++◌, length, replicate, All, OnOk, OnErr, IfOk, Option, Some, IsSome, IsSomeAnd, Result, IsPermutation, slice_index_or, slice_set, sum_by}
+use Rattle.std.specs.Prelude.{◌≡◌, ℕ, ◌<◌, ◌≤◌, List, [], ◌++◌, length, replicate, All, OnOk, OnErr, IfOk, Option, Some, IsSome, IsSomeAnd, Result, IsPermutation, slice_index_or, slice_set, sum_by}
 use Rattle.rel_base.specs.declared.failure.Memory.{Memory}
 use Rattle.exchange_channels.specs.declared.messages.Batch.{Batch}
 use Rattle.exchange_channels.specs.declared.messages.Message.{Message}
@@ -15,16 +15,12 @@ use Rattle.exchange_channels.specs.Messages.{batches_of, rows_of, rows_of_atom, 
 use Rattle.exchange_channels.specs.Wirings.{OutletState, IntakeState, sent_to, cells_of, untaken, HasEachEnd}
 use Rattle.rel_io.specs.declared.taps.Totals.{Totals}
 use Rattle.rel_io.specs.Taps.{with_sent, with_got}
-use Rattle.row_exchange.specs.declared.routes.Size.{Size}
 use Rattle.row_exchange.specs.declared.stations.Outgoing.{Outgoing}
 use Rattle.row_exchange.specs.declared.stations.Incoming.{Incoming}
-use Rattle.row_exchange.specs.declared.stations.Station.{Station}
-use Rattle.row_exchange.specs.declared.stations.Half.{Half}
-use Rattle.row_exchange.specs.declared.stations.Half.TheVariants as half
 use Rattle.row_exchange.specs.Routes.{Row, Rows, rows_at, IsRouted}
 use Rattle.row_exchange.specs.inner.Pairs.{rows_to, pairs_from}
 use Rattle.row_exchange.specs.Exchanges.{IsBatch, IsSize}
-use Rattle.row_exchange.specs.inner.Shipments.{Shipment, shipped, rows_in, IsShipment}
+use Rattle.row_exchange.specs.inner.Shipments.{Shipment, shipped, rows_in}
 
 -- the outlet has sent nothing to any of so many cells
 pub record IsFresh (cells : ℕ) (outlet : OutletState) : Type 0 where
@@ -118,6 +114,10 @@ pub record HasGoneOut {W T : Type 0} (goes : W → ℕ → Row → List ℕ) (to
   pub told : totals after.tap ≡ with_sent (totals before.tap) (rows_sent end)
   pub same_tag : tag after.tap ≡ tag before.tap
 
+-- a receiving half may run
+abbrev pub IsReadyIn : {T : Type 0} → Incoming T → Type 0
+IsReadyIn half = IsSome half.intake
+
 -- a receiving half before and after it ran
 pub record HasComeIn {T : Type 0} (totals : T → Totals) (tag : T → ℕ)
     (before after : Incoming T) : Type 0 where
@@ -131,25 +131,16 @@ pub record HasComeIn {T : Type 0} (totals : T → Totals) (tag : T → ℕ)
   pub told : totals after.tap ≡ with_got (totals before.tap) (rows_of end.got)
   pub same_tag : tag after.tap ≡ tag before.tap
 
--- a half may run
-abbrev pub IsReadyHalf : {W T : Type 0} → (W → ℕ → Row → Type 0) → (W → ℕ → Row → List ℕ)
-    → Half W T → Type 0
-IsReadyHalf accepts goes (half.Out o) = IsReadyOut accepts goes o
-IsReadyHalf accepts goes (half.In i) = IsSome i.intake
-
--- a half before and after it ran
-abbrev pub HasRunHalf : {W T : Type 0} → (W → ℕ → Row → List ℕ) → (T → Totals) → (T → ℕ) → Half W T
-    → Half W T → Type 0
-HasRunHalf goes totals tag (half.Out o) (half.Out p) = HasGoneOut goes totals tag o p
-HasRunHalf goes totals tag (half.Out o) (half.In j) = ⊥
-HasRunHalf goes totals tag (half.In i) (half.In j) = HasComeIn totals tag i j
-HasRunHalf goes totals tag (half.In i) (half.Out p) = ⊥
+-- what one worker does in an exchange: its two halves
+pub record Station (W T : Type 0) : Type 0 where
+  pub outgoing : Outgoing W T
+  pub incoming : Incoming T
 
 -- a station whose halves may run
 pub record IsReadyStation {W T : Type 0} (accepts : W → ℕ → Row → Type 0)
     (goes : W → ℕ → Row → List ℕ) (s : Station W T) : Type 0 where
   pub out : IsReadyOut accepts goes s.outgoing
-  pub intake : IsSome s.incoming.intake
+  pub intake : IsReadyIn s.incoming
 
 -- a station before and after its halves ran
 pub record HasRunStation {W T : Type 0} (goes : W → ℕ → Row → List ℕ) (totals : T → Totals)

@@ -1,7 +1,7 @@
-use Rattle.std.proofs.Common.{◌≡◌, ◌<◌, ◌∙◌, ℕ, [], List, subst, sym, arith, length, get_or}
-use Rattle.row_exchange.specs.Routes.{Rows, Row, AreRouted, rows_at}
+use Rattle.std.proofs.Common.{◌≡◌, ◌<◌, ℕ, List, subst, sym, arith, length}
+use Rattle.row_exchange.specs.Routes.{Rows, AreRouted, rows_at}
 use Rattle.row_exchange.specs.inner.Shipments.{AddsAtom}
-use Rattle.row_exchange.proofs.FillingLemmas.{rows-at, one-atom-more, all-atoms, no-atoms}
+use Rattle.row_exchange.proofs.FillingLemmas.{rows-at, one-atom-more, all-atoms}
 use Rattle.row_exchange.proofs.filling.fill.Goals as goal
 use Rattle.row_exchange.proofs.filling.fill.Given as given
 

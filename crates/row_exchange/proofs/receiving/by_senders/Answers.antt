@@ -1,4 +1,4 @@
-use Rattle.std.proofs.Common.{◌≡◌, ◌∙◌, ◌++◌, ◌∷◌, [], List, ℕ, append-nil, sym, ap, subst}
+use Rattle.std.proofs.Common.{◌≡◌, ◌++◌, [], append-nil, sym, subst}
 use Rattle.std.specs.Prelude.{IsPermutation}
 use Rattle.std.proofs.lemmas.List.Sorted.{IsPermutation-refl, IsPermutation-trans}
 use Rattle.row_exchange.proofs.ReceivingLemmas.{taken-step, nil-from_pop}

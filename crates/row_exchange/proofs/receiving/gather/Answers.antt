@@ -1,8 +1,5 @@
-use Rattle.std.proofs.Common.{◌≡◌, ◌∙◌, ◌++◌, ◌∷◌, [], List, ℕ, sym, ap, arith}
-use Rattle.exchange_channels.specs.declared.messages.Batch.{Batch}
-use Rattle.std.specs.Option.{option_to_list}
+use Rattle.std.proofs.Common.{◌≡◌, [], arith}
 use Rattle.std.proofs.lemmas.Result.{IfOk-weaker}
-use Rattle.row_exchange.specs.Routes.{Rows}
 use Rattle.row_exchange.specs.inner.Stations.{AreGathered}
 use Rattle.row_exchange.proofs.ReceivingLemmas.{nothing-gathered, gathered-step, all-gathered, nil-from_pop}
 use Rattle.row_exchange.proofs.receiving.gather.Goals as goal

@@ -1,5 +1,5 @@
 use Rattle.std.proofs.Common.{arith}
-use Rattle.row_exchange.proofs.ShippingLemmas.{sent-all, sent-none}
+use Rattle.row_exchange.proofs.ShippingLemmas.{sent-all}
 use Rattle.row_exchange.proofs.sending.send.Goals as goal
 
 pub returns-in-Ok-clause-sent : goal.returns-in-Ok-clause-sent

@@ -1,8 +1,7 @@
-use Rattle.std.proofs.Common.{◌≡◌, ◌<◌, ◌∙◌, ◌+◌, ◌∷◌, [], ℕ, length, sym, ap, subst, arith, rules}
+use Rattle.std.proofs.Common.{◌<◌, ◌∙◌, length, sym, ap, subst, arith}
 use Rattle.std.proofs.lemmas.Iterator.Adapters.{YieldsList-from_vec}
 use Rattle.std.proofs.lemmas.Iterator.Consumers.{YieldsList-turn}
 use Rattle.rel_io.specs.Taps.{with_sent}
-use Rattle.exchange_channels.specs.Wirings.{OutletState}
 use Rattle.row_exchange.specs.inner.Shipments.{Shipment, rows_in}
 use Rattle.row_exchange.specs.inner.Stations.{HasShipped}
 use Rattle.row_exchange.proofs.FillingLemmas.{rows_in-push}

@@ -1,8 +1,8 @@
-use Rattle.std.proofs.Common.{◌≡◌, ◌<◌, ◌∙◌, ℕ, [], List, length, map, subst, sym, arith, ap}
+use Rattle.std.proofs.Common.{◌≡◌, ◌∙◌, ℕ, [], length, map, arith, ap}
 use Rattle.std.proofs.lemmas.List.{get_or_default, length-map}
 use Rattle.std.specs.Prelude.{Vec}
 use Rattle.std.specs.declared.alloc.Global.{Global}
-use Rattle.row_exchange.specs.inner.Shipments.{FillingState, Gathers, no_more, pending_for}
+use Rattle.row_exchange.specs.inner.Shipments.{FillingState, no_more}
 use Rattle.row_exchange.proofs.FillingLemmas.{Gathers-then, rest-empty}
 use Rattle.row_exchange.proofs.filling.Filling.flush_all.Goals as goal
 

@@ -1,9 +1,9 @@
-use Rattle.std.proofs.Common.{◌≡◌, ◌<◌, ◌++◌, ◌∷◌, [], List, ℕ, Vec, length, map, set, refl, sym, ap, ◌∙◌, subst}
+use Rattle.std.proofs.Common.{◌≡◌, ◌<◌, ◌∷◌, [], List, ℕ, Vec, length, set, sym, subst}
 use Rattle.std.specs.declared.alloc.Global.{Global}
 use Rattle.std.proofs.lemmas.List.{length-map}
 use Rattle.row_exchange.specs.inner.Pairs.{times_to}
 use Rattle.row_exchange.specs.inner.Shipments.{FillingState, IsFilling, Gathers, no_more, pending_for, row_at}
-use Rattle.row_exchange.proofs.FillingLemmas.{put_in, put_in-keeps, put_in-gathers, put_in-state, refused-state, state_of, Gathers-then, put_then}
+use Rattle.row_exchange.proofs.FillingLemmas.{put_in, put_in-keeps, put_in-state, refused-state, state_of, put_then}
 use Rattle.row_exchange.proofs.filling.Filling.put.Goals as goal
 
 abbrev before : (c : goal.In_ok-push) → FillingState
