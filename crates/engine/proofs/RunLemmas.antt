@@ -28,7 +28,7 @@ use Rattle.placement.specs.Laws.{IsPlaced, IsPlacing, IsReady, HasReadyItems}
 use Rattle.placement.specs.Layouts.{PlacedRelation, Placing, ByKeys, placed_file, placed_stores, rows_of, term_parts}
 use Rattle.placement.specs.Plans.{usual_placing, step_notes}
 use Rattle.placement.proofs.UsualLemmas.{usual_is_placing}
-use Rattle.placed_joins.specs.PlacedJoins.{placed_rows, placed_items, size_of}
+use Rattle.routed_joins.specs.PlacedJoins.{placed_rows, placed_items, size_of}
 use Rattle.term_runs.specs.declared.moved.Moved.{Moved}
 use Rattle.term_runs.specs.TermRuns.{shown_moves, AreShown, no_receipt, AreMoved, AreFair, IsMoved}
 use Rattle.term_runs.proofs.ReceiptLemmas.{joined-runs}
@@ -47,9 +47,9 @@ use Rattle.run_laws.proofs.RewrittenLemmas.{needed-own, steps_by_place, rewritte
 use Rattle.run_laws.proofs.HeldLemmas.{results_are_held}
 use Rattle.run_laws.proofs.LoopLemmas.{held_are_ready, one_more_is_held, stores_are_held}
 use Rattle.run_laws.proofs.ScriptLemmas.{scripts_are_of_steps, results_are_found, faults_are_first}
-use Rattle.bag_runs.specs.BagRuns.{IsSameRun}
-use Rattle.bag_runs.proofs.RunLemmas.{run-same}
-use Rattle.bag_runs.proofs.TermLemmas.{terms_are_of_bags}
+use Rattle.run_laws.specs.BagRuns.{IsSameRun}
+use Rattle.run_laws.proofs.RunLemmas.{run-same}
+use Rattle.run_laws.proofs.TermLemmas.{terms_are_of_bags}
 use Rattle.engine.specs.declared.held.Held.{Held}
 use Rattle.engine.specs.declared.noted.Noted.{Noted}
 use Rattle.engine.specs.declared.runs.Ran.{Ran}

@@ -20,7 +20,7 @@ use Rattle.algebra.specs.Trees.{TermTree, Same, Empty, UnionAll, Diff, Distinct,
 use Rattle.plan_rewrite.specs.Planned.{is_last_use}
 use Rattle.placement.specs.Laws.{IsPlaced, IsReady, IsSamePlaced, HasReadyItems}
 use Rattle.placement.specs.Layouts.{Placing, rows_of, together}
-use Rattle.placed_joins.specs.PlacedJoins.{placed_rows}
+use Rattle.routed_joins.specs.PlacedJoins.{placed_rows}
 use Rattle.run_laws.specs.Values.{meant}
 use Rattle.run_laws.specs.Scripts.{HasTypedSources}
 use Rattle.run_laws.specs.Held.{held_at, HasWideParts, IsReadyStep, IsHeldStore, parts_in, IsIn}

@@ -23,7 +23,7 @@ use Rattle.algebra.specs.Meanings.{checked_fault}
 use Rattle.placement.specs.Layouts.{PlacedRelation, placed_stores}
 use Rattle.placement.specs.Exchanges.{PlacedExchange, exchanges_of, traffic_of}
 use Rattle.placement.specs.Plans.{usual_placing, plan_of}
-use Rattle.placed_joins.specs.PlacedJoins.{size_of}
+use Rattle.routed_joins.specs.PlacedJoins.{size_of}
 use Rattle.term_runs.specs.TermRuns.{shown_moves, AreShown, AreMoved, AreFair}
 use Rattle.engine.specs.declared.runs.SpreadStore.{SpreadStore}
 use Rattle.engine.specs.declared.runs.Ran.{Ran}

@@ -1,8 +1,8 @@
 //! The engine: checked scripts, run step by step by workers that exchange rows.
 //!
 //! Stands on `plan_rewrite` for the steps that a store needs, on `placement` and `run_laws` for
-//! what each of them means at workers, on `join_plans`, `join_runs` and `keyed_terms` for their
-//! plans and terms, and on `bag_runs`, by whose laws rows are held in whatever order they came.
+//! what each of them means at workers and by whose laws rows are held in whatever order they came,
+//! and on `join_plans`, `join_runs` and `keyed_terms` for their plans and terms.
 //! Files are dealt to the workers, each result stays where it was made until its last use, and a
 //! step runs over what is held of its sources.
 //!

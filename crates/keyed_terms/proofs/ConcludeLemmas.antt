@@ -15,11 +15,11 @@ use Rattle.algebra.specs.declared.settings.Settings.{Settings}
 use Rattle.placement.specs.Exchanges.{PlacedExchange, row_counts}
 use Rattle.placement.specs.Layouts.{by_worker}
 use Rattle.row_exchange.specs.Moves.{sent, received}
-use Rattle.placed_joins.specs.PlacedJoins.{size_of}
+use Rattle.routed_joins.specs.PlacedJoins.{size_of}
 use Rattle.row_exchange.specs.Exchanges.{IsTold}
 use Rattle.row_exchange.proofs.MessageLemmas.{parity}
-use Rattle.worker_joins.specs.Listings.{IsLow}
-use Rattle.worker_joins.proofs.RouteLemmas.{same-tables}
+use Rattle.routed_joins.specs.Listings.{IsLow}
+use Rattle.routed_joins.proofs.RouteLemmas.{same-tables}
 use Rattle.std.proofs.lemmas.List.FromFn.{length-map-range_with_len, get_or-map-range_with_len}
 use Rattle.rel_base.specs.Bags.{SameBag}
 use Rattle.term_runs.specs.declared.moved.Moved.{Moved}

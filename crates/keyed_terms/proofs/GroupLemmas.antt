@@ -24,7 +24,7 @@ use Rattle.placement.proofs.ScriptLemmas.{home_of-lt}
 use Rattle.placement.proofs.TogetherLemmas.{homes-together}
 use Rattle.regular_shuffle.specs.KeySpreads.{HasColumns, key_home}
 use Rattle.row_exchange.proofs.MoveLemmas.{All-flat_map}
-use Rattle.worker_joins.proofs.RouteLemmas.{same-tables}
+use Rattle.routed_joins.proofs.RouteLemmas.{same-tables}
 use Rattle.keyed_terms.specs.inner.Making.{AreMadeBy}
 
 -- ---- the columns of partial rows

@@ -12,9 +12,9 @@ use Rattle.algebra.specs.declared.settings.Settings.{Settings}
 use Rattle.hash_partition.specs.Hashing.{home_of}
 use Rattle.placement.specs.Exchanges.{PlacedExchange}
 use Rattle.row_exchange.specs.Moves.{Move, sent, received}
-use Rattle.placed_joins.specs.PlacedJoins.{size_of}
+use Rattle.routed_joins.specs.PlacedJoins.{size_of}
 use Rattle.row_exchange.specs.Exchanges.{Shows, IsTold}
-use Rattle.worker_joins.specs.Listings.{IsLow}
+use Rattle.routed_joins.specs.Listings.{IsLow}
 use Rattle.term_runs.specs.TermRuns.{moves_alone, AreShown, no_receipt, a_receipt, all_sent, all_received, all_listed, AreMoved, AreFair}
 use Rattle.term_runs.proofs.TapLemmas.{AreAdded, added-told, added-both, added-same, added-moved, moved-added}
 use Rattle.keyed_terms.specs.inner.Meeting.{unlisted_exchange, HaveMet, IsMeeting}

@@ -21,7 +21,7 @@ use Rattle.row_exchange.specs.declared.routes.Size.{Size}
 use Rattle.row_exchange.specs.Exchanges.{Shows}
 use Rattle.row_exchange.proofs.ReceiptLemmas.{bags-shown}
 use Rattle.row_exchange.proofs.MoveLemmas.{All-flat_map}
-use Rattle.worker_joins.proofs.RouteLemmas.{same-tables}
+use Rattle.routed_joins.proofs.RouteLemmas.{same-tables}
 use Rattle.keyed_terms.specs.KeyedTerms.{AreOfWidth}
 use Rattle.keyed_terms.specs.inner.Making.{AreMadeBy}
 use Rattle.keyed_terms.proofs.MoveLemmas.{home_sending, home_moves, moves-one, moves-agree, moves-same, together-same, sent-same, received-same, shown-same}

@@ -25,7 +25,7 @@ use Rattle.aggregate_ops.specs.declared.faults.AggFault.TheVariants as agg
 use Rattle.placement.specs.Exchanges.{PlacedExchange, row_exchange, group_exchange}
 use Rattle.placement.specs.Layouts.{together, by_worker, parts_by_row, parts_by_key}
 use Rattle.placement.specs.Plans.{usual_placing}
-use Rattle.placed_joins.specs.PlacedJoins.{placed_rows}
+use Rattle.routed_joins.specs.PlacedJoins.{placed_rows}
 
 -- each row at each worker has so many columns
 abbrev pub AreOfWidth : ℕ → List Rows → Type 0

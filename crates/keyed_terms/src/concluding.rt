@@ -1,7 +1,7 @@
 //! What is told and given once the rows of an exchange are made.
 ghost use Rattle.std.specs.Prelude.{◌≡◌, ◌*◌, ◌≤◌, length, All, IfOk, vec_len};
 ghost use Rattle.rel_base.specs.Limits.{most_workers};
-ghost use Rattle.worker_joins.specs.Listings.{IsLow};
+ghost use Rattle.routed_joins.specs.Listings.{IsLow};
 ghost use Rattle.term_runs.specs.TermRuns.{IsListedAt};
 ghost use Rattle.term_runs.specs.Notes.{HaveRisen};
 ghost use Rattle.keyed_terms.specs.inner.Concluding.{IsConcluded};

@@ -2,7 +2,7 @@
 ghost use Rattle.std.specs.Prelude.{◌≡◌, ◌*◌, ◌≤◌, [], ◌∷◌, length, All, IfOk, vec_len};
 ghost use Rattle.std.specs.List.{range_with_len};
 ghost use Rattle.row_exchange.specs.Exchanges.{AreLow};
-ghost use Rattle.worker_joins.specs.Listings.{IsLow};
+ghost use Rattle.routed_joins.specs.Listings.{IsLow};
 ghost use Rattle.term_runs.specs.TermRuns.{IsTermRun};
 ghost use Rattle.keyed_terms.specs.KeyedTerms.{AreOfWidth, diff_parts, diff_exchanges, IsRefused};
 ghost use Rattle.keyed_terms.specs.inner.Meeting.{IsMeeting};

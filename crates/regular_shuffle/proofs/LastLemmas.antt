@@ -23,7 +23,7 @@ use Rattle.placement.proofs.KeptLemmas.{ties-agree, agreeing}
 use Rattle.placement.proofs.MeetingLemmas.{lies-in}
 use Rattle.placement.proofs.PrefixLemmas.{behind_it, combined-before}
 use Rattle.placement.proofs.ReceivedLemmas.{alone}
-use Rattle.placed_joins.proofs.ShapeLemmas.{shape-parts}
+use Rattle.routed_joins.proofs.ShapeLemmas.{shape-parts}
 use Rattle.kept_rows.specs.KeptTests.{IsPartRow, is_kept}
 use Rattle.regular_shuffle.specs.inner.Steps.{before_kinds, pairs_at, step_shape, plain_before, every_column, middle_shape, last_shape, IsFront}
 use Rattle.regular_shuffle.proofs.VariableLemmas.{has, EachOf, AgreesIn, variables-agree, classes-agree}

@@ -40,13 +40,13 @@ use Rattle.placement.proofs.ReceivedLemmas.{steps_list_what_they_are_given}
 use Rattle.placement.proofs.ScriptLemmas.{home_of-lt}
 use Rattle.placement.proofs.TogetherLemmas.{dealt-together}
 use Rattle.row_exchange.specs.declared.routes.Size.{Size}
-use Rattle.worker_joins.specs.Listings.{all_candidates, some_overflow, AreListed, IsListFault}
-use Rattle.worker_joins.specs.RouteJoins.{ArePartsAtWorkers, given_to_each, IsRouteJoined, IsRouteJoin}
-use Rattle.worker_joins.proofs.RouteLemmas.{any-permuted}
+use Rattle.routed_joins.specs.Listings.{all_candidates, some_overflow, AreListed, IsListFault}
+use Rattle.routed_joins.specs.RouteJoins.{ArePartsAtWorkers, given_to_each, IsRouteJoined, IsRouteJoin}
+use Rattle.routed_joins.proofs.RouteLemmas.{any-permuted}
 use Rattle.row_exchange.proofs.MoveLemmas as lists
-use Rattle.placed_joins.specs.PlacedJoins.{placed_rows, placed_items}
-use Rattle.placed_joins.proofs.PartLemmas.{items-placed, items-wide, items-long}
-use Rattle.placed_joins.proofs.WorkerLemmas.{same-lengths}
+use Rattle.routed_joins.specs.PlacedJoins.{placed_rows, placed_items}
+use Rattle.routed_joins.proofs.PartLemmas.{items-placed, items-wide, items-long}
+use Rattle.routed_joins.proofs.WorkerLemmas.{same-lengths}
 use Rattle.regular_shuffle.specs.inner.Steps.{every_column, middle_shape, last_shape, shape_at, IsFront}
 use Rattle.regular_shuffle.specs.inner.StepRuns.{step_cells, IsFrontAt, step_rows, step_parts, step_overflows, step_moves, HasRunStep, IsStepFault, IsStepRun}
 use Rattle.regular_shuffle.proofs.BroadcastLemmas.{flat-same}

@@ -13,8 +13,8 @@ use Rattle.placement.specs.Layouts.{by_worker}
 use Rattle.placement.proofs.ScriptLemmas.{get_or-All}
 use Rattle.row_exchange.specs.Exchanges.{AreLow, with_more_sent}
 use Rattle.row_exchange.proofs.MessageLemmas.{parity}
-use Rattle.worker_joins.specs.Listings.{IsLow}
-use Rattle.worker_joins.specs.RouteJoins.{with_more_taken, AreCounted}
+use Rattle.routed_joins.specs.Listings.{IsLow}
+use Rattle.routed_joins.specs.RouteJoins.{with_more_taken, AreCounted}
 use Rattle.regular_shuffle.specs.TwoWayJoins.{AreWithin, half_of_low, over_steps}
 use Rattle.regular_shuffle.specs.inner.StepJoins.{most_in_step, AreSmall}
 use Rattle.regular_shuffle.specs.inner.Progress.{added}

@@ -11,7 +11,7 @@ use Rattle.algebra.specs.Trees.{Shape}
 use Rattle.placement.specs.Exchanges.{PlacedExchange}
 use Rattle.placement.specs.Layouts.{Broadcast, ByKeys, rows_of, staying_atom, join_parts}
 use Rattle.row_exchange.specs.Moves.{sent, received, rows_given}
-use Rattle.placed_joins.specs.PlacedJoins.{placed_items}
+use Rattle.routed_joins.specs.PlacedJoins.{placed_items}
 use Rattle.regular_shuffle.specs.KeySpreads.{key_home, moves_by_key}
 use Rattle.regular_shuffle.specs.BroadcastJoins.{moves_to_all}
 use Rattle.regular_shuffle.specs.TwoWayJoins.{notes_of, over_steps, steps_of}

@@ -3,10 +3,10 @@
 //! Source of the joins: Chu, Balazinska and Suciu, "From Theory to Practice: Efficient Join
 //! Query Evaluation in a Parallel Database System", SIGMOD 2015.
 //!
-//! Stands on `row_exchange` for exchanges and routes, on `worker_joins` for the local joins, on
-//! `placed_joins` for what joins by one exchange promise, on `placement` for what goes where, on
-//! `hash_partition` for homes, on `kept_rows` for which rows are kept, and on `algebra` for
-//! shapes, settings and traffic.
+//! Stands on `row_exchange` for exchanges and routes, on `routed_joins` for the local joins and for
+//! what joins by one exchange promise, on `placement` for what goes where, on `hash_partition` for
+//! homes, on `kept_rows` for which rows are kept, and on `algebra` for shapes, settings and
+//! traffic.
 //!
 //! Promises: a spread by key gives each worker, as a bag, the rows whose key has its home there. A
 //! broadcast join gives each worker's part of the definitions, as a bag; the atom with the most

@@ -10,4 +10,15 @@ pub mod NoteLemmas
 pub mod FoundLemmas
 pub mod HeldLemmas
 pub mod LoopLemmas
+pub mod TableLemmas
+pub mod MovedLemmas
+pub mod RunLemmas
+pub mod SendLemmas
+pub mod AlikeLemmas
+pub mod BagNoteLemmas
+pub mod TermLemmas
+pub mod PrefixLemmas
+pub mod TypedLemmas
+pub mod KeptLemmas
+pub mod PartLemmas
 mod WorkedRows

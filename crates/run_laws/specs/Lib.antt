@@ -3,3 +3,6 @@ pub mod Values
 pub mod Rewritten
 pub mod Scripts
 pub mod Held
+pub mod SameExchanges
+pub mod BagRuns
+pub mod KeptRuns

@@ -10,7 +10,7 @@ use Rattle.algebra.specs.ShapeConditions.{HasKinds}
 use Rattle.algebra.specs.Joins.{IsPart, agrees_in}
 use Rattle.algebra.proofs.ShapeLemmas.{tie-holds}
 use Rattle.row_exchange.specs.Routes.{rows_at}
-use Rattle.worker_joins.specs.RouteJoins.{ArePartsAtWorkers}
+use Rattle.routed_joins.specs.RouteJoins.{ArePartsAtWorkers}
 use Rattle.shuffle_tests.specs.inner.Numbers.{number_kinds, number_atom, JoinsNumbers, AreNumbers}
 
 abbrev of_numbers : List Scalar → List Scalar → List Scalar → Shape

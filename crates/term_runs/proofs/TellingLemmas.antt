@@ -9,7 +9,7 @@ use Rattle.rel_io.specs.Taps.{with_listed}
 use Rattle.rel_io.specs.Outside.{capped_sum}
 use Rattle.myrial_ast.specs.Combinations.{Rows}
 use Rattle.row_exchange.proofs.MessageLemmas.{parity}
-use Rattle.worker_joins.specs.Listings.{IsLow}
+use Rattle.routed_joins.specs.Listings.{IsLow}
 use Rattle.term_runs.specs.TermRuns.{with_more, IsListedAt}
 
 -- a sum far from its end does not stop

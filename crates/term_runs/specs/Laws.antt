@@ -16,7 +16,7 @@ use Rattle.placement.specs.Layouts.{by_worker}
 use Rattle.row_exchange.specs.Moves.{Move, sent, received}
 use Rattle.row_exchange.specs.declared.routes.Size.{Size}
 use Rattle.row_exchange.specs.Exchanges.{IsTold}
-use Rattle.worker_joins.specs.RouteJoins.{AreCounted}
+use Rattle.routed_joins.specs.RouteJoins.{AreCounted}
 use Rattle.term_runs.specs.declared.moved.Moved.{Moved}
 use Rattle.term_runs.specs.Notes.{AreSeconds, HaveRisen, IsNoteSince}
 use Rattle.term_runs.specs.TermRuns.{AreShown, all_sent, all_received, all_listed, AreMoved, AreFair, IsListedAt, IsMoved}

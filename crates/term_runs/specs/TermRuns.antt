@@ -23,7 +23,7 @@ use Rattle.row_exchange.specs.Moves.{Move, sent, received}
 use Rattle.placement.specs.Exchanges.{PlacedExchange, traffic_note}
 use Rattle.row_exchange.specs.declared.routes.Size.{Size}
 use Rattle.row_exchange.specs.Exchanges.{Shows}
-use Rattle.placed_joins.specs.PlacedJoins.{size_of}
+use Rattle.routed_joins.specs.PlacedJoins.{size_of}
 use Rattle.term_runs.specs.declared.moved.Moved.{Moved}
 
 -- ---- receipts

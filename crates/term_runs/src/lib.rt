@@ -1,7 +1,7 @@
 //! What running a term at workers does, said once for all terms: the rows that it leaves at each
 //! worker, the notes and receipts of its exchanges, and what the taps are told.
 //!
-//! Stands on `placement` for exchanges, on `placed_joins` for sizes, and on the crates of the
+//! Stands on `placement` for exchanges, on `routed_joins` for sizes, and on the crates of the
 //! exchange for receipts and taps.
 //!
 //! Promises: `tell_listed` tells the taps what each worker lists; `have_room` says whether every

@@ -1,7 +1,7 @@
 //! What taps are told, and whether they may be told more.
 ghost use Rattle.std.specs.Prelude.{◌≡◌, ◌*◌, ◌≤◌, All, IsTrue, length, vec_len};
 ghost use Rattle.row_exchange.specs.Exchanges.{AreLow};
-ghost use Rattle.worker_joins.specs.Listings.{IsLow};
+ghost use Rattle.routed_joins.specs.Listings.{IsLow};
 ghost use Rattle.term_runs.specs.TermRuns.{IsListedAt};
 
 use rel_base::Spread;

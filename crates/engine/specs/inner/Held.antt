@@ -16,7 +16,7 @@ use Rattle.algebra.specs.Meanings.{sources_of, is_used}
 use Rattle.algebra.specs.Rewriting.{AreTables}
 use Rattle.placement.specs.Layouts.{PlacedRelation, rows_of}
 use Rattle.placement.specs.Laws.{IsReady}
-use Rattle.placed_joins.specs.PlacedJoins.{placed_items}
+use Rattle.routed_joins.specs.PlacedJoins.{placed_items}
 use Rattle.run_laws.specs.Held.{held_at, HasWideParts, parts_in, IsIn}
 use Rattle.engine.specs.declared.held.Held.{Held}
 

@@ -23,7 +23,7 @@ use Rattle.algebra.specs.Trees.{StepTree, CheckedTree}
 use Rattle.placement.specs.Layouts.{together, term_parts}
 use Rattle.placement.specs.Exchanges.{PlacedExchange, term_exchanges, traffic_note}
 use Rattle.placement.specs.Plans.{usual_placing, plan_kind, term_notes, step_notes}
-use Rattle.placed_joins.specs.PlacedJoins.{size_of}
+use Rattle.routed_joins.specs.PlacedJoins.{size_of}
 use Rattle.term_runs.specs.TermRuns.{shown_moves, AreShown, AreMoved, AreFair}
 use Rattle.run_laws.specs.Values.{meant}
 use Rattle.run_laws.specs.Scripts.{step_exchanges, IsSound}

@@ -8,7 +8,7 @@ use Rattle.placement.specs.Exchanges.{PlacedExchange, row_exchange}
 use Rattle.placement.specs.Layouts.{together}
 use Rattle.row_exchange.specs.Moves.{sent, received}
 use Rattle.placement.specs.Plans.{usual_placing}
-use Rattle.placed_joins.specs.PlacedJoins.{placed_rows}
+use Rattle.routed_joins.specs.PlacedJoins.{placed_rows}
 use Rattle.term_runs.specs.Notes.{AreSeconds}
 use Rattle.keyed_terms.specs.KeyedTerms.{diff_parts}
 use Rattle.keyed_terms.proofs.BagLemmas.{difference-made}

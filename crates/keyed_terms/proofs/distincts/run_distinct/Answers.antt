@@ -8,9 +8,9 @@ use Rattle.algebra.specs.declared.notes.Exchange.TheVariants as exchange
 use Rattle.placement.specs.Exchanges.{PlacedExchange, row_exchange}
 use Rattle.placement.specs.Plans.{usual_placing}
 use Rattle.placement.specs.Layouts.{together}
-use Rattle.placed_joins.specs.PlacedJoins.{size_of, placed_rows}
+use Rattle.routed_joins.specs.PlacedJoins.{size_of, placed_rows}
 use Rattle.regular_shuffle.specs.KeySpreads.{HasColumns, IsSpread}
-use Rattle.worker_joins.specs.Listings.{IsLow}
+use Rattle.routed_joins.specs.Listings.{IsLow}
 use Rattle.term_runs.specs.Notes.{AreSeconds, HaveRisen}
 use Rattle.term_runs.specs.TermRuns.{AreShown, no_receipt, a_receipt}
 use Rattle.term_runs.proofs.TapLemmas.{added-told, told-fair}

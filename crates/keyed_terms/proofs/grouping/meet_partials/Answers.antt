@@ -12,9 +12,9 @@ use Rattle.aggregate_ops.specs.declared.faults.AggFault.TheVariants as fault
 use Rattle.placement.specs.Exchanges.{PlacedExchange, group_exchange}
 use Rattle.placement.specs.Layouts.{together}
 use Rattle.placement.specs.Plans.{usual_placing}
-use Rattle.placed_joins.specs.PlacedJoins.{size_of}
+use Rattle.routed_joins.specs.PlacedJoins.{size_of}
 use Rattle.regular_shuffle.specs.KeySpreads.{HasColumns, IsSpread}
-use Rattle.worker_joins.specs.Listings.{IsLow}
+use Rattle.routed_joins.specs.Listings.{IsLow}
 use Rattle.term_runs.specs.Notes.{AreSeconds, HaveRisen}
 use Rattle.term_runs.specs.TermRuns.{AreShown, no_receipt, a_receipt}
 use Rattle.term_runs.proofs.TapLemmas.{added-told, told-fair, listed-fair, fair-both}

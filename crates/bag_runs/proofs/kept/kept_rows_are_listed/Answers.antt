@@ -1,5 +1,0 @@
-use Rattle.bag_runs.proofs.KeptLemmas.{kept_rows_are_listed}
-use Rattle.bag_runs.proofs.kept.kept_rows_are_listed.Goals as goal
-
-pub returns : goal.returns
-returns c = kept_rows_are_listed

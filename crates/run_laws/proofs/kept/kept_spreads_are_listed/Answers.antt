@@ -1,0 +1,5 @@
+use Rattle.run_laws.proofs.KeptLemmas.{kept_spreads_are_listed}
+use Rattle.run_laws.proofs.kept.kept_spreads_are_listed.Goals as goal
+
+pub returns : goal.returns
+returns c = kept_spreads_are_listed
