@@ -1,11 +1,16 @@
 -- Worked cases of where rows go: one atom, of which two rows lie at worker 0 and one at worker 1. A row of one value goes to
 -- worker 0, any other to both.
-use Rattle.std.proofs.Common.{◌≡◌, ℕ, ◌==◌, List, [], ◌∷◌, length, refl}
-use Rattle.std.specs.Prelude.{pos, if◌then◌else◌}
+use Rattle.std.proofs.Common.{◌≡◌, ℕ, zero, suc, ◌<◌, ◌==◌, List, [], ◌∷◌, All, length, reverse, refl, arith}
+use Rattle.std.proofs.lemmas.Bool.Decides.{nat_tests}
+use Rattle.std.specs.Prelude.{pos, false, if◌then◌else◌, slice_index_or}
 use Rattle.rel_base.specs.declared.values.Value.TheVariants as variant
 use Rattle.row_exchange.specs.Routes.{Row, Rows, rows_at}
 use Rattle.row_exchange.specs.Moves.{Move, sendings_of, moves_of, sent, received, rows_between, all_given}
-use Rattle.row_exchange.specs.Exchanges.{InOrder}
+use Rattle.exchange_channels.specs.declared.messages.Batch.{Batch}
+use Rattle.exchange_channels.specs.Messages.{rows_of_atom}
+use Rattle.exchange_channels.specs.Wirings.{ReceiptState}
+use Rattle.row_exchange.specs.declared.routes.Size.{Size}
+use Rattle.row_exchange.specs.Exchanges.{InOrder, IsBatch, Shows, batches_between}
 use Rattle.row_exchange.specs.inner.Pairs.{times_to, rows_to, all_rows_to, pairs_from, pairs_to}
 
 abbrev first_row : Row
@@ -92,3 +97,77 @@ same_in_order = refl
 
 not_in_order : InOrder (first_row ∷ second_row ∷ []) (second_row ∷ first_row ∷ []) → ⊥
 not_in_order e = absurd (cc)
+
+-- ---- what a receipt shows of these moves, in batches of one row
+
+abbrev size : Size
+size = record { workers = 2; capacity = 16; batch = 1 }
+
+abbrev batch : Row → Batch
+batch row = record { atom = 0; rows = row ∷ [] }
+
+-- for each worker the batches that it took, sender by sender
+abbrev receipt : ReceiptState
+receipt = record {
+  capacity = 16;
+  batches =
+      ((batch first_row ∷ batch second_row ∷ []) ∷ (batch third_row ∷ []) ∷ [])
+      ∷ ((batch second_row ∷ []) ∷ (batch third_row ∷ []) ∷ []) ∷ [];
+}
+
+shown : Shows InOrder 1 size moves receipt
+shown = record {
+  capacity = refl;
+  cells = refl;
+  senders = senders_at;
+  sized = sized_at;
+  rows_are = rows_at_each;
+}
+  where
+    one_row : (row : Row) → IsBatch 1 1 (batch row)
+    one_row row = record { one_atom = omega arith; some_row = omega arith; few = omega arith }
+
+    alone : (row : Row) → All (IsBatch 1 1) (batch row ∷ [])
+    alone row zero d _ = one_row row
+    alone row (suc k) d below = absurd (omega (arith, below))
+
+    both : All (IsBatch 1 1) (batch first_row ∷ batch second_row ∷ [])
+    both zero d _ = one_row first_row
+    both (suc zero) d _ = one_row second_row
+    both (suc (suc k)) d below = absurd (omega (arith, below))
+
+    no_other : (atom : ℕ) → (0 == suc atom) ≡ false
+    no_other atom = grind (arith, nat_tests)
+
+    senders_at : (w : ℕ) → w < 2 → length (slice_index_or receipt.batches w []) ≡ 2
+    senders_at zero below = refl
+    senders_at (suc zero) below = refl
+    senders_at (suc (suc w)) below = absurd (omega (arith, below))
+
+    sized_at : (u w : ℕ) → u < 2 → w < 2 → All (IsBatch 1 1) (batches_between receipt u w)
+    sized_at zero zero _ _ = both
+    sized_at zero (suc zero) _ _ = alone second_row
+    sized_at (suc zero) zero _ _ = alone third_row
+    sized_at (suc zero) (suc zero) _ _ = alone third_row
+    sized_at (suc (suc u)) w below _ = absurd (omega (arith, below))
+    sized_at u (suc (suc w)) _ below = absurd (omega (arith, below))
+
+    rows_at_each : (u w atom : ℕ) → u < 2 → w < 2
+        → rows_between moves atom u w ≡ rows_of_atom atom (batches_between receipt u w)
+    rows_at_each zero zero zero _ _ = refl
+    rows_at_each zero (suc zero) zero _ _ = refl
+    rows_at_each (suc zero) zero zero _ _ = refl
+    rows_at_each (suc zero) (suc zero) zero _ _ = refl
+    rows_at_each zero zero (suc atom) _ _ = rw (no_other atom) refl
+    rows_at_each zero (suc zero) (suc atom) _ _ = rw (no_other atom) refl
+    rows_at_each (suc zero) zero (suc atom) _ _ = rw (no_other atom) refl
+    rows_at_each (suc zero) (suc zero) (suc atom) _ _ = rw (no_other atom) refl
+    rows_at_each (suc (suc u)) w atom below _ = absurd (omega (arith, below))
+    rows_at_each u (suc (suc w)) atom _ below = absurd (omega (arith, below))
+
+-- a receipt in which the workers' batches are changed over doesn't show them
+abbrev turned : ReceiptState
+turned = record { capacity = 16; batches = reverse receipt.batches }
+
+not_shown : Shows InOrder 1 size moves turned → ⊥
+not_shown shows = absurd (cc (shows.rows_are 0 0 0 (omega arith) (omega arith)))
