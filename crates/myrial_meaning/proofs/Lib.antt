@@ -1,6 +1,7 @@
 pub mod BoolLemmas
 pub mod NeededLemmas
 pub mod ListingLemmas
+pub mod BoundLemmas
 pub mod CombinationLemmas
 pub mod ComprehensionLemmas
 pub mod TypedLemmas

@@ -17,6 +17,7 @@ use Rattle.myrial_ast.specs.declared.relations.Operand.TheVariants as operand
 use Rattle.myrial_ast.specs.declared.expressions.ColRef.TheVariants as ref
 use Rattle.myrial_ast.specs.declared.operators.BinOp.TheVariants as op
 use Rattle.myrial_ast.specs.declared.operators.AggOp.TheVariants as agg
+use Rattle.myrial_ast.specs.Scalars as scalar
 use Rattle.myrial_ast.specs.Trees.{Name, Tree, EmitTree, RelTree, StatementTree, Lit, Col, Bin, Agg, AggAll, One, Copy, Empty, Distinct, UnionAll, Diff, From, Assign, Store, Nothing}
 use Rattle.myrial_ast.specs.Loads.{load_key}
 use Rattle.myrial_ast.specs.CandidateFaults.{Counted, Uncounted}
@@ -25,6 +26,7 @@ use Rattle.myrial_meaning.specs.Needed.{is_needed}
 use Rattle.myrial_meaning.specs.Fetches.{fetched_keys, fetches}
 use Rattle.myrial_meaning.specs.Faults.{run_fault}
 use Rattle.myrial_meaning.specs.Runnable.{has_meaning}
+use Rattle.myrial_meaning.specs.inner.BoundTests.{may_begin}
 
 -- ---- shorter words for the examples
 
@@ -266,3 +268,16 @@ pub stored-loaded : stored_relations (file (codes "S") (table (codes "x" ∷ [])
     (Assign (codes "A") (Copy (loaded (codes "S") (codes "x" ∷ []) 0)) ∷ Store (codes "A") (adhoc (codes "Out")) ∷ [])
     ≡ file (codes "Out") (table (codes "x" ∷ []) ((7 ∷ []) ∷ [])) ∷ []
 stored-loaded = refl
+
+-- ---- the first rows of a combination
+
+-- behind x,y: 1,2 a test of y and the next column may still hold
+abbrev joins_next : scalar.Scalar
+joins_next = scalar.Bin op.Eq (scalar.At 1) (scalar.At 2)
+
+pub may_begin-unbound : may_begin (joins_next ∷ []) (numbers (1 ∷ 2 ∷ [])) ≡ true
+may_begin-unbound = refl
+
+-- but x < 1 fails already
+pub may_begin-failed : may_begin (joins_next ∷ scalar.Bin op.Lt (scalar.At 0) (scalar.Lit (value.Int (pos 1))) ∷ []) (numbers (1 ∷ 2 ∷ [])) ≡ false
+may_begin-failed = refl

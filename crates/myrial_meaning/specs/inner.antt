@@ -5,3 +5,4 @@ pub mod Columns
 pub mod Assignments
 pub mod Rules
 pub mod Listing
+pub mod BoundTests

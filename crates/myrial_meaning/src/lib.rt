@@ -10,13 +10,14 @@
 //! `has_meaning` tells whether each name, key and reference of a script stands for something and
 //! what is put together has columns of the same types, which is all that `evaluate` requires. That
 //! the test of needed statements tells what their rule says is a law. Contracts see a script by
-//! `trees_of`. Not promised: that memory is there; speed, since a comprehension goes over every
-//! combination of its items' rows.
+//! `trees_of`. Not promised: that memory is there; speed, since a comprehension tries each row of an
+//! item behind each row of the items before it on which no test fails.
 //!
 //! Read `specs/Environments.antt`, `specs/Meaning.antt`, `specs/Needed.antt`, `specs/Faults.antt`
 //! and `specs/Runnable.antt`, then `evaluating.rt`, `statements.rt` and `loops.rt`.
 #![tactic(auto)]
 
+mod bound_tests;
 mod checking;
 mod combined_rows;
 mod comprehensions;
