@@ -13,7 +13,7 @@ use Rattle.myrial_ast.specs.CandidateFaults.{too_many}
 use Rattle.myrial_ast.specs.Combinations.{Rows}
 use Rattle.myrial_meaning.specs.Environments.{with_name}
 use Rattle.myrial_meaning.specs.Meaning.{RelationEnvironment}
-use Rattle.myrial_meaning.specs.Permuted.{SameTable, Matched, neither, both, SameEntry, SameEnvironment, one_more}
+use Rattle.myrial_meaning.specs.Permuted.{SameTable, Matched, neither, both, SameEnvironment, one_more}
 use Rattle.myrial_meaning.proofs.MeaningPermutations.{Matched-map_or}
 use Rattle.myrial_meaning.proofs.FaultPermutations.{SameEnvironment-itself, SameTable-itself, entries-itself}
 

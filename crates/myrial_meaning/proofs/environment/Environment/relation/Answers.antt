@@ -1,4 +1,4 @@
-use Rattle.std.proofs.Common.{◌∙◌, sym}
+use Rattle.std.proofs.Common.{◌∙◌}
 use Rattle.myrial_meaning.proofs.StatementLemmas.{matched-itself, empty-matched}
 use Rattle.myrial_meaning.proofs.environment.Environment.relation.Goals as goal
 
