@@ -1,5 +1,5 @@
 -- Expressions: what the descent reads is an expression, and each expression is read.
-use Rattle.std.proofs.Common.{◌≡◌, ℕ, Bool, true, false, cond, List, [], ◌∷◌, ◌++◌, drop, length, Some, None, refl, sym, ap, subst, ◌∙◌, append_assoc, length-append, arith}
+use Rattle.std.proofs.Common.{◌≡◌, ℕ, Bool, true, false, cond, List, [], ◌∷◌, ◌++◌, drop, length, Some, None, refl, sym, ap, ◌∙◌, length-append, arith}
 use Rattle.myrial_ast.specs.declared.operators.AggOp.{AggOp}
 use Rattle.myrial_ast.specs.declared.operators.AggOp.TheVariants as agg
 use Rattle.myrial_ast.specs.declared.expressions.ColRef.{ColRef}
@@ -17,7 +17,7 @@ use Rattle.myrial_parser.specs.Grammar as g
 use Rattle.myrial_parser.specs.Grammar.{IsColumn, plain_name, plain_place, alias_name, alias_place, IsAggregated, Primary, Signed, aggregate_of, is_number}
 use Rattle.myrial_parser.specs.inner.Descent as d
 use Rattle.myrial_parser.specs.inner.Descent.{Input, first, Parsed, Parser, ◌>>=◌, is_symbol, sees, expect, name, number, column_of, column_behind, in_parens, aggregated, fixed_by, same_symbol}
-use Rattle.myrial_parser.proofs.ParserLemmas.{Reading, Sound, Complete, stops, steps, same_value, same_rest, finish, sees-is, name-is, number-is, is_symbol-same, IsClosed, closed, closed-reads, closed-all, in_parens-sound, in_parens-all, word-reads}
+use Rattle.myrial_parser.proofs.ParserLemmas.{Reading, Sound, Complete, stops, steps, same_rest, finish, sees-is, name-is, number-is, is_symbol-same, IsClosed, closed, closed-reads, closed-all, in_parens-sound, in_parens-all, word-reads}
 
 -- ---- columns
 

@@ -5,11 +5,10 @@ use Rattle.std.specs.Str.{bytes_eq, str_to_ascii_lowercase}
 use Rattle.std.proofs.lemmas.Slice.Eq.{bytes_eq-Decides}
 use Rattle.myrial_ast.specs.declared.relations.LoadForm.{LoadForm}
 use Rattle.myrial_parser.specs.declared.loads.Load.{Load}
-use Rattle.std.proofs.lemmas.Bool.Decides.{nat_tests}
+use Rattle.std.proofs.lemmas.Bool.{false≢true, lt-ltb}
 use Rattle.rel_base.specs.declared.values.ColType.{ColType}
 use Rattle.rel_base.specs.declared.names.Key.{Key}
 use Rattle.rel_base.specs.declared.relations.Column.{Column}
-use Rattle.myrial_ast.specs.declared.operators.BinOp.{BinOp}
 use Rattle.myrial_ast.specs.declared.relations.Operand.{Operand}
 use Rattle.myrial_ast.specs.declared.relations.Operand.TheVariants as source
 use Rattle.myrial_ast.specs.declared.relations.FromItem.{FromItem}
@@ -22,7 +21,7 @@ use Rattle.myrial_parser.specs.declared.terminals.Symbol.{Symbol}
 use Rattle.myrial_parser.specs.declared.terminals.Symbol.TheVariants.{Keyword as Word, Sign}
 use Rattle.myrial_parser.specs.Symbols as s
 use Rattle.myrial_parser.specs.Terminals.{Terminal, Fixed, Name, Number, Quoted}
-use Rattle.myrial_parser.specs.Phrases.{Separated, is_word, Called, called}
+use Rattle.myrial_parser.specs.Phrases.{Separated, is_word, called}
 use Rattle.myrial_parser.specs.Grammar as g
 use Rattle.myrial_parser.specs.Grammar.{IsKey, own_key, program_key, user_key, IsSkip, no_skip, a_skip, IsForm, formed, IsLoad, loaded, operand_of, IsSource, named_source, scanned_source, loaded_source, IsColumnDefinition, typed, IsItem, unaliased, aliased, IsCondition, absent, present, IsEmit, all_columns, columns_of, unnamed, named, IsExpression, IsArgument, IsRelation, type_of, own_name}
 use Rattle.myrial_parser.specs.inner.Descent as d
@@ -230,23 +229,27 @@ open_refused inner i h =
     let conjunction = chain-none g.and_sign (d.negation inner) all comparison in
     chain-none g.or_sign (d.conjunction inner) all conjunction
 
+-- what isn't read isn't read as anything
+unread : {A : Type 0} {p : A × Input} → ◌≡◌ {A = Parsed A} None (Some p) → ⊥
+unread e = cc
+
 -- no expression begins with a terminal, a dot and a star, or ends in front of the dot
 dotted : (inner : Parser Tree) → ((i : Input) → inner (Fixed s.Dot ∷ i) ≡ None) → (x : Terminal) (i : Input) (a : Tree) (rest : Input)
     → d.disjunction inner (x ∷ Fixed s.Dot ∷ Fixed s.Star ∷ i) ≡ Some (a, rest) → stops is_dot rest ≡ true → ⊥
 unfolding d.disjunction d.conjunction d.negation d.comparison d.sum d.product d.signed d.primary same_symbol
-dotted inner refuses (Name n) i a rest e st = cc
-dotted inner refuses (Number n) i a rest e st = let same = ap (stops is_dot) (same_rest _ a (Fixed s.Dot ∷ Fixed s.Star ∷ i) rest e) in cc
-dotted inner refuses (Quoted n) i a rest e st = let same = ap (stops is_dot) (same_rest _ a (Fixed s.Dot ∷ Fixed s.Star ∷ i) rest e) in cc
-dotted inner refuses (Fixed (Word keyword.True)) i a rest e st = let same = ap (stops is_dot) (same_rest _ a (Fixed s.Dot ∷ Fixed s.Star ∷ i) rest e) in cc
-dotted inner refuses (Fixed (Word keyword.False)) i a rest e st = let same = ap (stops is_dot) (same_rest _ a (Fixed s.Dot ∷ Fixed s.Star ∷ i) rest e) in cc
-dotted inner refuses (Fixed (Sign sign.OpenParen)) i a rest e st = let none = open_refused inner (Fixed s.Dot ∷ Fixed s.Star ∷ i) (refuses (Fixed s.Star ∷ i)) in let other : Some (a, rest) ≡ None = sym e ∙ none in cc
-dotted inner refuses (Fixed _) i a rest e st = cc
+dotted inner refuses (Name n) i a rest e st = unread e
+dotted inner refuses (Number n) i a rest e st = false≢true (ap (stops is_dot) (same_rest _ a (Fixed s.Dot ∷ Fixed s.Star ∷ i) rest e) ∙ st)
+dotted inner refuses (Quoted n) i a rest e st = false≢true (ap (stops is_dot) (same_rest _ a (Fixed s.Dot ∷ Fixed s.Star ∷ i) rest e) ∙ st)
+dotted inner refuses (Fixed (Word keyword.True)) i a rest e st = false≢true (ap (stops is_dot) (same_rest _ a (Fixed s.Dot ∷ Fixed s.Star ∷ i) rest e) ∙ st)
+dotted inner refuses (Fixed (Word keyword.False)) i a rest e st = false≢true (ap (stops is_dot) (same_rest _ a (Fixed s.Dot ∷ Fixed s.Star ∷ i) rest e) ∙ st)
+dotted inner refuses (Fixed (Sign sign.OpenParen)) i a rest e st = unread (sym (open_refused inner (Fixed s.Dot ∷ Fixed s.Star ∷ i) (refuses (Fixed s.Star ∷ i))) ∙ e)
+dotted inner refuses (Fixed _) i a rest e st = unread e
 
 -- no expression is read where all columns of an alias are emitted
 not_dotted : (n : ℕ) (i : Input) (a : Tree) (rest : Input) → d.expression n i ≡ Some (a, rest) → stops is_dot rest ≡ true → sees s.Dot (drop 1 i) ≡ true → sees s.Star (drop 2 i) ≡ true → ⊥
 unfolding d.expression
-not_dotted zero i a rest e st dot star = cc
-not_dotted (suc n) [] a rest e st dot star = cc
+not_dotted zero i a rest e st dot star = unread e
+not_dotted (suc n) [] a rest e st dot star = false≢true dot
 not_dotted (suc n) (x ∷ i) a rest e st dot star =
     let is = sees-is s.Dot i dot ∙ ap (λ (ts : Input). Fixed s.Dot ∷ ts) (sees-is s.Star (drop 1 i) star) in
     dotted (d.expression n) (expression-refuses_dot n) x (drop 1 (drop 1 i)) a rest (ap (λ (ts : Input). d.disjunction (d.expression n) (x ∷ ts)) (sym is) ∙ e) st
@@ -378,7 +381,7 @@ selected-all word ts us vs emits items condition is h k l =
     ∙ selection-all ts us vs emits items condition h k l
   where
     two : (ts us : Input) → nat_lt 1 (length (Name word ∷ (ts ++ (Fixed s.From ∷ us)))) ≡ true
-    two ts us = let lens = length-append ts (Fixed s.From ∷ us) in grind (arith, nat_tests)
+    two ts us = let lens = length-append ts (Fixed s.From ∷ us) in lt-ltb 1 _ (omega arith)
 
 -- `load` isn't `select`
 load-no_select : (word : List ℕ) → is_word (codes "load") word ≡ true → is_word (codes "select") word ≡ false
