@@ -1,4 +1,4 @@
--- Lemmas of this crate, lowest first.
+-- Lemmas of this crate, lowest first, and what receipts and taps show of a worked exchange.
 pub mod ListLemmas
 pub mod FaultLemmas
 pub mod JoinLemmas
@@ -7,3 +7,4 @@ pub mod PickLemmas
 pub mod TermLemmas
 pub mod UsedLemmas
 pub mod RunLemmas
+mod WorkedRows
