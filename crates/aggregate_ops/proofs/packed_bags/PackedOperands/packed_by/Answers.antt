@@ -1,4 +1,5 @@
-use Rattle.std.proofs.Common.{◌≡◌, ◌∙◌, subst, map}
+use Rattle.std.proofs.Common.{◌≡◌, ◌∙◌, subst, map, arith}
+use Rattle.std.proofs.lemmas.Grind.{common_steps}
 use Rattle.std.proofs.lemmas.List.Sorted.{IsPermutation-map}
 use Rattle.rel_base.specs.Bags.{SameBag}
 use Rattle.myrial_ast.specs.Combinations.{Rows}
@@ -19,3 +20,6 @@ returns c =
       subst (λ (rows : Rows). SameBag rows (map row words)) (first ∙ whole-rows c.args.a.now) (IsPermutation-map row _ _ c.in_order-words.ensures.same),
       subst (λ (rows : Rows). SameBag rows (map row others)) (second ∙ whole-rows c.args.b.now) (IsPermutation-map row _ _ c.in_order-others.ensures.same),
     )
+
+pub invariant_of-result : goal.invariant_of-result
+invariant_of-result c = grind (arith, common_steps)

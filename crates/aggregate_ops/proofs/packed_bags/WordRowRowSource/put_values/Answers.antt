@@ -10,3 +10,6 @@ returns-clause-put c = grind (arith, common_steps)
 
 pub returns-clause-kept : goal.returns-clause-kept
 returns-clause-kept c = grind (arith, common_steps)
+
+pub returns-in_err-push-clause-kept : goal.returns-in_err-push-clause-kept
+returns-in_err-push-clause-kept c = grind (arith, common_steps)
