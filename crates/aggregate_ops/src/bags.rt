@@ -81,6 +81,16 @@ fn without(alloc: Global, rows: &[&[Value]], others: &[&[Value]]) -> Result<Rows
     Ok(made)
 }
 
+/// Each row of the first list that the second doesn't have, once, by a sort of the rows of both.
+fn difference_by_sort(alloc: Global, a: &Rows, b: &Rows) -> Result<Rows, Memory>
+    ensures { IfOk result (λ made. SameBag (difference a.now b.now) made) }
+{
+    let rows = rows_in_order(alloc, a)?;
+    let others = rows_in_order(alloc, b)?;
+    let made = without(alloc, &rows, &others)?;
+    Ok(made)
+}
+
 /// Each row of the first list that the second doesn't have, once, in ascending order.
 ///
 /// A row goes however often either list has it. Time is n log n in the rows of both. Rows that can
@@ -88,14 +98,20 @@ fn without(alloc: Global, rows: &[&[Value]], others: &[&[Value]]) -> Result<Rows
 pub fn difference(alloc: Global, a: Rows, b: Rows) -> Result<Rows, Memory>
     ensures { IfOk result (λ made. SameBag (difference a b) made) }
 {
-    if let Some(packed) = PackedOperands::of(alloc, &a, &b)? {
-        drop(a);
-        drop(b);
-        return packed.difference(alloc);
-    }
-    let rows = rows_in_order(alloc, &a)?;
-    let others = rows_in_order(alloc, &b)?;
-    let made = without(alloc, &rows, &others)?;
+    let Some(packed) = PackedOperands::of(alloc, &a, &b)? else {
+        return difference_by_sort(alloc, &a, &b);
+    };
+    drop(a);
+    drop(b);
+    packed.difference(alloc)
+}
+
+/// Each row once, by a sort of the rows.
+fn distinct_by_sort(alloc: Global, rows: &Rows) -> Result<Rows, Memory>
+    ensures { IfOk result (λ made. SameBag (distinct rows.now) made) }
+{
+    let sorted = rows_in_order(alloc, rows)?;
+    let made = without(alloc, &sorted, &[])?;
     Ok(made)
 }
 
@@ -105,13 +121,11 @@ pub fn difference(alloc: Global, a: Rows, b: Rows) -> Result<Rows, Memory>
 pub fn distinct(alloc: Global, rows: Rows) -> Result<Rows, Memory>
     ensures { IfOk result (λ made. SameBag (distinct rows) made) }
 {
-    if let Some(packed) = PackedRows::each_once(alloc, &rows)? {
-        drop(rows);
-        return packed.unpacked(alloc);
-    }
-    let sorted = rows_in_order(alloc, &rows)?;
-    let made = without(alloc, &sorted, &[])?;
-    Ok(made)
+    let Some(packed) = PackedRows::each_once(alloc, &rows)? else {
+        return distinct_by_sort(alloc, &rows);
+    };
+    drop(rows);
+    packed.unpacked(alloc)
 }
 
 /// The rows of the first list and then those of the second. None that is shared is copied.

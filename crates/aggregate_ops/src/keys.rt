@@ -59,11 +59,22 @@ pub fn order_in(
             if place < row.len() && other_place < other.len() => {
             order_of(&row[place], &other[other_place])
         }
-        _ => {
-            let value = row.read(place);
-            order_of(value.value(), other.read(other_place).value())
-        }
+        _ => order_of_read(row, place, other, other_place),
     }
+}
+
+/// The same by the values that are read, which any two rows have.
+fn order_of_read(
+    row: &GroupedRow<'_>,
+    place: usize,
+    other: &GroupedRow<'_>,
+    other_place: usize,
+) -> Ordering
+    ensures { result ≡ value_order (value_at (row_of row.now) place)
+        (value_at (row_of other.now) other_place) }
+{
+    let value = row.read(place);
+    order_of(value.value(), other.read(other_place).value())
 }
 
 /// How two of the rows compare, each by its values at the same places.

@@ -93,6 +93,18 @@ pub fn key_columns(
     Ok(columns)
 }
 
+/// The bits of these values, each in its column.
+#[inline(always)]
+fn bits_of_values(columns: &[PackedColumn], values: &[Value]) -> u64
+    requires { length values.now ≡ length columns.now }
+{
+    let mut word = 0;
+    for place in 0..columns.len() {
+        word |= columns[place].bits_of(&values[place]);
+    }
+    word
+}
+
 /// The word of these values, where it gives them back.
 #[inline(always)]
 fn word_of_values(columns: &[PackedColumn], values: &[Value]) -> Option<u64>
@@ -101,14 +113,23 @@ fn word_of_values(columns: &[PackedColumn], values: &[Value]) -> Option<u64>
     if values.len() != columns.len() {
         return None;
     }
-    let mut word = 0;
-    for place in 0..columns.len() {
-        word |= columns[place].bits_of(&values[place]);
-    }
+    let word = bits_of_values(columns, values);
     for place in 0..columns.len() {
         if !columns[place].holds(word, &values[place]) {
             return None;
         }
+    }
+    Some(word)
+}
+
+/// The bits of what a row emits by these picks, each in its column.
+#[inline(always)]
+fn bits_of_picks(columns: &[PackedColumn], picks: &[Scalar], values: &[Value]) -> Option<u64>
+    requires { length picks.now ≡ length columns.now }
+{
+    let mut word = 0;
+    for place in 0..columns.len() {
+        word |= columns[place].bits_of(picked(&picks[place], values)?);
     }
     Some(word)
 }
@@ -120,10 +141,7 @@ fn word_of_picks(columns: &[PackedColumn], picks: &[Scalar], values: &[Value]) -
     ensures { IfSome result (λ word. unpacked_row columns.now word
         ≡ emitted (map scalar_tree_of picks.now) values.now) }
 {
-    let mut word = 0;
-    for place in 0..columns.len() {
-        word |= columns[place].bits_of(picked(&picks[place], values)?);
-    }
+    let word = bits_of_picks(columns, picks, values)?;
     for place in 0..columns.len() {
         if !columns[place].holds(word, picked(&picks[place], values)?) {
             return None;

@@ -1,4 +1,5 @@
 use Rattle.std.proofs.Common.{◌≡◌, true, is_lt, arith, below_more, rules, sym, subst}
+use Rattle.std.proofs.lemmas.Grind.{common_steps}
 use Rattle.rel_base.specs.Values.{row_order}
 use Rattle.myrial_ast.specs.Combinations.{Row}
 use Rattle.std.specs.Borrow.{Bor}
@@ -13,3 +14,6 @@ loop-count-preserved c =
           (subst (λ (r : Row). is_lt (row_order r c.args.row.now) ≡ true)
           (sym (row-item (λ (r : Bor Row). r.now) c.args.rows.now c.loop-count.count c.index-rows-count.result c.loop-count-test.true c.index-rows-count.is)) less),
     )
+
+pub returns-else-is_lt : goal.returns-else-is_lt
+returns-else-is_lt c = grind (arith, common_steps)

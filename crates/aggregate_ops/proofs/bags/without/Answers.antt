@@ -37,3 +37,21 @@ loop-done-preserved c =
 
 pub returns : goal.returns
 returns c = grind (arith, common_steps)
+
+pub loop-done-init : goal.loop-done-init
+loop-done-init c = grind (arith, common_steps)
+
+pub put_unless-requires : goal.put_unless-requires
+put_unless-requires c = grind (arith, common_steps)
+
+pub loop-done-smaller : goal.loop-done-smaller
+loop-done-smaller c = grind (arith, common_steps)
+
+pub repeats-done-requires : goal.repeats-done-requires
+repeats-done-requires c = grind (arith, common_steps)
+
+pub overflow_add-passed : goal.overflow_add-passed
+overflow_add-passed c = grind (arith, common_steps)
+
+pub overflow_add-done : goal.overflow_add-done
+overflow_add-done c = grind (arith, common_steps)

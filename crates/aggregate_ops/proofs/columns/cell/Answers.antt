@@ -19,3 +19,9 @@ returns-in-Agg-Count-clause-value c = grind (arith, common_steps)
 
 pub returns-in-Agg-CountAll-clause-value : goal.returns-in-Agg-CountAll-clause-value
 returns-in-Agg-CountAll-clause-value c = grind (arith, common_steps)
+
+pub returns-in_ok-into_value-in-Agg-Min-clause-value : goal.returns-in_ok-into_value-in-Agg-Min-clause-value
+returns-in_ok-into_value-in-Agg-Min-clause-value c = grind (arith, common_steps)
+
+pub returns-in_ok-into_value-in-Agg-Max-clause-value : goal.returns-in_ok-into_value-in-Agg-Max-clause-value
+returns-in_ok-into_value-in-Agg-Max-clause-value c = grind (arith, common_steps)

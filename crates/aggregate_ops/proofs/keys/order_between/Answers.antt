@@ -19,3 +19,15 @@ returns-in-Packed c =
 
 pub returns-in-Lent : goal.returns-in-Lent
 returns-in-Lent c = grind (arith, common_steps)
+
+pub bounds-words-i : goal.bounds-words-i
+bounds-words-i c = grind (arith, common_steps)
+
+pub bounds-words-j : goal.bounds-words-j
+bounds-words-j c = grind (arith, common_steps)
+
+pub bounds-rows-i : goal.bounds-rows-i
+bounds-rows-i c = grind (arith, common_steps)
+
+pub bounds-rows-j : goal.bounds-rows-j
+bounds-rows-j c = grind (arith, common_steps)

@@ -1,4 +1,5 @@
-use Rattle.std.proofs.Common.{◌≡◌, ◌∷◌, [], ◌++◌, map, append_assoc}
+use Rattle.std.proofs.Common.{◌≡◌, ◌∷◌, [], ◌++◌, map, append_assoc, arith}
+use Rattle.std.proofs.lemmas.Grind.{common_steps}
 use Rattle.std.proofs.lemmas.List.{map-append}
 use Rattle.std.proofs.lemmas.List.Elements.{All-append}
 use Rattle.rel_base.specs.Beginnings.{BeginsWith}
@@ -20,3 +21,12 @@ loop-row-preserved c =
       rw c.in_ok-push.ensures.items (All-append (λ e. BeginsWith e.2.now e.0 e.1) pairs (item ∷ []) c.loop-row.invariant.3
           (All-one (λ e. BeginsWith e.2.now e.0 e.1) item (rw c.led_row-item.ensures.row c.led_row-item.ensures.leading))),
     )
+
+pub returns-clause-rows : goal.returns-clause-rows
+returns-clause-rows c = grind (arith, common_steps)
+
+pub returns-clause-leading : goal.returns-clause-leading
+returns-clause-leading c = grind (arith, common_steps)
+
+pub loop-row-init : goal.loop-row-init
+loop-row-init c = grind (arith, common_steps)

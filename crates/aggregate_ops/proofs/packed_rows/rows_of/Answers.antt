@@ -7,3 +7,9 @@ loop-word-preserved c = grind (arith, common_steps)
 
 pub returns : goal.returns
 returns c = grind (arith, common_steps)
+
+pub push_made-requires : goal.push_made-requires
+push_made-requires c = grind (arith, common_steps)
+
+pub loop-word-init : goal.loop-word-init
+loop-word-init c = grind (arith, common_steps)

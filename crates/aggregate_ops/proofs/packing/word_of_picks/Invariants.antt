@@ -5,5 +5,5 @@ use Rattle.myrial_ast.specs.ScalarTrees.{scalar_tree_of}
 use Rattle.aggregate_ops.specs.inner.Reading.{unpacked_row}
 use Rattle.aggregate_ops.proofs.packing.word_of_picks.Given as goal
 
-abbrev pub invariant-loop-place-2 : goal.invariant-loop-place-2
-invariant-loop-place-2 l = unpacked_row (take l.place l.columns) l.word ≡ emitted (map scalar_tree_of (take l.place l.picks)) l.values
+abbrev pub invariant-loop-place : goal.invariant-loop-place
+invariant-loop-place l = unpacked_row (take l.place l.columns) l.word ≡ emitted (map scalar_tree_of (take l.place l.picks)) l.values

@@ -3,5 +3,5 @@ use Rattle.std.proofs.Common.{◌≡◌, take}
 use Rattle.aggregate_ops.specs.inner.Reading.{unpacked_row}
 use Rattle.aggregate_ops.proofs.packing.word_of_values.Given as goal
 
-abbrev pub invariant-loop-place-2 : goal.invariant-loop-place-2
-invariant-loop-place-2 l = unpacked_row (take l.place l.columns) l.word ≡ take l.place l.values
+abbrev pub invariant-loop-place : goal.invariant-loop-place
+invariant-loop-place l = unpacked_row (take l.place l.columns) l.word ≡ take l.place l.values

@@ -1,4 +1,5 @@
 use Rattle.std.proofs.Common.{◌≡◌, ◌∙◌, [], sym, arith, below_more, rules, get_or, true}
+use Rattle.std.proofs.lemmas.Grind.{common_steps}
 use Rattle.std.proofs.lemmas.List.{get_or-map}
 use Rattle.myrial_ast.specs.Bags.{same_row}
 use Rattle.bag_laws.proofs.PartialLemmas.{tied}
@@ -17,3 +18,6 @@ loop-count-preserved c =
           (get_or-map row words count 0 [] (omega arith) ∙ sym (tied (row (get_or words 0 0)) (row (get_or words count 0)) same)
           ∙ sym (get_or-map row words 0 0 [] c.requires)),
     )
+
+pub returns-else-is_eq : goal.returns-else-is_eq
+returns-else-is_eq c = grind (arith, common_steps)

@@ -1,4 +1,5 @@
 use Rattle.std.proofs.Common.{◌≡◌, true, [], is_lt, arith, below_more, rules, sym, subst, get_or}
+use Rattle.std.proofs.lemmas.Grind.{common_steps}
 use Rattle.std.proofs.lemmas.List.{get_or-map}
 use Rattle.rel_base.specs.Values.{row_order}
 use Rattle.myrial_ast.specs.Combinations.{Row}
@@ -15,3 +16,6 @@ loop-count-preserved c =
       below_more _ _ c.loop-count.invariant.1
           (subst (λ (one : Row). is_lt (row_order one (row c.args.word)) ≡ true) (sym (get_or-map row words count 0 [] (omega arith))) less),
     )
+
+pub returns-else-is_lt : goal.returns-else-is_lt
+returns-else-is_lt c = grind (arith, common_steps)

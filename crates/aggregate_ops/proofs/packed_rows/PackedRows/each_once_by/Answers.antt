@@ -1,4 +1,5 @@
-use Rattle.std.proofs.Common.{◌≡◌, ◌∙◌, refl, subst, map}
+use Rattle.std.proofs.Common.{◌≡◌, ◌∙◌, refl, subst, map, arith}
+use Rattle.std.proofs.lemmas.Grind.{common_steps}
 use Rattle.std.proofs.lemmas.List.Sorted.{IsPermutation-map}
 use Rattle.rel_base.specs.Bags.{SameBag}
 use Rattle.myrial_ast.specs.Combinations.{Rows}
@@ -22,3 +23,6 @@ returns c =
     let up : AreRising (map row c.dedup.new.self.items) =
     rw (c.deref-3.ensures.value, c.deref-4.ensures.value) at (c.if-not-rise.ensures refl) in
     each-once row c.args.rows.now ordered c.dedup.new.self.items same c.dedup.ensures.filtered up
+
+pub invariant_of-result : goal.invariant_of-result
+invariant_of-result c = grind (arith, common_steps)

@@ -7,3 +7,9 @@ returns-in-Lent c = grind (arith, common_steps)
 
 pub returns-in-Packed : goal.returns-in-Packed
 returns-in-Packed c = grind (arith, common_steps)
+
+pub bounds-rows-i : goal.bounds-rows-i
+bounds-rows-i c = grind (arith, common_steps)
+
+pub bounds-words-i : goal.bounds-words-i
+bounds-words-i c = grind (arith, common_steps)

@@ -7,7 +7,7 @@ use Rattle.myrial_ast.specs.Bags.{difference, distinct}
 use Rattle.bag_laws.proofs.RowPermutations.{distinct-same}
 use Rattle.aggregate_ops.specs.Columns.{rows_in}
 use Rattle.aggregate_ops.proofs.BagLemmas.{difference-none}
-use Rattle.aggregate_ops.proofs.bags.distinct.Goals as goal
+use Rattle.aggregate_ops.proofs.bags.distinct_by_sort.Goals as goal
 
 pub without-requires-clause-few : goal.without-requires-clause-few
 without-requires-clause-few c =
@@ -17,7 +17,7 @@ without-requires-clause-few c =
       c.in_ok-sorted.ensures.few,
       ap length c.deref.ensures.value,
       length-map rows (λ (r : Bor Row). r.now),
-      length_permutation c.args.rows (rows_in rows) c.in_ok-sorted.ensures.order.same_rows,
+      length_permutation c.args.rows.now (rows_in rows) c.in_ok-sorted.ensures.order.same_rows,
     )
 
 pub returns : goal.returns
@@ -25,4 +25,4 @@ returns c =
     let rows = rows_in c.in_ok-sorted.sorted.items in
     let made : c.in_ok-made.made ≡ distinct rows =
     c.in_ok-made.ensures ∙ (λ i. difference (rows_in (c.deref.ensures.value i)) []) ∙ difference-none rows in
-    rw made (distinct-same c.args.rows rows c.in_ok-sorted.ensures.order.same_rows)
+    rw made (distinct-same c.args.rows.now rows c.in_ok-sorted.ensures.order.same_rows)

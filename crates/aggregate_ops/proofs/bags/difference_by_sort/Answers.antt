@@ -1,0 +1,28 @@
+use Rattle.std.proofs.Common.{◌≡◌, ◌∙◌, ap, arith, length}
+use Rattle.std.proofs.lemmas.List.{length-map}
+use Rattle.std.proofs.lemmas.List.Sorted.{length_permutation}
+use Rattle.std.specs.Borrow.{Bor}
+use Rattle.myrial_ast.specs.Combinations.{Row}
+use Rattle.myrial_ast.specs.Bags.{difference}
+use Rattle.bag_laws.proofs.RowPermutations.{difference-same}
+use Rattle.aggregate_ops.specs.Columns.{rows_in}
+use Rattle.aggregate_ops.proofs.bags.difference_by_sort.Goals as goal
+
+pub without-requires-clause-few : goal.without-requires-clause-few
+without-requires-clause-few c =
+    let rows = c.in_ok-rows.rows.items in
+    omega (
+      arith,
+      c.in_ok-rows.ensures.few,
+      ap length c.deref.ensures.value,
+      length-map rows (λ (r : Bor Row). r.now),
+      length_permutation c.args.a.now (rows_in rows) c.in_ok-rows.ensures.order.same_rows,
+    )
+
+pub returns : goal.returns
+returns c =
+    let rows = rows_in c.in_ok-rows.rows.items in
+    let others = rows_in c.in_ok-others.others.items in
+    let made : c.in_ok-made.made ≡ difference rows others =
+    c.in_ok-made.ensures ∙ (λ i. difference (rows_in (c.deref.ensures.value i)) (rows_in (c.deref-2.ensures.value i))) in
+    rw made (difference-same c.args.a.now rows c.args.b.now others c.in_ok-rows.ensures.order.same_rows c.in_ok-others.ensures.order.same_rows)
