@@ -1,4 +1,5 @@
-use Rattle.std.proofs.Common.{◌≡◌, true, List, map, All, Err, IfErr, sym, subst, rules}
+use Rattle.std.proofs.Common.{◌≡◌, true, List, map, All, Err, IfErr, sym, subst, rules, arith}
+use Rattle.std.proofs.lemmas.Grind.{common_steps}
 use Rattle.rel_base.specs.Bags.{SameBag}
 use Rattle.myrial_ast.specs.declared.scalars.Scalar as code
 use Rattle.myrial_ast.specs.Combinations.{emitted}
@@ -51,3 +52,6 @@ returns-in-Some-2-clause-bag c =
     rw c.in-Some-2.is at c.in_ok-made-2.ensures.bag in
     subst (λ (picks : List code.Scalar). SameBag (done (map (emitted (map scalar_tree_of picks)) c.args.rows.now)) c.in-Some-2.made)
     c.as_slice.ensures.value same
+
+pub returns-in-Some-clause-bag : goal.returns-in-Some-clause-bag
+returns-in-Some-clause-bag c = grind (arith, common_steps)

@@ -49,3 +49,9 @@ returns-clause-rows c = grind (arith, common_steps)
 
 pub returns-clause-fits : goal.returns-clause-fits
 returns-clause-fits c = grind (arith, common_steps)
+
+pub loop-done-init : goal.loop-done-init
+loop-done-init c = grind (arith, common_steps)
+
+pub loop-done-smaller : goal.loop-done-smaller
+loop-done-smaller c = grind (arith, common_steps)

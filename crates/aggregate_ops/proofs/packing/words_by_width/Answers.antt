@@ -16,3 +16,6 @@ returns-in-len4-clause-words c = grind (arith, common_steps)
 
 pub returns-in-len5-clause-words : goal.returns-in-len5-clause-words
 returns-in-len5-clause-words c = grind (arith, common_steps)
+
+pub returns-in_default-clause-words : goal.returns-in_default-clause-words
+returns-in_default-clause-words c = grind (arith, common_steps)

@@ -1,4 +1,5 @@
 use Rattle.std.proofs.Common.{◌∙◌, ◌-◌, ap, sym, map, is_lt, arith}
+use Rattle.std.proofs.lemmas.Grind.{common_steps}
 use Rattle.std.proofs.lemmas.List.{get_or-map}
 use Rattle.rel_base.specs.Values.{row_order}
 use Rattle.aggregate_ops.specs.inner.Reading.{unpacked_row}
@@ -15,3 +16,6 @@ loop-count-preserved c =
           (λ d. (λ i. is_lt (row_order (get_or-map row words count 0 d (omega arith) i) (get_or-map row words (count - 1) 0 d (omega arith) i)))
           ∙ sym (ap is_lt c.word_order.ensures) ∙ sym c.is_lt.ensures ∙ c.if-is_lt.false),
     )
+
+pub returns : goal.returns
+returns c = grind (arith, common_steps)
