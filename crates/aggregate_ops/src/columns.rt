@@ -120,12 +120,8 @@ pub fn cell(
             Err(fault) => Err(fault),
         },
         _ if run.len() == 0 => Ok(Value::Int(0)),
-        EmitKind::Key => Ok(run.get(0).read(place).into_value(alloc)?),
-        EmitKind::Agg(AggOp::Min) => {
-            Ok(least(run.get(0), run.behind(1), place).into_value(alloc)?)
-        }
-        EmitKind::Agg(AggOp::Max) => {
-            Ok(greatest(run.get(0), run.behind(1), place).into_value(alloc)?)
-        }
+        EmitKind::Key => run.get(0).read(place).into_value(alloc),
+        EmitKind::Agg(AggOp::Min) => least(run.get(0), run.behind(1), place).into_value(alloc),
+        EmitKind::Agg(AggOp::Max) => greatest(run.get(0), run.behind(1), place).into_value(alloc),
     }
 }

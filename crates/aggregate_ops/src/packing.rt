@@ -96,7 +96,7 @@ pub fn key_columns(
 /// The bits of these values, each in its column.
 #[inline(always)]
 fn bits_of_values(columns: &[PackedColumn], values: &[Value]) -> u64
-    requires { length values.now ≡ length columns.now }
+    requires { length columns.now ≤ length values.now }
 {
     let mut word = 0;
     for place in 0..columns.len() {
@@ -125,7 +125,7 @@ fn word_of_values(columns: &[PackedColumn], values: &[Value]) -> Option<u64>
 /// The bits of what a row emits by these picks, each in its column.
 #[inline(always)]
 fn bits_of_picks(columns: &[PackedColumn], picks: &[Scalar], values: &[Value]) -> Option<u64>
-    requires { length picks.now ≡ length columns.now }
+    requires { length columns.now ≤ length picks.now }
 {
     let mut word = 0;
     for place in 0..columns.len() {

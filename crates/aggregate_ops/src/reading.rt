@@ -1,11 +1,13 @@
 //! The rows of groups as they are read: lent, or packed in words.
-ghost use Rattle.std.specs.Prelude.{◌≡◌, ◌<◌, ◌≤◌, [], length, map, take, drop, slice_index_or, IfOk};
+ghost use Rattle.std.specs.Prelude.{◌≡◌, ◌<◌, ◌≤◌, [], length, map, take, drop, slice_index_or, IfOk, IfErr};
 ghost use Rattle.myrial_ast.specs.Scalars.{value_at};
+ghost use Rattle.aggregate_ops.specs.declared.faults.AggFault.TheVariants as fault;
 ghost use Rattle.aggregate_ops.specs.Columns.{rows_in};
 ghost use Rattle.aggregate_ops.specs.inner.Reading.{row_of, rows_of, unpacked_row, value_of};
 
+use crate::AggFault;
 use crate::packed_columns::PackedColumn;
-use rel_base::{Duplicate, Memory, Value};
+use rel_base::{Duplicate, Value};
 use std::alloc::Global;
 
 /// A row that is grouped.
@@ -47,8 +49,9 @@ impl<'a> ReadValue<'a> {
     }
 
     /// The value as one's own.
-    pub fn into_value(self, alloc: Global) -> Result<Value, Memory>
-        ensures { IfOk result (λ value. value ≡ value_of self.entry) }
+    pub fn into_value(self, alloc: Global) -> Result<Value, AggFault>
+        ensures value { IfOk result (λ value. value ≡ value_of self.entry) }
+        ensures fault { IfErr result (λ given. given ≡ fault.Memory) }
     {
         match self {
             ReadValue::Lent(value) => Ok(value.copy(alloc)?),
