@@ -5,9 +5,10 @@ use Rattle.myrial_ast.specs.declared.scalars.Scalar as code
 use Rattle.myrial_ast.specs.Combinations.{emitted}
 use Rattle.myrial_ast.specs.Groups.{row_fits}
 use Rattle.myrial_ast.specs.ScalarTrees.{scalar_tree_of}
+use Rattle.bag_laws.specs.PartialLaws.{AreGrouped}
 use Rattle.algebra.specs.Trees.{kind_of_emit}
 use Rattle.aggregate_ops.specs.Columns.{Overflows}
-use Rattle.aggregate_ops.specs.Forms.{results, results_fit}
+use Rattle.aggregate_ops.specs.Forms.{grouped_kinds, results, results_fit}
 use Rattle.aggregate_ops.proofs.EmitLemmas.{all-picks-fit}
 use Rattle.aggregate_ops.proofs.grouping.grouped_picks.Goals as goal
 
@@ -55,3 +56,28 @@ returns-in-Some-2-clause-bag c =
 
 pub returns-in-Some-clause-bag : goal.returns-in-Some-clause-bag
 returns-in-Some-clause-bag c = grind (arith, common_steps)
+
+pub returns-clause-bag : goal.returns-clause-bag
+returns-clause-bag c = grind (arith, common_steps)
+
+pub returns-clause-numbers : goal.returns-clause-numbers
+returns-clause-numbers c = grind (arith, common_steps)
+
+pub returns-clause-fault : goal.returns-clause-fault
+returns-clause-fault c = grind (arith, common_steps)
+
+pub grouped_rows-requires-clause-few : goal.grouped_rows-requires-clause-few
+grouped_rows-requires-clause-few c = grind (arith, common_steps)
+
+pub grouped_words-requires-clause-width : goal.grouped_words-requires-clause-width
+grouped_words-requires-clause-width c =
+    subst (λ (picks : List code.Scalar). AreGrouped (grouped_kinds c.args.form (map kind_of_emit c.args.kinds.now)) (map (emitted (map scalar_tree_of picks)) c.args.rows.now))
+    (sym c.as_slice.ensures.value) c.requires.width
+
+pub grouped_words-requires-2-clause-width : goal.grouped_words-requires-2-clause-width
+grouped_words-requires-2-clause-width c =
+    subst (λ (picks : List code.Scalar). AreGrouped (grouped_kinds c.args.form (map kind_of_emit c.args.kinds.now)) (map (emitted (map scalar_tree_of picks)) c.args.rows.now))
+    (sym c.as_slice.ensures.value) c.requires.width
+
+pub grouped_rows-requires-clause-width : goal.grouped_rows-requires-clause-width
+grouped_rows-requires-clause-width c = rw c.in_ok-listed.ensures.rows c.requires.width

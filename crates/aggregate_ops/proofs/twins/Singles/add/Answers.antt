@@ -1,4 +1,5 @@
-use Rattle.std.proofs.Common.{◌≡◌, ◌++◌, ◌∷◌, [], List, subst, sym}
+use Rattle.std.proofs.Common.{◌≡◌, ◌++◌, ◌∷◌, [], List, subst, sym, arith}
+use Rattle.std.proofs.lemmas.Grind.{common_steps}
 use Rattle.myrial_ast.specs.declared.scalars.Scalar.{Scalar}
 use Rattle.aggregate_ops.specs.declared.packed_columns.PackedColumn.{PackedColumn}
 use Rattle.aggregate_ops.specs.inner.Twins.{IsTold}
@@ -20,3 +21,6 @@ returns-clause-kept c column pick told =
     moved (c.args.self.now.columns.items ++ c.args.column ∷ []) c.push.new.self.items (c.args.self.now.picks.items ++ c.in_ok-copy.field-0 ∷ []) c.push-2.new.self.items column pick
     (sym c.in_ok-push.ensures.items) (sym c.in_ok-push-2.ensures.items)
     (IsTold-more c.args.self.now.columns.items c.args.self.now.picks.items c.requires c.args.column c.args.pick.now c.in_ok-copy.field-0 column pick told)
+
+pub returns-clause-long : goal.returns-clause-long
+returns-clause-long c = grind (arith, common_steps)
