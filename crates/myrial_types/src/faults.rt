@@ -45,15 +45,15 @@ impl fmt::Display for TypeKind {
     ghost output = { λ kind. Some (kind_text kind) };
 
     fn fmt<W: fmt::Write>(&self, f: &mut fmt::Formatter<W>) -> fmt::Result {
-        match self {
-            TypeKind::UnknownRelation => write!(f, "unknown relation"),
-            TypeKind::UnknownColumn => write!(f, "unknown column"),
-            TypeKind::AmbiguousColumn => write!(f, "ambiguous column"),
-            TypeKind::TypeMismatch => write!(f, "type mismatch"),
-            TypeKind::Misplaced => write!(f, "misplaced aggregate"),
-            TypeKind::Limit => write!(f, "limit"),
-            TypeKind::LoadConflict => write!(f, "load conflict"),
-        }
+        f.write_str(match self {
+            TypeKind::UnknownRelation => "unknown relation",
+            TypeKind::UnknownColumn => "unknown column",
+            TypeKind::AmbiguousColumn => "ambiguous column",
+            TypeKind::TypeMismatch => "type mismatch",
+            TypeKind::Misplaced => "misplaced aggregate",
+            TypeKind::Limit => "limit",
+            TypeKind::LoadConflict => "load conflict",
+        })
     }
 }
 
@@ -67,7 +67,7 @@ impl fmt::Display for TypeFault {
     fn fmt<W: fmt::Write>(&self, f: &mut fmt::Formatter<W>) -> fmt::Result {
         match self {
             TypeFault::At { statement, kind } => write!(f, "statement {statement}: {kind}"),
-            TypeFault::Memory => write!(f, "out of memory"),
+            TypeFault::Memory => f.write_str("out of memory"),
         }
     }
 }
