@@ -1,4 +1,4 @@
-use Rattle.std.proofs.Common.{List, true, refl, sym, ap, subst, arith}
+use Rattle.std.proofs.Common.{List, true, refl, sym, subst, arith}
 use Rattle.myrial_ast.specs.Trees.{statement_tree_of}
 use Rattle.myrial_parser.specs.declared.faults.What.TheVariants.{FromItems, Columns}
 use Rattle.myrial_parser.specs.Terminals.{Terminal}
