@@ -1,6 +1,6 @@
 -- The fault of a run of the steps is the script's.
 use Rattle.std.proofs.Common.{◌≡◌, ◌∙◌, ℕ, suc, ◌+◌, ◌≤◌, Bool, true, false, cond, ◌||◌, List, [], ◌∷◌, map, length, refl, sym, ap, subst, arith, add-one, Option, Some, None}
-use Rattle.std.specs.Prelude.{All, if◌then◌else◌, is_some, option_map, option_and_then, sum, ⊤}
+use Rattle.std.specs.Prelude.{All, if◌then◌else◌, is_some, option_map, option_and_then, sum}
 use Rattle.std.specs.Option.{option_map_or}
 use Rattle.std.specs.List.{flat_map, list_any}
 use Rattle.std.proofs.lemmas.List.{length-map}
@@ -24,19 +24,19 @@ use Rattle.myrial_ast.specs.Scalars.{Scalar}
 use Rattle.myrial_scopes.specs.Scopes.{same_name, scope_of}
 use Rattle.myrial_scopes.specs.Emits.{Emit, Resolved, conjuncts_of, emits_of, emitting, resolved}
 use Rattle.myrial_meaning.specs.Environments.{nothing_yet, with_key, with_name}
-use Rattle.myrial_meaning.specs.Faults.{fault_from, relation_fault, run_fault, widths_of}
+use Rattle.myrial_meaning.specs.Faults.{fault_from, relation_fault, widths_of}
 use Rattle.myrial_meaning.specs.Fetches.{loads_of}
-use Rattle.myrial_meaning.specs.Meaning.{ItemRelation, RelationEnvironment, items_of, tables_of, relation_of}
+use Rattle.myrial_meaning.specs.Meaning.{ItemRelation, RelationEnvironment, items_of, tables_of}
 use Rattle.myrial_meaning.specs.Needed.{is_live}
 use Rattle.myrial_meaning.proofs.ComprehensionLemmas.{no_sums}
 use Rattle.algebra.specs.declared.terms.Source.{Source}
 use Rattle.algebra.specs.declared.terms.StoreStep.{StoreStep}
 use Rattle.algebra.specs.Trees.{TermTree, Same, UnionAll, Diff, Distinct, Join, Group, StepTree, CheckedTree}
-use Rattle.algebra.specs.Meanings.{checked_fault, first_fault, has_long_prefix, is_used, needed_steps, shape_fault, step_relation, term_fault}
+use Rattle.algebra.specs.Meanings.{first_fault, has_long_prefix, is_used, needed_steps, shape_fault, step_relation, term_fault}
 use Rattle.algebra.specs.Shapes.{candidates_of, listed_of, shape_of}
 use Rattle.algebra.specs.ShapeLaws.{InRange, widths_in}
 use Rattle.algebra.proofs.PrefixLemmas.{shape_faults_the_same}
-use Rattle.myrial_types.specs.Checking.{step_of, store_of, with_result}
+use Rattle.myrial_types.specs.Checking.{store_of, with_result}
 use Rattle.myrial_types.specs.Laws.{StepsHaveTheFault}
 use Rattle.myrial_types.specs.Resolving.{Meant, MeantItem, Names, Typed, comprehension_term, item_meant, join_term, kinds_of_items, meant, of_one, of_two, schemas_of, sources_of, term_of}
 use Rattle.myrial_types.proofs.FollowLemmas.{Follows, at_end, a_nothing, an_assignment, a_store, later-steps, typed-follows}

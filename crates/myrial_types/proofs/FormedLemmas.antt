@@ -2,7 +2,7 @@
 -- their columns.
 use Rattle.std.proofs.Common.{◌≡◌, ◌∙◌, ℕ, ◌+◌, ◌<◌, ◌==◌, Bool, true, false, cond, not, find, List, [], ◌∷◌, ◌++◌, map, length, refl, sym, ap, subst, arith, Option, Some, None}
 use Rattle.std.specs.Prelude.{All, filter, nat_lt, option_map, option_and_then, is_some, is_none, slice_get, ⊤, ◌&&◌, ◌||◌}
-use Rattle.std.specs.Option.{option_map_or, option_or}
+use Rattle.std.specs.Option.{option_map_or}
 use Rattle.std.specs.List.{list_any, list_all, flat_map, enumerate_from, zip}
 use Rattle.std.specs.Cmp.Lexicographic.{pointwise}
 use Rattle.std.proofs.lemmas.Bool.{and_from, and_parts, eqb-true, or_left, or_parts, or_right}
@@ -28,20 +28,18 @@ use Rattle.myrial_ast.specs.Trees as tree
 use Rattle.myrial_ast.specs.Scalars.{Scalar}
 use Rattle.myrial_ast.specs.Groups.{has_aggregate}
 use Rattle.myrial_scopes.specs.Scopes.{ItemSchema, ScopeColumn, columns_of, scope_of, scoped, same_name}
-use Rattle.myrial_scopes.specs.Emits.{Emit, Resolved, conjuncts_of, emits_of_item, emitting, resolved, schema_of}
+use Rattle.myrial_scopes.specs.Emits.{Emit, Resolved, conjuncts_of, emits_of_item, emitting, resolved}
 use Rattle.myrial_meaning.specs.Environments.{assigned_to, nothing_yet, operand_of, with_key}
 use Rattle.myrial_meaning.specs.Fetches.{loads_of}
 use Rattle.algebra.specs.declared.terms.Source.{Source}
 use Rattle.algebra.specs.declared.terms.Source.TheVariants as source
-use Rattle.algebra.specs.declared.terms.StoreStep.{StoreStep}
-use Rattle.algebra.specs.Trees.{AtomTree, TermTree, Same, Empty, UnionAll, Diff, Distinct, Join, Group, StepTree, CheckedTree}
+use Rattle.algebra.specs.Trees.{AtomTree, TermTree, Same, UnionAll, Diff, Distinct, Join, Group, StepTree, CheckedTree}
 use Rattle.algebra.specs.Shapes.{shape_of}
-use Rattle.algebra.specs.ShapeConditions.{is_kind, is_shape, kind_in, kinds_of}
-use Rattle.algebra.specs.Conditions.{are_steps, emits_columns, emitted_kind, has_kinds, is_of, is_store, is_term, kinds_of_columns, same_kinds, source_kinds}
-use Rattle.myrial_types.specs.declared.faults.TypeKind.{TypeKind}
+use Rattle.algebra.specs.ShapeConditions.{is_kind, is_shape, kind_in}
+use Rattle.algebra.specs.Conditions.{are_steps, emitted_kind, has_kinds, is_store, is_term, kinds_of_columns, same_kinds, source_kinds}
 use Rattle.myrial_types.specs.declared.faults.TypeKind.TheVariants as fault
 use Rattle.myrial_types.specs.Checking.{step_of, store_of, with_result}
-use Rattle.myrial_types.specs.Kinds.{comprehension_kind, condition_trees, differ, emitted_tree, first_of, has_ambiguous_column, has_mismatch, has_misplaced, has_unknown_alias, has_unknown_column, is_past_limit, is_term_past_limit, is_unknown, limit_kind, relation_kind, tree_kind, typing_kind}
+use Rattle.myrial_types.specs.Kinds.{comprehension_kind, condition_trees, differ, emitted_tree, first_of, has_ambiguous_column, has_mismatch, has_misplaced, has_unknown_alias, has_unknown_column, is_past_limit, is_term_past_limit, limit_kind, relation_kind, tree_kind}
 use Rattle.myrial_types.specs.Laws.{StepsAreOfTheFiles}
 use Rattle.myrial_types.specs.Resolving.{Meant, MeantItem, Names, Typed, comprehension_term, file_meant, files_meant, item_meant, join_term, kinds_of_items, meant, of_one, of_two, schemas_of, sources_of, term_of}
 use Rattle.myrial_types.proofs.FollowLemmas.{Follows, at_end, a_nothing, an_assignment, a_store, no-mismatch, typed-follows, typed-kinds}

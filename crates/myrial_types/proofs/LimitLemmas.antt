@@ -1,7 +1,7 @@
 -- Where no earlier kind is told, a term is past a limit exactly where one of its numbers is: a typed comprehension has a
 -- well-formed shape but for them.
-use Rattle.std.proofs.Common.{◌≡◌, ◌∙◌, ℕ, ◌==◌, Bool, true, false, cond, not, List, [], ◌∷◌, ◌++◌, length, map, refl, sym, ap, arith, Option, Some, None}
-use Rattle.std.specs.Prelude.{filter, is_none, is_some, nat_le, nat_lt, option_map, option_and_then, sum, ⊤, ◌&&◌, ◌||◌}
+use Rattle.std.proofs.Common.{◌≡◌, ◌∙◌, ℕ, ◌==◌, Bool, true, false, cond, not, List, [], ◌∷◌, length, map, refl, ap, arith, Option, Some, None}
+use Rattle.std.specs.Prelude.{filter, is_none, nat_le, nat_lt, option_map, option_and_then, sum, ◌&&◌, ◌||◌}
 use Rattle.std.specs.List.{flat_map, list_all, list_any}
 use Rattle.std.specs.Option.{option_map_or, option_or}
 use Rattle.std.proofs.lemmas.Bool.{and_from, and_parts, or_parts}
@@ -17,20 +17,18 @@ use Rattle.myrial_ast.specs.declared.operators.BinOp.TheVariants as op
 use Rattle.myrial_ast.specs.Classes.{equalities, variables}
 use Rattle.myrial_ast.specs.Combinations.{Comprehension}
 use Rattle.myrial_ast.specs.Groups.{has_aggregate}
-use Rattle.myrial_ast.specs.Operands.{operands_of}
 use Rattle.myrial_ast.specs.Scalars.{Scalar, Lit, At, Not, Neg, Bin, arithmetic_of, conjuncts, is_plain, plain_of}
 use Rattle.myrial_ast.specs.Trees.{EmitTree, RelTree, Tree}
 use Rattle.myrial_ast.specs.Trees as tree
 use Rattle.myrial_scopes.specs.Scopes.{ItemSchema, ScopeColumn, scalar_of, scope_of}
 use Rattle.myrial_scopes.specs.Emits.{Emit, Resolved, conjuncts_of, emits_of_item, emitting, resolved}
 use Rattle.algebra.specs.declared.terms.Source.{Source}
-use Rattle.algebra.specs.ShapeConditions.{all_different, are_atoms, are_scalars, are_variables, is_atom, is_kind, is_plain_test, is_shape, is_truth, is_typed, kind_in, kinds_of, where_both}
+use Rattle.algebra.specs.ShapeConditions.{are_atoms, are_scalars, are_variables, is_atom, is_kind, is_plain_test, is_shape, is_truth, is_typed, kind_in, kinds_of, where_both}
 use Rattle.algebra.specs.ShapeLaws.{widths_in}
 use Rattle.algebra.specs.Shapes.{shape_of, widths_of}
-use Rattle.algebra.specs.Trees.{AtomTree, Shape, TermTree, Same, Empty, UnionAll, Diff, Distinct, Join, Group}
-use Rattle.myrial_types.specs.declared.faults.TypeKind.{TypeKind}
+use Rattle.algebra.specs.Trees.{AtomTree, TermTree, Same, UnionAll, Diff, Distinct, Join, Group}
 use Rattle.myrial_types.specs.declared.faults.TypeKind.TheVariants as fault
-use Rattle.myrial_types.specs.Kinds.{comprehension_kind, condition_trees, emitted_tree, has_ambiguous_column, has_mismatch, has_misplaced, has_unknown_alias, has_unknown_column, is_past_limit, is_term_past_limit, is_unknown, limit_kind, relation_kind, tree_kind, trees_in, typing_kind}
+use Rattle.myrial_types.specs.Kinds.{comprehension_kind, condition_trees, has_ambiguous_column, has_mismatch, has_misplaced, has_unknown_alias, has_unknown_column, is_term_past_limit, limit_kind, relation_kind, tree_kind, trees_in}
 use Rattle.myrial_types.specs.Laws.{LimitIsOfNumbers, has_parts_past_limit, has_number_past_limit, joins_past_limit}
 use Rattle.myrial_types.specs.Resolving.{Meant, MeantItem, Names, Typed, comprehension_term, item_meant, join_term, kinds_of_items, meant, of_one, of_two, schemas_of, sources_of, term_of}
 use Rattle.myrial_types.proofs.FormedLemmas.{atoms_of, mismatch-none, scope-kinds, typed-emits}

@@ -1,7 +1,7 @@
 -- In a typed script the file of each load has the columns that the load writes.
-use Rattle.std.proofs.Common.{◌≡◌, ◌∙◌, ℕ, ◌+◌, ◌==◌, Bool, true, false, not, ◌&&◌, ◌||◌, cond, find, List, [], ◌∷◌, ◌++◌, length, map, refl, sym, ap, subst, Option, Some, None}
+use Rattle.std.proofs.Common.{◌≡◌, ◌∙◌, ℕ, ◌+◌, ◌==◌, Bool, true, false, not, ◌&&◌, ◌||◌, cond, find, List, [], ◌∷◌, ◌++◌, length, map, refl, sym, ap, subst, Option, Some}
 use Rattle.std.specs.Prelude.{option_map, ⊤}
-use Rattle.std.specs.List.{enumerate_from, list_any, list_all, flat_map}
+use Rattle.std.specs.List.{enumerate_from, list_any, list_all}
 use Rattle.std.proofs.lemmas.List.{append_assoc}
 use Rattle.std.proofs.lemmas.Bool.{and_from, and_parts, or_parts}
 use Rattle.rel_base.specs.Keys.{File}
@@ -11,7 +11,6 @@ use Rattle.rel_base.specs.declared.relations.Column.{Column}
 use Rattle.rel_base.specs.declared.values.ColType.{ColType}
 use Rattle.rel_base.specs.declared.values.ColType.TheVariants as kind
 use Rattle.myrial_ast.specs.Loads.{is_load_key}
-use Rattle.myrial_ast.specs.declared.relations.LoadForm.{LoadForm}
 use Rattle.myrial_ast.specs.Trees.{Name}
 use Rattle.myrial_scopes.specs.Scopes.{same_name}
 use Rattle.myrial_meaning.specs.Fetches.{Load, form_among}

@@ -1,5 +1,5 @@
 -- A statement without a kind resolves.
-use Rattle.std.proofs.Common.{◌≡◌, ◌∙◌, ◌==◌, ℕ, Bool, true, false, ◌||◌, cond, List, [], ◌∷◌, ◌++◌, length, map, Option, Some, None, refl, sym, ap, arith}
+use Rattle.std.proofs.Common.{◌≡◌, ◌∙◌, ◌==◌, ℕ, Bool, true, false, ◌||◌, cond, List, [], ◌∷◌, length, Option, Some, None, refl, sym, ap, arith}
 use Rattle.std.specs.Prelude.{is_none, is_some, nat_lt, option_map, option_and_then}
 use Rattle.std.specs.List.{flat_map, list_any}
 use Rattle.std.specs.Option.{option_map_or, option_or}
@@ -21,8 +21,8 @@ use Rattle.myrial_scopes.specs.Emits.{Emit, aggregated, conjuncts_of, emit_of_sc
 use Rattle.myrial_types.specs.declared.faults.TypeKind.{TypeKind}
 use Rattle.myrial_types.specs.declared.faults.TypeKind.TheVariants as fault
 use Rattle.myrial_types.specs.Fetching.{has_conflict}
-use Rattle.myrial_types.specs.Resolving.{Meant, MeantItem, Names, comprehension_term, item_meant, meant, schemas_of, term_of}
-use Rattle.myrial_types.specs.Kinds.{comprehension_kind, condition_trees, differ, emitted_tree, first_of, has_ambiguous_column, has_any_aggregate, has_inner_aggregate, has_mismatch, has_misplaced, has_unknown_alias, has_unknown_column, is_unknown, limit_kind, references, references_in, relation_kind, typing_kind}
+use Rattle.myrial_types.specs.Resolving.{MeantItem, Names, comprehension_term, item_meant, meant, schemas_of, term_of}
+use Rattle.myrial_types.specs.Kinds.{comprehension_kind, condition_trees, emitted_tree, first_of, has_ambiguous_column, has_any_aggregate, has_inner_aggregate, has_mismatch, has_misplaced, has_unknown_alias, has_unknown_column, is_unknown, limit_kind, references, references_in, relation_kind, typing_kind}
 use Rattle.myrial_types.specs.Laws.{TypedStatementsResolve}
 use Rattle.myrial_types.proofs.TypingLemmas.{any-unknown}
 

@@ -1,6 +1,6 @@
 -- The types of what a typed comprehension emits: those of a tree are those of its scalar, and each emitted column has its own.
-use Rattle.std.proofs.Common.{◌≡◌, ◌∙◌, ℕ, zero, suc, ◌+◌, ◌<◌, ◌≤◌, Bool, true, false, cond, List, [], ◌∷◌, ◌++◌, map, length, refl, sym, ap, arith, Option, Some, None}
-use Rattle.std.specs.Prelude.{is_none, is_some, option_map, option_and_then, slice_get, slice_index_or, unwrap_or, ◌&&◌, ◌||◌, ⊤}
+use Rattle.std.proofs.Common.{◌≡◌, ◌∙◌, ℕ, zero, suc, ◌+◌, ◌<◌, ◌≤◌, Bool, true, false, cond, List, [], ◌∷◌, ◌++◌, map, length, refl, ap, arith, Option, Some, None}
+use Rattle.std.specs.Prelude.{is_none, is_some, option_map, option_and_then, slice_get, slice_index_or, unwrap_or, ◌&&◌, ⊤}
 use Rattle.std.specs.List.{enumerate_from, flat_map, list_any, list_all, range_with_len, zip}
 use Rattle.std.specs.Cmp.Lexicographic.{pointwise}
 use Rattle.std.proofs.lemmas.List.{length-map}

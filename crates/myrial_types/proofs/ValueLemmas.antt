@@ -1,18 +1,15 @@
 -- What names stand for, by the results of the statements so far.
-use Rattle.std.proofs.Common.{◌≡◌, ◌∙◌, ℕ, ◌+◌, ◌<◌, ◌≤◌, ◌==◌, Bool, true, false, ◌&&◌, cond, find, fold, List, [], ◌∷◌, ◌++◌, length, map, reverse, refl, sym, ap, subst, arith, Option, Some, None}
-use Rattle.std.specs.Prelude.{All, option_map, option_and_then, unwrap_or, slice_index_or, ⊤, Result, Ok, Err}
-use Rattle.std.specs.Option.{option_map_or, option_or, option_to_list}
-use Rattle.std.specs.Cmp.{second_so}
-use Rattle.std.specs.List.{enumerate_from, flat_map, list_all}
+use Rattle.std.proofs.Common.{◌≡◌, ◌∙◌, ℕ, ◌+◌, ◌<◌, ◌==◌, Bool, true, false, cond, find, List, [], ◌∷◌, ◌++◌, length, map, refl, sym, ap, subst, arith, Option, Some, None}
+use Rattle.std.specs.Prelude.{All, option_map, option_and_then, unwrap_or, slice_index_or, ⊤}
+use Rattle.std.specs.List.{enumerate_from, flat_map}
 use Rattle.std.proofs.lemmas.Bool.{eqb-true}
 use Rattle.std.proofs.lemmas.Bool.Decides.{nat_tests}
-use Rattle.std.proofs.lemmas.List.{append_assoc, append-nil, map-append, reverse-append, reverse-reverse}
+use Rattle.std.proofs.lemmas.List.{append_assoc, map-append}
 use Rattle.std.proofs.lemmas.List.Elements.{All-nil, All-cons, All-head, All-tail, All-weaker}
 use Rattle.rel_base.specs.Each.{each_or_none, put_before}
-use Rattle.rel_base.specs.Keys.{File, same_key, holds_key}
+use Rattle.rel_base.specs.Keys.{File, same_key}
 use Rattle.rel_base.specs.Relations.{RelationState}
 use Rattle.rel_base.specs.declared.names.Key.{Key}
-use Rattle.rel_base.specs.declared.values.ColType.{ColType}
 use Rattle.myrial_ast.specs.declared.relations.FromItem.{FromItem}
 use Rattle.myrial_ast.specs.declared.relations.Operand.{Operand}
 use Rattle.myrial_ast.specs.declared.relations.Operand.TheVariants as operand
@@ -26,25 +23,18 @@ use Rattle.myrial_ast.specs.Combinations.{Rows, listed_rows}
 use Rattle.myrial_scopes.specs.Scopes.{scope_of, same_name}
 use Rattle.myrial_scopes.specs.Emits.{Resolved, resolved}
 use Rattle.myrial_meaning.specs.Environments.{nothing_yet, assigned_to, operand_of, with_name, with_key}
-use Rattle.myrial_meaning.specs.Fetches.{Load, form_in, loads_in, loads_of}
+use Rattle.myrial_meaning.specs.Fetches.{loads_of}
 use Rattle.myrial_meaning.specs.Meaning as meaning
 use Rattle.myrial_meaning.specs.Meaning.{RelationEnvironment, ItemRelation, item_relation, items_of, tables_of, comprehension_rows, comprehension_over, relation_of, after, stored_relations}
 use Rattle.algebra.specs.declared.terms.Source.{Source}
 use Rattle.algebra.specs.declared.terms.Source.TheVariants as source
-use Rattle.algebra.specs.declared.terms.StoreStep.{StoreStep}
-use Rattle.algebra.specs.Trees.{TermTree, Same, UnionAll, Diff, Distinct, Join, Group, StepTree, CheckedTree}
+use Rattle.algebra.specs.Trees.{TermTree, Same, UnionAll, Diff, Distinct, Join, Group}
 use Rattle.algebra.specs.Shapes.{shape_of}
-use Rattle.algebra.specs.Meanings.{found, term_rows, no_relation, relations_of, step_relation, stored_by}
+use Rattle.algebra.specs.Meanings.{found, term_rows, no_relation, relations_of}
 use Rattle.algebra.proofs.ShapeLemmas.{shape_of-listed}
-use Rattle.myrial_types.specs.declared.faults.TypeFault.{TypeFault}
-use Rattle.myrial_types.specs.declared.faults.TypeKind.{TypeKind}
-use Rattle.myrial_types.specs.declared.faults.TypeKind.TheVariants as fault
-use Rattle.myrial_types.specs.Fetching.{are_fetched, has_conflict, has_columns, has_form, is_fetched}
-use Rattle.myrial_types.specs.Resolving.{Meant, MeantItem, Names, Typed, as_written, comprehension_term, file_meant, files_meant, item_meant, join_term, kinds_of_items, meant, of_one, of_two, schemas_of, sources_of, term_of}
-use Rattle.myrial_types.specs.Kinds.{first_kind, typing_kind}
-use Rattle.myrial_types.specs.Checking.{before, checked_from, checked_of, names_after, step_of, store_of, with_result, with_statement}
-use Rattle.myrial_types.specs.Laws.{StepsMeanTheScript}
-use Rattle.myrial_types.proofs.LoadLemmas.{AllFit, fit-append, fit-apart, loads-fit, written-columns}
+use Rattle.myrial_types.specs.Resolving.{Meant, MeantItem, Names, Typed, comprehension_term, file_meant, files_meant, item_meant, join_term, kinds_of_items, meant, of_one, of_two, schemas_of, sources_of, term_of}
+use Rattle.myrial_types.specs.Checking.{with_result}
+use Rattle.myrial_types.proofs.LoadLemmas.{AllFit, fit-apart, written-columns}
 
 abbrev pub Results : Type 0
 Results = List (ℕ × RelationState)

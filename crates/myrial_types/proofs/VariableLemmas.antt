@@ -1,5 +1,5 @@
 -- The join variables of a comprehension: in range, each of one type and of two items at least, no column in two of them.
-use Rattle.std.proofs.Common.{◌≡◌, ℕ, zero, suc, ◌+◌, ◌<◌, ◌≤◌, ◌==◌, Bool, true, false, cond, not, List, [], ◌∷◌, ◌++◌, map, length, refl, sym, ◌∙◌, ap, subst, arith, Option, Some, None}
+use Rattle.std.proofs.Common.{◌≡◌, ℕ, zero, suc, ◌+◌, ◌<◌, ◌≤◌, ◌==◌, Bool, true, false, cond, not, List, [], ◌∷◌, ◌++◌, map, refl, sym, ◌∙◌, ap, arith, Option, Some, None}
 use Rattle.std.specs.Prelude.{filter, nat_lt, option_and_then, slice_get, sum, ⊤, ◌&&◌, ◌||◌}
 use Rattle.std.specs.List.{list_any, list_all, flat_map, range_with_len, cons_option}
 use Rattle.std.proofs.lemmas.Bool.{and_from, and_parts, eqb-true}
@@ -7,11 +7,10 @@ use Rattle.std.proofs.lemmas.Bool.Decides.{nat_tests}
 use Rattle.rel_base.specs.Relations.{same_type}
 use Rattle.rel_base.specs.declared.values.ColType.{ColType}
 use Rattle.rel_base.specs.declared.values.ColType.TheVariants as kind
-use Rattle.myrial_ast.specs.declared.operators.BinOp.TheVariants as op
-use Rattle.myrial_ast.specs.Scalars.{Scalar, Lit, At, Not, Neg, Bin}
+use Rattle.myrial_ast.specs.Scalars.{Scalar}
 use Rattle.myrial_ast.specs.Classes.{equality, equalities, leader, same_class, all_columns, class_of, first_columns, joins_items, variables}
 use Rattle.algebra.specs.Shapes.{tie_test}
-use Rattle.algebra.specs.ShapeConditions.{all_different, are_of, is_kind, is_truth, kind_at, kind_in, where_both}
+use Rattle.algebra.specs.ShapeConditions.{all_different, are_of, is_kind, is_truth, kind_at, where_both}
 use Rattle.algebra.proofs.ShapeLemmas.{equality-is}
 use Rattle.myrial_types.proofs.LoadLemmas.{same_type-itself}
 
