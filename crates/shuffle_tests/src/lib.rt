@@ -1,9 +1,12 @@
-//! Tests of the joins between workers, over numbers that are dealt to the workers in turn.
+//! Tests of the joins between workers, over numbers that are dealt to the workers in turn, and of
+//! the search for ears.
 //!
 //! They stand in a crate of their own, above the shuffles and the join through hash tables, which
 //! is what a worker does alone.
 #![tactic(auto)]
 
+#[cfg(test)]
+mod ears;
 #[cfg(test)]
 mod homes;
 #[cfg(test)]
