@@ -13,7 +13,7 @@ impl fmt::Display for Memory {
     ghost output = { λ _. Some (codes "out of memory") };
 
     fn fmt<W: fmt::Write>(&self, f: &mut fmt::Formatter<W>) -> fmt::Result {
-        write!(f, "out of memory")
+        f.write_str("out of memory")
     }
 }
 

@@ -33,17 +33,13 @@ impl fmt::Display for RunFault {
     ghost output = { λ fault. Some (fault_text fault) };
 
     fn fmt<W: fmt::Write>(&self, f: &mut fmt::Formatter<W>) -> fmt::Result {
-        match self {
-            RunFault::TooManyRows { statement } => write!(
-                f,
-                "statement {statement}: too many rows"
-            ),
-            RunFault::Overflow { statement } => write!(f, "statement {statement}: overflow"),
-            RunFault::AggregateOverflow { statement } => {
-                write!(f, "statement {statement}: aggregate overflow")
-            }
-            RunFault::Memory => write!(f, "out of memory"),
-        }
+        let (statement, what) = match self {
+            RunFault::TooManyRows { statement } => (statement, "too many rows"),
+            RunFault::Overflow { statement } => (statement, "overflow"),
+            RunFault::AggregateOverflow { statement } => (statement, "aggregate overflow"),
+            RunFault::Memory => return f.write_str("out of memory"),
+        };
+        write!(f, "statement {statement}: {what}")
     }
 }
 

@@ -84,6 +84,14 @@ impl Text {
             let boxed = Box::new(alloc, Letters::Long(long))?;
             return Ok(Text { boxed });
         }
+        Text::of_short(alloc, s)
+    }
+
+    /// The same short text, in memory of its own.
+    fn of_short(alloc: Global, s: &str) -> Result<Text, Memory>
+        requires { length s.now ≤ 22 }
+        ensures { IfOk result (λ made. made ≡ s.now) }
+    {
         let mut boxed = Box::new(alloc, Letters::Short(ShortText::new()))?;
         boxed.set_short(s);
         Ok(Text { boxed })

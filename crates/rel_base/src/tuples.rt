@@ -75,11 +75,20 @@ impl Row {
             return Err(Memory);
         };
         let mut row = Row::with_capacity(alloc, room)?;
-        for value in values {
-            let copy = value.copy(alloc)?;
-            row.push(copy)?;
-        }
+        row.push_copies(values)?;
         Ok(row)
+    }
+
+    /// Adds copies of these values. After `Memory` some of them may be added.
+    fn push_copies(&mut self, values: &[Value]) -> Result<(), Memory>
+        requires few { length self.old + length values.now < 2 ^ 32 }
+        ensures { OnOk result (self.new ≡ self.old ++ values.now) }
+    {
+        for value in values {
+            let copy = value.copy(self.alloc)?;
+            self.push(copy)?;
+        }
+        Ok(())
     }
 
     /// What gives the row its memory.
