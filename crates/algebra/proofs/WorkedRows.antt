@@ -12,7 +12,7 @@ use Rattle.myrial_ast.specs.declared.operators.BinOp.TheVariants as op
 use Rattle.myrial_ast.specs.declared.operators.AggOp.TheVariants as agg
 use Rattle.myrial_ast.specs.Scalars.{Scalar, Lit, At, Not, Neg, Bin}
 use Rattle.myrial_ast.specs.Combinations.{Row, Rows}
-use Rattle.myrial_ast.specs.CandidateFaults.{Uncounted}
+use Rattle.myrial_ast.specs.CandidateFaults.{joins_alone}
 use Rattle.algebra.specs.declared.terms.Source.{Source}
 use Rattle.algebra.specs.declared.terms.Source.TheVariants as source
 use Rattle.algebra.specs.declared.terms.StoreStep.{StoreStep}
@@ -212,14 +212,14 @@ pub stored-by_the_script : stored_by files script
 stored-by_the_script = refl
 
 -- the fault of a statement that isn't needed doesn't count
-pub fault-of_the_script : checked_fault (λ statement. Uncounted) files script ≡ None
+pub fault-of_the_script : checked_fault (λ statement. joins_alone) files script ≡ None
 fault-of_the_script = refl
 
-pub fault-needed : checked_fault (λ statement. Uncounted) files (record script { stores = store 4 (codes "Out") (source.Result 1) ∷ [] }) ≡ Some (fault.Overflow 1)
+pub fault-needed : checked_fault (λ statement. joins_alone) files (record script { stores = store 4 (codes "Out") (source.Result 1) ∷ [] }) ≡ Some (fault.Overflow 1)
 fault-needed = refl
 
 -- a sum past 64 bits, of the statement that has it
-pub fault-of_a_sum : checked_fault (λ statement. Uncounted) ((adhoc (codes "R"), record { schema = int_column ∷ []; rows = column (9223372036854775807 ∷ 1 ∷ []) }) ∷ []) script
+pub fault-of_a_sum : checked_fault (λ statement. joins_alone) ((adhoc (codes "R"), record { schema = int_column ∷ []; rows = column (9223372036854775807 ∷ 1 ∷ []) }) ∷ []) script
     ≡ Some (fault.AggregateOverflow 3)
 fault-of_a_sum = refl
 

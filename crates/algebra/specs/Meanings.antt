@@ -18,12 +18,12 @@ use Rattle.rel_base.specs.Relations.{RelationState}
 use Rattle.myrial_ast.specs.Combinations.{Rows}
 use Rattle.myrial_ast.specs.Bags.{union_all, distinct, difference}
 use Rattle.myrial_ast.specs.Groups.{Kinds, groups}
-use Rattle.myrial_ast.specs.CandidateFaults.{PrefixRule, too_many, prefix_too_long, join_fault}
+use Rattle.myrial_ast.specs.CandidateFaults.{PrefixRule, FaultRule, too_many, prefix_too_long, join_fault}
 use Rattle.algebra.specs.declared.terms.Source.{Source}
 use Rattle.algebra.specs.declared.terms.Source.TheVariants as source
 use Rattle.algebra.specs.declared.terms.StoreStep.{StoreStep}
 use Rattle.algebra.specs.Trees.{Shape, TermTree, Same, Empty, UnionAll, Diff, Distinct, Join, Group, StepTree, CheckedTree}
-use Rattle.algebra.specs.Shapes.{widths_of, tests_of, ties_of, candidates_of, listed_of}
+use Rattle.algebra.specs.Shapes.{widths_of, tests_of, ties_of, candidates_of, joined_tables, listed_of}
 
 module _ {X : Type 0} where
   -- what a source stands for: a file by its place, and a statement by its number
@@ -106,12 +106,13 @@ abbrev pub has_long_prefix : PrefixRule → Shape → List Rows → Bool
 has_long_prefix rule shape given = prefix_too_long rule (widths_of shape) (tests_of shape) (ties_of shape) given
 
 -- the fault of a join in a statement of this number, whose listed rows are of these kinds
-abbrev pub shape_fault : PrefixRule → ℕ → Shape → Kinds → List Rows → Option RunFault
+abbrev pub shape_fault : FaultRule → ℕ → Shape → Kinds → List Rows → Option RunFault
 shape_fault rule number shape kinds given =
-    join_fault number (has_long_prefix rule shape given) shape.arith shape.emits kinds (candidates_of shape given)
+    join_fault number (has_long_prefix rule.prefixes shape (joined_tables rule.reduce shape given))
+    shape.arith shape.emits kinds (candidates_of shape given)
 
 -- the fault of a term: that of its join, or a `unionall` of too many rows
-abbrev pub term_fault : PrefixRule → ℕ → (Source → Rows) → TermTree → Option RunFault
+abbrev pub term_fault : FaultRule → ℕ → (Source → Rows) → TermTree → Option RunFault
 term_fault rule number value (UnionAll s t) =
     if too_many (union_all (value s) (value t)) then Some (fault.TooManyRows number) else None
 term_fault rule number value (Join shape sources) = shape_fault rule number shape [] (map value sources)
@@ -120,7 +121,7 @@ term_fault rule number value _ = None
 
 -- the first fault of a needed one of the steps, where those before them have these results; which prefixes count is said by
 -- statement
-abbrev pub first_fault : (ℕ → PrefixRule) → List File → List StoreStep → List (ℕ × RelationState) → List StepTree → Option RunFault
+abbrev pub first_fault : (ℕ → FaultRule) → List File → List StoreStep → List (ℕ × RelationState) → List StepTree → Option RunFault
 first_fault rules files stores results [] = None
 first_fault rules files stores results (s ∷ rest) =
     let own =
@@ -130,5 +131,5 @@ first_fault rules files stores results (s ∷ rest) =
     if is_some own then own else first_fault rules files stores ((s.statement, step_relation files results s) ∷ results) rest
 
 -- the fault of the first needed step that has one
-abbrev pub checked_fault : (ℕ → PrefixRule) → List File → CheckedTree → Option RunFault
+abbrev pub checked_fault : (ℕ → FaultRule) → List File → CheckedTree → Option RunFault
 checked_fault rules files c = first_fault rules files c.stores [] c.steps

@@ -7,7 +7,7 @@
 use Rattle.std.specs.Prelude.{◌≡◌, ⊤, ℕ, IsTrue, ◌<◌, List, [], ◌∷◌, map, filter, length, slice_index_or, All}
 use Rattle.rel_base.specs.declared.values.ColType.{ColType}
 use Rattle.myrial_ast.specs.Combinations.{Rows, all_hold}
-use Rattle.myrial_ast.specs.CandidateFaults.{PrefixRule}
+use Rattle.myrial_ast.specs.CandidateFaults.{FaultRule}
 use Rattle.rel_base.specs.Keys.{File}
 use Rattle.rel_base.specs.Relations.{HasTypes}
 use Rattle.algebra.specs.Trees.{AtomTree, Shape, TermTree, Join, Group, StepTree, CheckedTree}
@@ -79,4 +79,4 @@ AreTyped files = All (λ (f : File). All (HasTypes f.1.schema) f.1.rows) files
 abbrev pub RewrittenStoresTheSame : Type 0
 RewrittenStoresTheSame =
     (files : List File) (c d : CheckedTree) → IsTrue (is_of files c) → AreTyped files → IsRewritten c d
-    → (stored_by files d ≡ stored_by files c) × ((rules : ℕ → PrefixRule) → checked_fault rules files d ≡ checked_fault rules files c)
+    → (stored_by files d ≡ stored_by files c) × ((rules : ℕ → FaultRule) → checked_fault rules files d ≡ checked_fault rules files c)

@@ -39,6 +39,10 @@ pub enum PlanNote {
         pushed: u32,
         kept: u64,
     },
+    /// The rows of each item that are joined, where those that are in no answer are gone.
+    Reduced(Counts),
+    /// No row is gone before the join: its items go round in a ring.
+    ReduceCyclic,
     /// A join variable: its number from 1, its columns, and where cells are used the parts that it
     /// is spread over.
     Variable {

@@ -39,6 +39,8 @@ pub struct Settings {
     pub shuffle: ShuffleKind,
     /// How a worker joins.
     pub local: JoinKind,
+    /// Whether the rows that are in no answer go before a join sends any.
+    pub reduce: bool,
     pub ghost workers_in_range: { (1 ≤ workers) × (workers ≤ most_workers) },
     pub ghost capacity_in_range: { (1 ≤ capacity) × (capacity ≤ most_capacity) },
     pub ghost batch_in_range: { (1 ≤ batch) × (batch ≤ most_batch) },
@@ -53,9 +55,10 @@ impl Settings {
         seed: u64,
         shuffle: ShuffleKind,
         local: JoinKind,
+        reduce: bool,
     ) -> Option<Settings>
         ensures numbers { IfSome result (λ s. (s.workers ≡ workers) × (s.capacity ≡ capacity) × (s.batch ≡ batch)) }
-        ensures choices { IfSome result (λ s. (s.seed ≡ seed) × (s.shuffle ≡ shuffle) × (s.local ≡ local)) }
+        ensures choices { IfSome result (λ s. (s.seed ≡ seed) × (s.shuffle ≡ shuffle) × (s.local ≡ local) × (s.reduce ≡ reduce)) }
         ensures within { IsSome result ↔ ((1 ≤ workers) × (workers ≤ most_workers)
             × (1 ≤ capacity) × (capacity ≤ most_capacity) × (1 ≤ batch) × (batch ≤ most_batch)) }
     {
@@ -72,6 +75,7 @@ impl Settings {
             seed,
             shuffle,
             local,
+            reduce,
         })
     }
 }

@@ -310,7 +310,7 @@ pub fault-of_a_prefix : join_fault 3 true [] (past_the_end ∷ []) (Some agg.Sum
 fault-of_a_prefix = refl
 
 -- the arithmetic conjunct of a comprehension is evaluated on candidates alone
-pub fault-of_a_product : map (λ rows. comprehension_fault Counted 1 (3 ∷ 1 ∷ [])
+pub fault-of_a_product : map (λ rows. comprehension_fault (record { prefixes = Counted; reduce = false }) 1 (3 ∷ 1 ∷ [])
     (record { conjuncts = with_product; emits = At 0 ∷ []; aggregates = None ∷ [] }) (with_large ∷ rows ∷ [])) (column (1 ∷ []) ∷ column (2 ∷ []) ∷ [])
     ≡ None ∷ Some (fault.Overflow 1) ∷ []
 fault-of_a_product = refl

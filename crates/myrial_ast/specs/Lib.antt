@@ -10,4 +10,6 @@ pub mod Groups
 pub mod Partials
 pub mod Classes
 pub mod KeptRows
+pub mod JoinTrees
+pub mod ReducedRows
 pub mod CandidateFaults

@@ -16,7 +16,7 @@ use Rattle.myrial_ast.specs.declared.relations.Operand.TheVariants as operand
 use Rattle.myrial_ast.specs.Trees.{Name, RelTree, StatementTree}
 use Rattle.myrial_ast.specs.Trees as tree
 use Rattle.myrial_ast.specs.Bags.{distinct}
-use Rattle.myrial_ast.specs.CandidateFaults.{Uncounted, too_many, comprehension_fault}
+use Rattle.myrial_ast.specs.CandidateFaults.{joins_alone, too_many, comprehension_fault}
 use Rattle.myrial_scopes.specs.Scopes.{same_name, scope_of}
 use Rattle.myrial_scopes.specs.Emits.{Resolved, resolved}
 use Rattle.myrial_meaning.specs.Environments.{assigned_to, kept_under, operand_of, with_key, with_name}
@@ -102,7 +102,7 @@ module _ (files : List File) (there here : RelationEnvironment) where
 
   -- and has the same fault
   pub relation_fault-agrees : (number : ℕ) (r : RelTree) → AgreesOn (λ name. mentions name r) there here
-      → relation_fault Uncounted number files there r ≡ relation_fault Uncounted number files here r
+      → relation_fault joins_alone number files there r ≡ relation_fault joins_alone number files here r
   relation_fault-agrees number (tree.Copy o) agrees = refl
   relation_fault-agrees number (tree.Empty schema) agrees = refl
   relation_fault-agrees number (tree.Distinct o) agrees = refl
@@ -111,7 +111,7 @@ module _ (files : List File) (there here : RelationEnvironment) where
       (relation-agrees (tree.UnionAll o p) agrees)
   relation_fault-agrees number (tree.Diff o p) agrees = refl
   relation_fault-agrees number (tree.From items condition emits) agrees =
-      ap (option_and_then (λ sources. option_and_then (λ (b : Resolved). comprehension_fault Uncounted number (widths_of sources) b.comprehension (tables_of sources))
+      ap (option_and_then (λ sources. option_and_then (λ (b : Resolved). comprehension_fault joins_alone number (widths_of sources) b.comprehension (tables_of sources))
       (resolved (scope_of (items_of sources)) condition emits))) (sources-agree items agrees)
 
 -- ---- one statement

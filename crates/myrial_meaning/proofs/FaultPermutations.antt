@@ -17,7 +17,7 @@ use Rattle.myrial_ast.specs.Trees as tree
 use Rattle.myrial_ast.specs.Scalars.{plain_of, arithmetic_of}
 use Rattle.myrial_ast.specs.Combinations.{Rows, Comprehension, candidates, listed_from}
 use Rattle.myrial_ast.specs.Groups.{groups, sum_fits, sums_fit}
-use Rattle.myrial_ast.specs.CandidateFaults.{Uncounted, comprehension_fault, overflows_on, too_many}
+use Rattle.myrial_ast.specs.CandidateFaults.{joins_alone, comprehension_fault, overflows_on, too_many}
 use Rattle.myrial_scopes.specs.Scopes.{ItemSchema, scope_of}
 use Rattle.myrial_scopes.specs.Emits.{Resolved, resolved}
 use Rattle.bag_laws.specs.Permuted.{SameTables}
@@ -34,7 +34,7 @@ use Rattle.myrial_meaning.proofs.ComprehensionLemmas.{whole_fault}
 -- ---- comprehensions
 
 comprehension_fault-same : (number : ℕ) (widths : List ℕ) (c : Comprehension) (tables others : List Rows) → SameTables tables others
-    → comprehension_fault Uncounted number widths c tables ≡ comprehension_fault Uncounted number widths c others
+    → comprehension_fault joins_alone number widths c tables ≡ comprehension_fault joins_alone number widths c others
 comprehension_fault-same number widths c tables others same =
     λ i. whole_fault number (many i) (over i) (sums i)
   where
@@ -63,18 +63,18 @@ widths-items [] = refl
 widths-items (s ∷ sources) = ap (λ (ns : List ℕ). length s.table.schema ∷ ns) (widths-items sources)
 
 over-same : (number : ℕ) (condition : Option Tree) (emits : List EmitTree) (sources others : List ItemRelation) → Alike SameSource sources others
-    → option_and_then (λ (b : Resolved). comprehension_fault Uncounted number (widths_of sources) b.comprehension (tables_of sources)) (resolved (scope_of (items_of sources)) condition emits)
-    ≡ option_and_then (λ (b : Resolved). comprehension_fault Uncounted number (widths_of others) b.comprehension (tables_of others)) (resolved (scope_of (items_of others)) condition emits)
+    → option_and_then (λ (b : Resolved). comprehension_fault joins_alone number (widths_of sources) b.comprehension (tables_of sources)) (resolved (scope_of (items_of sources)) condition emits)
+    ≡ option_and_then (λ (b : Resolved). comprehension_fault joins_alone number (widths_of others) b.comprehension (tables_of others)) (resolved (scope_of (items_of others)) condition emits)
 over-same number condition emits sources others same =
-    (λ i. option_and_then (λ (b : Resolved). comprehension_fault Uncounted number (widths i) b.comprehension (tables_of sources)) (resolved (scope_of (items-same same i)) condition emits))
+    (λ i. option_and_then (λ (b : Resolved). comprehension_fault joins_alone number (widths i) b.comprehension (tables_of sources)) (resolved (scope_of (items-same same i)) condition emits))
     ∙ by (resolved (scope_of (items_of others)) condition emits)
   where
     widths : widths_of sources ≡ widths_of others
     widths = widths-items sources ∙ ap (map (λ (s : ItemSchema). length s.schema)) (items-same same) ∙ sym (widths-items others)
 
     by : (found : Option Resolved)
-        → option_and_then (λ (b : Resolved). comprehension_fault Uncounted number (widths_of others) b.comprehension (tables_of sources)) found
-        ≡ option_and_then (λ (b : Resolved). comprehension_fault Uncounted number (widths_of others) b.comprehension (tables_of others)) found
+        → option_and_then (λ (b : Resolved). comprehension_fault joins_alone number (widths_of others) b.comprehension (tables_of sources)) found
+        ≡ option_and_then (λ (b : Resolved). comprehension_fault joins_alone number (widths_of others) b.comprehension (tables_of others)) found
     by None = refl
     by (Some b) = comprehension_fault-same number (widths_of others) b.comprehension (tables_of sources) (tables_of others) (tables-same same)
 
@@ -86,7 +86,7 @@ matched-and_then R f g step (both x y same) = step x y same
 -- ---- statements
 
 module _ (files : List File) (files-same : Alike (SameEntry {K = Key}) files files) (there here : RelationEnvironment) (same : SameEnvironment there here) where
-  relation_fault-same : (number : ℕ) (r : RelTree) → relation_fault Uncounted number files there r ≡ relation_fault Uncounted number files here r
+  relation_fault-same : (number : ℕ) (r : RelTree) → relation_fault joins_alone number files there r ≡ relation_fault joins_alone number files here r
   relation_fault-same number (tree.Copy o) = refl
   relation_fault-same number (tree.Empty schema) = refl
   relation_fault-same number (tree.Distinct o) = refl
@@ -98,12 +98,12 @@ module _ (files : List File) (files-same : Alike (SameEntry {K = Key}) files fil
       (relation-same files files there here files-same same (tree.UnionAll o p))
   relation_fault-same number (tree.From items condition emits) =
       matched-and_then (Alike SameSource)
-      (λ sources. option_and_then (λ (b : Resolved). comprehension_fault Uncounted number (widths_of sources) b.comprehension (tables_of sources)) (resolved (scope_of (items_of sources)) condition emits))
-      (λ sources. option_and_then (λ (b : Resolved). comprehension_fault Uncounted number (widths_of sources) b.comprehension (tables_of sources)) (resolved (scope_of (items_of sources)) condition emits))
+      (λ sources. option_and_then (λ (b : Resolved). comprehension_fault joins_alone number (widths_of sources) b.comprehension (tables_of sources)) (resolved (scope_of (items_of sources)) condition emits))
+      (λ sources. option_and_then (λ (b : Resolved). comprehension_fault joins_alone number (widths_of sources) b.comprehension (tables_of sources)) (resolved (scope_of (items_of sources)) condition emits))
       (λ sources others alike. over-same number condition emits sources others alike)
       (Matched-each SameSource (item_relation files there) (item_relation files here) (source-same files files there here files-same same) items)
 
-  pub statement_fault-permuted : (number : ℕ) (s : StatementTree) → statement_fault Uncounted number files there s ≡ statement_fault Uncounted number files here s
+  pub statement_fault-permuted : (number : ℕ) (s : StatementTree) → statement_fault joins_alone number files there s ≡ statement_fault joins_alone number files here s
   statement_fault-permuted number tree.Nothing = refl
   statement_fault-permuted number (tree.Store name key) = refl
   statement_fault-permuted number (tree.Assign name r) = relation_fault-same number r

@@ -6,7 +6,7 @@ use Rattle.std.specs.Prelude.{◌≡◌, ⊤, ℕ, List, Option, Some, option_an
 use Rattle.rel_base.specs.declared.faults.RunFault.{RunFault}
 use Rattle.rel_base.specs.declared.faults.RunFault.TheVariants as fault
 use Rattle.myrial_ast.specs.Trees.{Tree, EmitTree}
-use Rattle.myrial_ast.specs.CandidateFaults.{Uncounted, comprehension_fault}
+use Rattle.myrial_ast.specs.CandidateFaults.{joins_alone, comprehension_fault}
 use Rattle.myrial_scopes.specs.Scopes.{scope_of}
 use Rattle.myrial_scopes.specs.Emits.{Resolved, resolved}
 use Rattle.myrial_meaning.specs.Meaning.{ItemRelation, items_of, tables_of}
@@ -15,7 +15,7 @@ use Rattle.myrial_meaning.specs.Faults.{widths_of}
 -- the fault of a comprehension over these items, in a statement of this number
 abbrev pub fault_over : ℕ → List ItemRelation → Option Tree → List EmitTree → Option RunFault
 fault_over number sources condition emits =
-    option_and_then (λ (b : Resolved). comprehension_fault Uncounted number (widths_of sources) b.comprehension (tables_of sources))
+    option_and_then (λ (b : Resolved). comprehension_fault joins_alone number (widths_of sources) b.comprehension (tables_of sources))
     (resolved (scope_of (items_of sources)) condition emits)
 
 -- the fault is the given one; memory may be refused at any time

@@ -2,7 +2,7 @@
 ghost use Rattle.std.specs.Prelude.{◌≡◌, IsTrue, None, map, IfOk, OnOk, IfErr, false};
 ghost use Rattle.myrial_ast.specs.Trees.{trees_of};
 ghost use Rattle.myrial_meaning.specs.Meaning.{stored_relations};
-ghost use Rattle.myrial_ast.specs.CandidateFaults.{Uncounted};
+ghost use Rattle.myrial_ast.specs.CandidateFaults.{joins_alone};
 ghost use Rattle.myrial_meaning.specs.Faults.{run_fault};
 ghost use Rattle.myrial_meaning.specs.Runnable.{has_meaning};
 ghost use Rattle.myrial_meaning.specs.SortedFiles.{sorted_file};
@@ -21,8 +21,8 @@ use std::alloc::Global;
 pub fn evaluate<'a>(alloc: Global, script: &'a Script, files: &'a Files) -> Result<Stored, RunFault>
     requires meaning { IsTrue (has_meaning files.now (trees_of script.now)) }
     ensures stored { IfOk result (λ stored. stored ≡ map sorted_file (stored_relations files.entry.now (trees_of script.entry.now))) }
-    ensures no_fault { OnOk result (run_fault Uncounted files.entry.now (trees_of script.entry.now) ≡ None) }
-    ensures fault { IfErr result (λ fault. IsFault fault (run_fault Uncounted files.entry.now (trees_of script.entry.now))) }
+    ensures no_fault { OnOk result (run_fault joins_alone files.entry.now (trees_of script.entry.now) ≡ None) }
+    ensures fault { IfErr result (λ fault. IsFault fault (run_fault joins_alone files.entry.now (trees_of script.entry.now))) }
 {
     let needed = needed_flags(alloc, script.as_slice())?;
     let mut names = Environment::new(alloc);
