@@ -27,12 +27,13 @@ use Rattle.algebra.specs.Meanings.{needed_steps, is_used}
 use Rattle.algebra.specs.ShapeConditions.{all_different}
 use Rattle.algebra.proofs.ShapeLemmas.{both}
 use Rattle.placement.specs.Destinations.{cells, destinations, agrees, fixed_by, meeting_cell}
-use Rattle.placement.specs.Layouts.{PlacedRelation, placed_nothing, Placing, Shuffle, ByCells, ByKeys, Broadcast, parts_by_home, rows_of, prefix_key, item_key, last_atom, staying_atom, join_parts, listed_parts, term_parts, placed_source, placed_steps}
+use Rattle.placement.specs.Layouts.{PlacedRelation, placed_nothing, Placing, Shuffle, ByCells, ByKeys, Broadcast, parts_by_home, rows_of, prefix_key, item_key, last_atom, staying_atom, join_parts, listed_parts, term_parts, placed_source, placed_steps, joined_items}
 use Rattle.placement.specs.Exchanges.{PlacedExchange, kept_parts, prefix_parts, by_cells, by_broadcast, by_keys, cells_exchange, broadcast_exchange, key_exchange, shuffle_exchanges, join_exchanges, to_home, whole_row, row_exchange, partial_sending, group_exchange, term_exchanges}
 use Rattle.row_exchange.specs.Moves.{Move, Sending, moves_of_row, moves_of_atom}
 use Rattle.placement.specs.Receiving.{GoesOnce}
 use Rattle.placement.specs.Laws.{IsPlaced, IsSharing, IsPlacing, AreWorkers, DestinationsAreWorkers, AreAmong, IsBalanced, MovesBalance, ExchangesBalance}
 use Rattle.placement.proofs.CellLemmas.{All-flat_map}
+use Rattle.placement.proofs.JoinedLemmas.{joined_are_joined}
 use Rattle.row_exchange.proofs.MoveLemmas.{map-flat_map}
 use Rattle.placement.proofs.ScriptLemmas.{HasSources, home_of-lt, get_or-All, nothing_IsPlaced, All-made, steps-sources, checked-steps, steps-IsPlaced, found-IsPlaced}
 use Rattle.placement.proofs.PrefixLemmas.{map-through}
@@ -336,13 +337,13 @@ met-sends n seed ByKeys shape given parts some sharing all =
 
 join-sends : (p : Placing) (number : ℕ) (shape : Shape) (given : List PlacedRelation) → IsPlacing p → All (IsPlaced p.workers) given → All (Sends p.workers) (join_exchanges p number shape given)
 join-sends p number shape [] good all =
-    let items = p.joined shape [] in
-    met-sends p.workers p.seed (p.shuffle number shape (rows_of items)) shape items (listed_parts p number shape []) good.some_worker (good.sharing number shape (rows_of items)) ((good.joined shape []).placed all)
+    let items = joined_items p.reduce shape [] in
+    met-sends p.workers p.seed (p.shuffle number shape (rows_of items)) shape items (listed_parts p number shape []) good.some_worker (good.sharing number shape (rows_of items)) ((joined_are_joined p.workers p.reduce shape []).placed all)
 join-sends p number shape (one ∷ []) good all = All-nil (Sends p.workers)
 join-sends p number shape (one ∷ two ∷ more) good all =
     let given = one ∷ two ∷ more in
-    let items = p.joined shape given in
-    met-sends p.workers p.seed (p.shuffle number shape (rows_of items)) shape items (listed_parts p number shape given) good.some_worker (good.sharing number shape (rows_of items)) ((good.joined shape given).placed all)
+    let items = joined_items p.reduce shape given in
+    met-sends p.workers p.seed (p.shuffle number shape (rows_of items)) shape items (listed_parts p number shape given) good.some_worker (good.sharing number shape (rows_of items)) ((joined_are_joined p.workers p.reduce shape given).placed all)
 
 -- ---- the exchanges of a script
 
@@ -368,13 +369,13 @@ met-long n seed Broadcast shape given all =
 
 listed-parts-long : (p : Placing) (number : ℕ) (shape : Shape) (given : List PlacedRelation) → IsPlacing p → All (IsPlaced p.workers) given → length (listed_parts p number shape given) ≡ p.workers
 listed-parts-long p number shape [] good all =
-    let items = p.joined shape [] in
-    met-long p.workers p.seed (p.shuffle number shape (rows_of items)) shape items ((good.joined shape []).placed all)
+    let items = joined_items p.reduce shape [] in
+    met-long p.workers p.seed (p.shuffle number shape (rows_of items)) shape items ((joined_are_joined p.workers p.reduce shape []).placed all)
 listed-parts-long p number shape (one ∷ []) good all =
     length-map one.parts (λ own. listed_of shape (own ∷ [])) ∙ (All-head (IsPlaced p.workers) one [] all).each_worker
 listed-parts-long p number shape (one ∷ two ∷ more) good all =
-    let items = p.joined shape (one ∷ two ∷ more) in
-    met-long p.workers p.seed (p.shuffle number shape (rows_of items)) shape items ((good.joined shape (one ∷ two ∷ more)).placed all)
+    let items = joined_items p.reduce shape (one ∷ two ∷ more) in
+    met-long p.workers p.seed (p.shuffle number shape (rows_of items)) shape items ((joined_are_joined p.workers p.reduce shape (one ∷ two ∷ more)).placed all)
 
 term-sends : (p : Placing) (number : ℕ) (value : Source → PlacedRelation) (t : TermTree) → IsPlacing p → HasSources t → ((o : Source) → IsPlaced p.workers (value o))
     → All (Sends p.workers) (term_exchanges p number value t)

@@ -5,9 +5,13 @@ pub mod ScriptLemmas
 pub mod StoredLemmas
 pub mod ReadyLemmas
 pub mod UsualLemmas
+pub mod MemberLemmas
+pub mod CombinationLemmas
 pub mod MeetingLemmas
 pub mod CellLemmas
 pub mod KeptLemmas
+pub mod ReducedLemmas
+pub mod JoinedLemmas
 pub mod PrefixLemmas
 pub mod AlikeLemmas
 pub mod MoveLemmas

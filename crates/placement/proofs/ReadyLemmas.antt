@@ -1,6 +1,6 @@
 -- The items of a script's joins are placed, and as wide as their atoms, whatever steps come later.
 use Rattle.std.proofs.Common.{◌≡◌, ℕ, ◌<◌, ◌≤◌, ◌==◌, Bool, true, false, cond, List, [], ◌∷◌, map, length, refl, ◌∙◌, subst, arith, Option, Some}
-use Rattle.std.specs.Prelude.{All, find, option_map, unwrap_or, fold, ◌&&◌, nat_lt, nat_le, is_some, sum}
+use Rattle.std.specs.Prelude.{All, find, option_map, unwrap_or, fold, ◌&&◌, nat_lt, nat_le, sum}
 use Rattle.std.specs.List.{flat_map, list_all, zip}
 use Rattle.std.specs.Cmp.Lexicographic.{pointwise}
 use Rattle.std.proofs.lemmas.Bool.{eqb-true, ltb-true}
@@ -9,7 +9,6 @@ use Rattle.std.proofs.lemmas.List.{length-append, length-map}
 use Rattle.std.proofs.lemmas.List.Elements.{All-nil, All-cons, All-head, All-tail, All-weaker}
 use Rattle.std.proofs.lemmas.List.Sums.{sum_by-cons}
 use Rattle.rel_base.specs.declared.values.ColType.{ColType}
-use Rattle.rel_base.specs.declared.values.ColType.TheVariants as kind
 use Rattle.rel_base.specs.Keys.{File}
 use Rattle.myrial_ast.specs.declared.operators.AggOp.{AggOp}
 use Rattle.myrial_ast.specs.Scalars.{Scalar}

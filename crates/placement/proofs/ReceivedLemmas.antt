@@ -25,7 +25,7 @@ use Rattle.algebra.specs.Trees.{Shape}
 use Rattle.algebra.specs.Shapes.{widths_of, tests_of, ties_of, tie_test, candidates_of, kept_of, listed_of, prefix_of}
 use Rattle.placement.specs.Destinations.{destinations, is_destination, meeting_cell}
 use Rattle.placement.specs.Exchanges.{kept_parts, by_cells, prefix_parts, by_keys, partial_sending}
-use Rattle.placement.specs.Layouts.{PlacedRelation, Placing, Shuffle, ByCells, ByKeys, Broadcast, placed_nothing, rows_of, together, parts_by_home, prefix_key, item_key, last_atom, staying_atom, join_parts, listed_parts, parts_by_key}
+use Rattle.placement.specs.Layouts.{PlacedRelation, Placing, Shuffle, ByCells, ByKeys, Broadcast, placed_nothing, rows_of, together, parts_by_home, prefix_key, item_key, last_atom, staying_atom, join_parts, listed_parts, parts_by_key, joined_items}
 use Rattle.placement.specs.Laws.{IsPlaced, AreWide, prefix_is_at, item_is_at, extended}
 use Rattle.row_exchange.specs.Moves.{Sending, moves_of, rows_given, all_given}
 use Rattle.placement.specs.Receiving.{GoesOnce, sent_to, CellsListWhatTheyAreGiven, StepsListWhatTheyAreGiven, ListedRowsAreGrouped, GroupsAreMerged}
@@ -233,12 +233,12 @@ join-grouped kinds n seed Broadcast shape given e =
 
 pub listed_rows_are_grouped : ListedRowsAreGrouped
 listed_rows_are_grouped p number shape [] kinds e =
-    let items = p.joined shape [] in
+    let items = joined_items p.reduce shape [] in
     join-grouped kinds p.workers p.seed (p.shuffle number shape (rows_of items)) shape items e
 listed_rows_are_grouped p number shape (one ∷ []) kinds e =
     All-made (AreGrouped kinds) (λ own. listed_of shape (own ∷ [])) (λ own. listed-grouped kinds shape e (candidates_of shape (own ∷ []))) one.parts
 listed_rows_are_grouped p number shape (one ∷ two ∷ more) kinds e =
-    let items = p.joined shape (one ∷ two ∷ more) in
+    let items = joined_items p.reduce shape (one ∷ two ∷ more) in
     join-grouped kinds p.workers p.seed (p.shuffle number shape (rows_of items)) shape items e
 
 -- ---- groups

@@ -4,12 +4,8 @@ use Rattle.std.specs.Prelude.{filter, All, find, option_map, unwrap_or, slice_in
 use Rattle.std.specs.Cmp.Lexicographic.{pointwise}
 use Rattle.std.proofs.lemmas.Bool.{ltb-true}
 use Rattle.rel_base.specs.declared.values.ColType.{ColType}
-use Rattle.rel_base.specs.declared.values.ColType.TheVariants as kind
-use Rattle.std.specs.Prelude.{is_some}
-use Rattle.std.specs.List.{flat_map}
-use Rattle.algebra.specs.ShapeConditions.{all_different}
 use Rattle.algebra.specs.Conditions.{has_kinds, emits_columns}
-use Rattle.algebra.specs.ShapeConditions.{is_atom, is_shape, is_plain_test, is_kind, kind_in, kinds_of, are_variables, are_scalars}
+use Rattle.algebra.specs.ShapeConditions.{is_atom, is_shape, is_kind, kind_in, kinds_of, are_variables, are_scalars}
 use Rattle.rel_base.specs.Limits.{most_items}
 use Rattle.algebra.specs.Trees.{AtomTree}
 use Rattle.std.specs.List.{range_with_len, enumerate_from, zip}
@@ -44,9 +40,10 @@ use Rattle.std.specs.Prelude.{IsTrue, nat_lt}
 use Rattle.std.specs.List.{list_all}
 use Rattle.placement.proofs.WidthLemmas.{Knows, ItemsAreWide, three, pointwise-length, items-wide, term-long, nothing-known, more-known}
 use Rattle.placement.specs.Destinations.{coordinate_in, meeting_cell}
-use Rattle.placement.specs.Layouts.{PlacedRelation, Placing, Shuffle, ByCells, ByKeys, Broadcast, placed_nothing, parts_by_home, part, together, placed_file, placed_files, prefix_key, last_atom, staying_atom, is_most, rows_of, join_parts, listed_parts, term_parts, placed_source, placed_step, placed_steps}
+use Rattle.placement.specs.Layouts.{PlacedRelation, Placing, Shuffle, ByCells, ByKeys, Broadcast, placed_nothing, parts_by_home, part, together, placed_file, placed_files, prefix_key, last_atom, staying_atom, is_most, rows_of, join_parts, listed_parts, term_parts, placed_source, placed_step, placed_steps, joined_items}
 use Rattle.placement.specs.Laws.{AreWide, IsPlaced, IsSharing, IsPlacing, PartsHoldTheRows}
 use Rattle.placement.proofs.TogetherLemmas.{dealt-together, listed_dealt}
+use Rattle.placement.proofs.JoinedLemmas.{joined_are_joined}
 use Rattle.placement.proofs.StepLemmas.{file-IsPlaced, union-together, listed-parts}
 
 -- ---- homes are workers
@@ -168,8 +165,8 @@ join-AreParts p number shape (one ∷ []) good wide sources placed =
     (length-map one.parts (λ own. listed_of shape (own ∷ [])) ∙ own.each_worker, cut-together p.workers shape (one ∷ []) 0 (omega arith) own)
 join-AreParts p number shape (one ∷ two ∷ more) good wide sources placed =
     let given = one ∷ two ∷ more in
-    let items = p.joined shape given in
-    let same = good.joined shape given in
+    let items = joined_items p.reduce shape given in
+    let same = joined_are_joined p.workers p.reduce shape given in
     subst (λ rows. AreParts p.workers (listed_from shape.arith shape.emits rows) (listed_parts p number shape given)) (same.candidates wide)
     (met-AreParts p.workers p.seed (p.shuffle number shape (rows_of items)) shape items good.some_worker
     (good.sharing number shape (rows_of items)) (omega (arith, same.as_many, sources)) (same.placed placed))

@@ -1,5 +1,5 @@
--- By settings, all rows are joined, and no join has more cells than there are workers.
-use Rattle.std.proofs.Common.{ℕ, ◌≤◌, List, length, refl}
+-- By settings, no join has more cells than there are workers.
+use Rattle.std.proofs.Common.{ℕ, ◌≤◌, List, length}
 use Rattle.myrial_ast.specs.Combinations.{Rows}
 use Rattle.algebra.specs.declared.settings.ShuffleKind.{ShuffleKind}
 use Rattle.algebra.specs.declared.settings.ShuffleKind.TheVariants as shuffle_kind
@@ -17,6 +17,5 @@ usual-sharing shuffle_kind.Br n shape given some = tt
 pub usual_is_placing : UsualIsPlacing
 usual_is_placing s some = record {
   some_worker = some;
-  joined = λ shape given. record { as_many = refl; placed = λ all. all; candidates = λ wide. refl };
   sharing = λ number shape given. usual-sharing s.shuffle s.workers shape given some;
 }

@@ -1,18 +1,17 @@
 -- Worked cases of placement, traffic and plans, computed: a wrong definition does not check. The numbers are those of a program
 -- that was written apart from these definitions. The hash seed is 0.
-use Rattle.std.proofs.Common.{◌≡◌, ℕ, ◌==◌, true, List, [], ◌∷◌, map, filter, length, codes, cond, refl, Some, None}
-use Rattle.std.specs.Prelude.{pos, negsuc, nat_lt}
+use Rattle.std.proofs.Common.{◌≡◌, ℕ, ◌==◌, true, List, [], ◌∷◌, map, length, codes, cond, refl, Some, None, false}
+use Rattle.std.specs.Prelude.{pos, negsuc}
 use Rattle.rel_base.specs.declared.names.Key.{Key}
 use Rattle.rel_base.specs.declared.relations.Column.{Column}
 use Rattle.rel_base.specs.declared.values.ColType.{ColType}
 use Rattle.rel_base.specs.declared.values.ColType.TheVariants as kind
 use Rattle.rel_base.specs.declared.values.Value.{Value}
 use Rattle.rel_base.specs.declared.values.Value.TheVariants as value
-use Rattle.rel_base.specs.Codes.{code_of}
 use Rattle.rel_base.specs.Keys.{File}
 use Rattle.myrial_ast.specs.declared.operators.AggOp.TheVariants as agg
 use Rattle.myrial_ast.specs.declared.operators.BinOp.TheVariants as op
-use Rattle.myrial_ast.specs.Scalars.{Scalar, Lit, At, Bin, value_at}
+use Rattle.myrial_ast.specs.Scalars.{Scalar, Lit, At, Bin}
 use Rattle.myrial_ast.specs.Combinations.{Row, Rows}
 use Rattle.share_chooser.specs.Load as load
 use Rattle.algebra.specs.declared.notes.Exchange.{Exchange}
@@ -90,7 +89,7 @@ alone schema term = record { steps = step 1 schema term ∷ []; stores = store 2
 
 -- so many workers, and the usual way of a shuffle
 abbrev placing : ShuffleKind → ℕ → Placing
-placing kind n = record { workers = n; seed = 0; joined = λ shape given. given; shuffle = λ number. usual_shuffle kind n }
+placing kind n = record { workers = n; seed = 0; reduce = false; shuffle = λ number. usual_shuffle kind n }
 
 abbrev parts : ShuffleKind → ℕ → List File → CheckedTree → List (List Rows)
 parts kind n files c = map (λ (p : Key × PlacedRelation). p.1.parts) (placed_stores (placing kind n) files c)
@@ -514,7 +513,7 @@ abbrev by_statement : Placing
 by_statement = record {
   workers = 2;
   seed = 0;
-  joined = λ shape given. given;
+  reduce = false;
   shuffle = λ number shape given. cond (number == 1) (ByCells (2 ∷ [])) Broadcast;
 }
 
@@ -562,34 +561,32 @@ pub plan-join_and_group : planned shuffle_kind.Hc 2 named join_and_group
 unfolding load.comes_before load.load_of
 plan-join_and_group = refl
 
--- ---- fewer rows are joined: R = 0, 1, 2, 3 and S = 2, 3, each cut to its rows above 1, which have all candidates
+-- ---- reduced rows are joined: R = 0, 1, 2, 3 and S = 2, 3, of which the rows above 1 are in an answer
 
 abbrev some_match : List File
 some_match = file (codes "R") one_int (singles (0 ∷ 1 ∷ 2 ∷ 3 ∷ [])) ∷ file (codes "S") one_int (singles (2 ∷ 3 ∷ [])) ∷ []
 
-abbrev above_1 : Rows → Rows
-above_1 rows = filter (λ row. nat_lt 1 (code_of (value_at row 0))) rows
+abbrev reducing : ShuffleKind → ℕ → Placing
+reducing kind n = record { workers = n; seed = 0; reduce = true; shuffle = λ number. usual_shuffle kind n }
 
-abbrev cut_item : PlacedRelation → PlacedRelation
-cut_item p = record {
-  relation = record { schema = p.relation.schema; rows = above_1 p.relation.rows };
-  parts = map above_1 p.parts;
-}
-
-abbrev cutting : Placing
-cutting = record { workers = 2; seed = 0; joined = λ shape given. map cut_item given; shuffle = λ number. usual_shuffle shuffle_kind.Hc 2 }
-
-pub traffic-cut : traffic_of cutting some_match join_fours ≡ noted 1 exchange.Hc (0 ∷ 4 ∷ []) (0 ∷ 2 ∷ []) ∷ []
+pub traffic-reduced : traffic_of (reducing shuffle_kind.Hc 2) some_match join_fours ≡ noted 1 exchange.Hc (0 ∷ 4 ∷ []) (0 ∷ 2 ∷ []) ∷ []
 unfolding load.comes_before load.load_of
-traffic-cut = refl
+traffic-reduced = refl
 
-pub traffic-uncut : traffic shuffle_kind.Hc 2 some_match join_fours ≡ noted 1 exchange.Hc (1 ∷ 5 ∷ []) (0 ∷ 2 ∷ []) ∷ []
+pub traffic-not_reduced : traffic shuffle_kind.Hc 2 some_match join_fours ≡ noted 1 exchange.Hc (1 ∷ 5 ∷ []) (0 ∷ 2 ∷ []) ∷ []
 unfolding load.comes_before load.load_of
-traffic-uncut = refl
+traffic-not_reduced = refl
 
 -- the lines of items tell all rows and all kept rows, and the load those that are joined
-pub plan-cut : plan_of cutting local.Tj some_match join_fours
-    ≡ note.Statement 1 plan.From 2 ∷ note.Item 1 4 0 4 ∷ note.Item 2 2 0 2
+pub plan-reduced : plan_of (reducing shuffle_kind.Hc 2) local.Tj some_match join_fours
+    ≡ note.Statement 1 plan.From 2 ∷ note.Item 1 4 0 4 ∷ note.Item 2 2 0 2 ∷ note.Reduced (2 ∷ 2 ∷ [])
     ∷ note.Variable 1 ((1, 0) ∷ (2, 0) ∷ []) (Some 2) ∷ note.Hc local.Tj 2 4 2 ∷ []
 unfolding load.comes_before load.load_of
-plan-cut = refl
+plan-reduced = refl
+
+-- a triangle is cyclic, so that all of its rows are joined
+pub plan-reduced_triangle : plan_of (reducing shuffle_kind.Rs 2) local.Tj diagonals join_triangle
+    ≡ note.Statement 1 plan.From 3 ∷ note.Item 1 3 0 3 ∷ note.Item 2 3 0 3 ∷ note.Item 3 3 0 3 ∷ note.ReduceCyclic
+    ∷ note.Variable 1 ((1, 0) ∷ (3, 1) ∷ []) None ∷ note.Variable 2 ((1, 1) ∷ (2, 0) ∷ []) None
+    ∷ note.Variable 3 ((2, 1) ∷ (3, 0) ∷ []) None ∷ note.Rs local.Tj ∷ []
+plan-reduced_triangle = refl

@@ -22,7 +22,7 @@ use Rattle.algebra.specs.Shapes.{kept_of, prefix_of}
 use Rattle.algebra.specs.Meanings.{needed_steps}
 use Rattle.hash_partition.specs.Hashing.{home_of}
 use Rattle.placement.specs.Destinations.{destinations}
-use Rattle.placement.specs.Layouts.{PlacedRelation, placed_nothing, Placing, Shuffle, ByCells, ByKeys, Broadcast, by_worker, parts_by_home, rows_of, prefix_key, item_key, staying_atom, listed_parts, term_parts, placed_source, placed_steps}
+use Rattle.placement.specs.Layouts.{PlacedRelation, placed_nothing, Placing, Shuffle, ByCells, ByKeys, Broadcast, by_worker, parts_by_home, rows_of, joined_items, prefix_key, item_key, staying_atom, listed_parts, term_parts, placed_source, placed_steps}
 use Rattle.row_exchange.specs.Moves.{Move, Sending, moves_of, received}
 
 -- an exchange: its kind, the moves of its rows, and how many rows each worker lists after it
@@ -102,7 +102,7 @@ shuffle_exchanges n seed ByKeys shape given parts =
 abbrev pub join_exchanges : Placing → ℕ → Shape → List PlacedRelation → List PlacedExchange
 join_exchanges p number shape (one ∷ []) = []
 join_exchanges p number shape given =
-    let items = p.joined shape given in
+    let items = joined_items p.reduce shape given in
     shuffle_exchanges p.workers p.seed (p.shuffle number shape (rows_of items)) shape items (listed_parts p number shape given)
 
 -- ---- terms

@@ -7,6 +7,11 @@
 --   PlacedAreStored                the relations that are placed are those that the script stores
 --   JoinsAreReady                  the items of a script's joins are placed, and as wide as their atoms
 --   UsualIsPlacing                 what settings say is a placing
+--   ReducedHaveTheCandidates       a join of the reduced rows has the candidates of the join
+--   ReducedAreKept                 the reduced rows are kept rows
+--   JoinedAreJoined                what is joined is as the laws of joins ask
+--   JoinedAreOfBags                the order of rows changes what is joined in the order of its rows alone
+--   JoinedTakePart                 where a join is reduced, each row that is joined is in some combination that agrees
 --   DestinationsAreCells           the destinations of a row are the cells that agree with it
 --   DestinationsAreWorkers         they are below the number of cells, and none stands twice
 --   CandidatesMeetAtOneCell        the rows of a candidate all go to a worker exactly where it is the meeting cell
@@ -23,20 +28,21 @@ use Rattle.rel_base.specs.declared.names.Key.{Key}
 use Rattle.myrial_ast.specs.Scalars.{value_at}
 use Rattle.myrial_ast.specs.Combinations.{Row, Rows, combined_row}
 use Rattle.myrial_ast.specs.KeptRows.{passes_within, span_of_prefix}
+use Rattle.myrial_ast.specs.ReducedRows.{takes_part}
 use Rattle.bag_laws.specs.Permuted.{SameTables}
 use Rattle.hash_partition.specs.Hashing.{home_of}
 use Rattle.share_chooser.specs.Load.{product, IsShareVector}
 use Rattle.algebra.specs.declared.settings.Settings.{Settings}
 use Rattle.algebra.specs.declared.terms.Source.{Source}
 use Rattle.algebra.specs.Trees.{Shape, TermTree, Join, Group, StepTree, CheckedTree}
-use Rattle.algebra.specs.Shapes.{widths_of, tests_of, ties_of, candidates_of, kept_of, prefix_of}
+use Rattle.algebra.specs.Shapes.{widths_of, tests_of, ties_of, candidates_of, kept_of, prefix_of, kept_tables, reduced_of, reduced_tables, is_acyclic_shape}
 use Rattle.algebra.specs.Conditions.{is_of}
 use Rattle.algebra.specs.ShapeConditions.{all_different}
 use Rattle.algebra.specs.Meanings.{stored_by}
 use Rattle.algebra.specs.Rewriting.{AreTyped}
 use Rattle.placement.specs.Destinations.{IsDestination, destinations, is_destination, meeting_cell}
-use Rattle.placement.specs.Exchanges.{PlacedExchange, exchanges_of}
-use Rattle.placement.specs.Layouts.{PlacedRelation, Placing, Shuffle, ByCells, ByKeys, Broadcast, together, join_parts, rows_of, placed_source, placed_steps, placed_stores, prefix_key, item_key}
+use Rattle.placement.specs.Exchanges.{PlacedExchange, kept_parts, exchanges_of}
+use Rattle.placement.specs.Layouts.{PlacedRelation, Placing, Shuffle, ByCells, ByKeys, Broadcast, placed_nothing, together, joined_items, join_parts, rows_of, placed_source, placed_steps, placed_stores, prefix_key, item_key}
 use Rattle.row_exchange.specs.Moves.{Move, sent, received}
 use Rattle.placement.specs.Plans.{usual_placing}
 
@@ -66,10 +72,9 @@ pub record IsJoined (n : ℕ) (shape : Shape) (given items : List PlacedRelation
   pub candidates : AreWide (widths_of shape) (rows_of given)
       → candidates_of shape (rows_of items) ≡ candidates_of shape (rows_of given)
 
--- there are workers, what is joined has the same candidates, and no join has more cells than there are workers
+-- there are workers, and no join has more cells than there are
 pub record IsPlacing (p : Placing) : Type 0 where
   pub some_worker : 1 ≤ p.workers
-  pub joined : (shape : Shape) (given : List PlacedRelation) → IsJoined p.workers shape given (p.joined shape given)
   pub sharing : (number : ℕ) (shape : Shape) (given : List Rows) → IsSharing p.workers shape (p.shuffle number shape given)
 
 -- whatever a script stores is placed: all workers' rows together are its rows
@@ -108,9 +113,37 @@ JoinsAreReady =
     (p : Placing) (files : List File) (c : CheckedTree) → IsPlacing p → IsTrue (is_of files c) → AreTyped files
     → All (λ (s : StepTree). HasReadyItems p.workers (placed_source p files (placed_steps p files c.steps)) s.term) c.steps
 
--- by settings, all rows are joined, and no join has more cells than there are workers
+-- by settings, no join has more cells than there are workers
 abbrev pub UsualIsPlacing : Type 0
 UsualIsPlacing = (s : Settings) → 1 ≤ s.workers → IsPlacing (usual_placing s)
+
+-- ---- what is joined
+
+-- a join of the reduced rows has the candidates of the join
+abbrev pub ReducedHaveTheCandidates : Type 0
+ReducedHaveTheCandidates =
+    (shape : Shape) (tables : List Rows) → AreWide (widths_of shape) tables
+    → candidates_of shape (reduced_tables shape tables) ≡ candidates_of shape tables
+
+-- the reduced rows are kept rows
+abbrev pub ReducedAreKept : Type 0
+ReducedAreKept =
+    (shape : Shape) (tables : List Rows) (j : ℕ) (rows : Rows)
+    → kept_of shape j (reduced_of shape tables j rows) ≡ reduced_of shape tables j rows
+
+-- what is joined is as the laws of joins ask
+abbrev pub JoinedAreJoined : Type 0
+JoinedAreJoined =
+    (n : ℕ) (reduce : Bool) (shape : Shape) (given : List PlacedRelation)
+    → IsJoined n shape given (joined_items reduce shape given)
+
+-- where a join is reduced, each row of an item that is joined, and so each that is sent, takes part in some combination of kept
+-- rows that agrees on every variable
+abbrev pub JoinedTakePart : Type 0
+JoinedTakePart =
+    (shape : Shape) (given : List PlacedRelation) → IsTrue (is_acyclic_shape shape) → (j : ℕ)
+    → All (λ row. takes_part shape.variables (kept_tables shape (rows_of given)) j row ≡ true)
+    (together (kept_parts shape j (slice_index_or (joined_items true shape given) j (placed_nothing 0))))
 
 -- ---- where the rows of a candidate meet
 
@@ -205,6 +238,12 @@ abbrev pub PartsAreBags : Type 0
 PartsAreBags =
     (n seed : ℕ) (shuffle : Shuffle) (shape : Shape) (given others : List PlacedRelation) → AreSamePlaced given others
     → SameTables (join_parts n seed shuffle shape given) (join_parts n seed shuffle shape others)
+
+-- nor what is joined
+abbrev pub JoinedAreOfBags : Type 0
+JoinedAreOfBags =
+    (reduce : Bool) (shape : Shape) (given others : List PlacedRelation) → AreSamePlaced given others
+    → AreSamePlaced (joined_items reduce shape given) (joined_items reduce shape others)
 
 -- ---- what is sent is what is received
 

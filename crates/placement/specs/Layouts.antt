@@ -2,15 +2,16 @@
 --
 --   PlacedRelation                     a relation, and its rows at each worker
 --   Shuffle                            how the rows of a join's atoms come together
---   Placing                            the workers, the hash seed, and for each join its items and its shuffle
+--   Placing                            the workers, the hash seed, whether joins are reduced, and the shuffle of each
 --   placed_file n relation             a file's rows, dealt to the workers in turn
 --   prefix_key, item_key               the keys of a step of a join that goes two at a time
 --   staying_atom shape given           the atom whose rows stay where they lie
+--   joined_items reduce shape given    what is joined: reduced rows, where they are asked for and can be had
 --   join_parts n seed shuffle ..       the rows that each worker lists of a join
 --   term_parts p number value t        the rows of a term at each worker
 --   placed_step p files results s      the relation of a step with its parts
 --   placed_stores p files checked      what a checked script stores, with the parts at each worker
-use Rattle.std.specs.Prelude.{ℕ, ◌-◌, ◌%◌, Bool, not, ◌&&◌, ◌==◌, nat_lt, List, [], ◌∷◌, ◌++◌, map, filter, length, set, slice_index_or, find, unwrap_or}
+use Rattle.std.specs.Prelude.{ℕ, ◌-◌, ◌%◌, Bool, not, ◌&&◌, if◌then◌else◌, ◌==◌, nat_lt, List, [], ◌∷◌, ◌++◌, map, filter, length, set, slice_index_or, find, unwrap_or}
 use Rattle.std.specs.List.{flat_map, enumerate_from, range_with_len, list_any}
 use Rattle.rel_base.specs.declared.names.Key.{Key}
 use Rattle.rel_base.specs.Keys.{File}
@@ -22,7 +23,7 @@ use Rattle.myrial_ast.specs.KeptRows.{Span, lies_in, span_of_item, span_of_prefi
 use Rattle.algebra.specs.declared.terms.Source.{Source}
 use Rattle.algebra.specs.declared.terms.StoreStep.{StoreStep}
 use Rattle.algebra.specs.Trees.{Shape, TermTree, Same, Empty, UnionAll, Diff, Distinct, Join, Group, StepTree, CheckedTree}
-use Rattle.algebra.specs.Shapes.{widths_of, candidates_of, kept_of, listed_of}
+use Rattle.algebra.specs.Shapes.{widths_of, candidates_of, kept_of, reduced_of, is_acyclic_shape, listed_of}
 use Rattle.algebra.specs.Meanings.{found, run, term_rows, no_relation}
 use Rattle.hash_partition.specs.Hashing.{home_of}
 use Rattle.placement.specs.Destinations.{first_in, meeting_cell}
@@ -39,12 +40,12 @@ pub data Shuffle : Type 0 where
   ByKeys : Shuffle
   Broadcast : Shuffle
 
--- the number of workers and the hash seed; for each join the items whose rows are joined, and its shuffle, which is a value of
--- its own for each statement and may depend on these rows
+-- the number of workers and the hash seed; whether rows that are in no answer go before a join; and for each join its shuffle,
+-- which is a value of its own for each statement and may depend on the rows that are joined
 pub record Placing : Type 0 where
   pub workers : ℕ
   pub seed : ℕ
-  pub joined : Shape → List PlacedRelation → List PlacedRelation
+  pub reduce : Bool
   pub shuffle : ℕ → Shape → List Rows → Shuffle
 
 -- the rows at worker w
@@ -114,6 +115,25 @@ staying_atom shape given =
 abbrev pub rows_of : List PlacedRelation → List Rows
 rows_of given = map (λ (p : PlacedRelation). p.relation.rows) given
 
+-- the reduced rows of an item, where they lie
+abbrev pub reduced_item : Shape → List Rows → ℕ → PlacedRelation → PlacedRelation
+reduced_item shape tables j p = record {
+  relation = record {
+    schema = p.relation.schema;
+    rows = reduced_of shape tables j p.relation.rows;
+  };
+  parts = map (reduced_of shape tables j) p.parts;
+}
+
+-- those of each item
+abbrev pub reduced_items : Shape → List PlacedRelation → List PlacedRelation
+reduced_items shape given =
+    map (λ (e : ℕ × PlacedRelation). reduced_item shape (rows_of given) e.0 e.1) (enumerate_from 0 given)
+
+-- what is joined: the reduced rows where they are asked for and the shape is acyclic, and else all
+abbrev pub joined_items : Bool → Shape → List PlacedRelation → List PlacedRelation
+joined_items reduce shape given = if reduce && is_acyclic_shape shape then reduced_items shape given else given
+
 -- the number of the last atom
 abbrev pub last_atom : Shape → ℕ
 last_atom shape = length shape.atoms - 1
@@ -135,7 +155,7 @@ join_parts n seed Broadcast shape given =
 abbrev pub listed_parts : Placing → ℕ → Shape → List PlacedRelation → List Rows
 listed_parts p number shape (one ∷ []) = map (λ own. listed_of shape (own ∷ [])) one.parts
 listed_parts p number shape given =
-    let items = p.joined shape given in
+    let items = joined_items p.reduce shape given in
     join_parts p.workers p.seed (p.shuffle number shape (rows_of items)) shape items
 
 -- ---- terms

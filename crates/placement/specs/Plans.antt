@@ -3,11 +3,12 @@
 --   pushed_of shape j                   how many tests atom j's own columns are put to before the join
 --   uses_of shape                       the variables of each atom, as the bits of a number
 --   kept_sizes shape given              the numbers of kept rows
---   usual_placing settings              what settings say: all rows are joined, and by cells the shares are those of least load
+--   usual_placing settings              what settings say, with the shares of least load where joins are by cells
+--   reduce_notes reduce shape items     the line on what is joined
 --   join_notes p local number shape ..  the lines of a comprehension
 --   step_notes p local value s          the lines of a step
 --   plan_of p local files checked       the lines of the needed steps
-use Rattle.std.specs.Prelude.{ℕ, suc, ◌+◌, ◌-◌, ◌^◌, if◌then◌else◌, List, [], ◌∷◌, ◌++◌, map, filter, length, sum_by, slice_index_or, Option, Some, None, is_some, is_none}
+use Rattle.std.specs.Prelude.{ℕ, suc, ◌+◌, ◌-◌, ◌^◌, Bool, true, false, if◌then◌else◌, List, [], ◌∷◌, ◌++◌, map, filter, length, sum_by, slice_index_or, Option, Some, None, is_some, is_none}
 use Rattle.std.specs.List.{flat_map, enumerate_from, list_any}
 use Rattle.rel_base.specs.Keys.{File}
 use Rattle.myrial_ast.specs.Combinations.{Rows}
@@ -25,11 +26,11 @@ use Rattle.algebra.specs.declared.settings.Settings.{Settings}
 use Rattle.algebra.specs.declared.terms.Source.{Source}
 use Rattle.algebra.specs.declared.terms.Source.TheVariants as source
 use Rattle.algebra.specs.Trees.{Shape, TermTree, Same, Empty, UnionAll, Diff, Distinct, Join, Group, StepTree, CheckedTree}
-use Rattle.algebra.specs.Shapes.{widths_of, tests_of, kept_of}
+use Rattle.algebra.specs.Shapes.{widths_of, tests_of, kept_of, is_acyclic_shape}
 use Rattle.algebra.specs.Meanings.{needed_steps}
 use Rattle.share_chooser.specs.Load.{product, load_of}
 use Rattle.share_chooser.specs.Best.{best_shares}
-use Rattle.placement.specs.Layouts.{PlacedRelation, Placing, Shuffle, ByCells, ByKeys, Broadcast, rows_of, staying_atom, placed_source, placed_steps}
+use Rattle.placement.specs.Layouts.{PlacedRelation, Placing, Shuffle, ByCells, ByKeys, Broadcast, rows_of, joined_items, staying_atom, placed_source, placed_steps}
 
 -- the columns of a variable in atom j
 abbrev pub columns_in_atom : Shape → ℕ → List ℕ → List ℕ
@@ -62,12 +63,12 @@ usual_shuffle shuffle_kind.Hc workers shape given =
 usual_shuffle shuffle_kind.Rs workers shape given = ByKeys
 usual_shuffle shuffle_kind.Br workers shape given = Broadcast
 
--- the workers and the hash seed of the settings, all rows of the items, and one shuffle for all statements
+-- the workers and the hash seed of the settings, whether they have joins reduced, and one shuffle for all statements
 abbrev pub usual_placing : Settings → Placing
 usual_placing s = record {
   workers = s.workers;
   seed = s.seed;
-  joined = λ shape given. given;
+  reduce = s.reduce;
   shuffle = λ number. usual_shuffle s.shuffle s.workers;
 }
 
@@ -103,13 +104,20 @@ shuffle_note (ByCells shares) local shape given =
 shuffle_note ByKeys local shape given = note.Rs local
 shuffle_note Broadcast local shape given = note.Br local (suc (staying_atom shape given))
 
--- the lines of a comprehension: of its items, and where there are several of its variables and its shuffle
+-- where joins are reduced, the numbers of the rows that are joined, or that the shape is cyclic and all are
+abbrev pub reduce_notes : Bool → Shape → List Rows → List PlanNote
+reduce_notes false shape items = []
+reduce_notes true shape items =
+    (if is_acyclic_shape shape then note.Reduced (map (λ rows. length rows) items) else note.ReduceCyclic) ∷ []
+
+-- the lines of a comprehension: of its items, and where there are several of what is joined, of its variables and its shuffle
 abbrev pub join_notes : Placing → JoinKind → ℕ → Shape → List PlacedRelation → List PlanNote
 join_notes p local number shape (one ∷ []) = item_notes shape (rows_of (one ∷ []))
 join_notes p local number shape given =
-    let items = rows_of (p.joined shape given) in
+    let items = rows_of (joined_items p.reduce shape given) in
     let shuffle = p.shuffle number shape items in
-    item_notes shape (rows_of given) ++ variable_notes shuffle shape ++ shuffle_note shuffle local shape items ∷ []
+    item_notes shape (rows_of given) ++ reduce_notes p.reduce shape items ++ variable_notes shuffle shape
+    ++ shuffle_note shuffle local shape items ∷ []
 
 -- how many emitted columns are keys, and how many aggregates
 abbrev pub group_note : Kinds → PlanNote
