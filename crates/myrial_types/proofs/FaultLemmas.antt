@@ -15,7 +15,7 @@ use Rattle.rel_base.specs.declared.relations.Column.{Column}
 use Rattle.rel_base.specs.declared.values.ColType.{ColType}
 use Rattle.myrial_ast.specs.Trees.{Name, Tree, EmitTree, RelTree, StatementTree}
 use Rattle.myrial_ast.specs.Trees as tree
-use Rattle.myrial_ast.specs.CandidateFaults.{PrefixRule, too_many, overflows_on, comprehension_fault}
+use Rattle.myrial_ast.specs.CandidateFaults.{FaultRule, too_many, overflows_on, comprehension_fault}
 use Rattle.myrial_ast.specs.Classes.{equalities}
 use Rattle.myrial_ast.specs.Combinations.{Rows, Comprehension}
 use Rattle.myrial_ast.specs.Groups.{has_aggregate}
@@ -33,7 +33,7 @@ use Rattle.algebra.specs.declared.terms.Source.{Source}
 use Rattle.algebra.specs.declared.terms.StoreStep.{StoreStep}
 use Rattle.algebra.specs.Trees.{TermTree, Same, UnionAll, Diff, Distinct, Join, Group, StepTree, CheckedTree}
 use Rattle.algebra.specs.Meanings.{first_fault, has_long_prefix, is_used, needed_steps, shape_fault, step_relation, term_fault}
-use Rattle.algebra.specs.Shapes.{candidates_of, listed_of, shape_of}
+use Rattle.algebra.specs.Shapes.{candidates_of, joined_tables, listed_of, shape_of}
 use Rattle.algebra.specs.ShapeLaws.{InRange, widths_in}
 use Rattle.algebra.proofs.PrefixLemmas.{shape_faults_the_same}
 use Rattle.myrial_types.specs.Checking.{store_of, with_result}
@@ -54,7 +54,7 @@ widths-given files results (g ∷ given) =
     ∙ ap (λ ns. length (map (λ (c : Column). c.kind) g.meant.schema) ∷ ns) (widths-given files results given)
 
 -- where nothing is grouped, no sum can leave 64 bits
-ungrouped-fault : (rule : PrefixRule) (number : ℕ) (kinds : List (List ColType)) (c : Comprehension) (given : List Rows) → has_aggregate c.aggregates ≡ false
+ungrouped-fault : (rule : FaultRule) (number : ℕ) (kinds : List (List ColType)) (c : Comprehension) (given : List Rows) → has_aggregate c.aggregates ≡ false
     → shape_fault rule number (shape_of kinds c) c.aggregates given ≡ shape_fault rule number (shape_of kinds c) [] given
 ungrouped-fault rule number kinds c given e =
     let shape = shape_of kinds c in
@@ -63,7 +63,8 @@ ungrouped-fault rule number kinds c given e =
   where
     ends : Bool → Option RunFault
     ends fits =
-        if too_many (candidates_of (shape_of kinds c) given) || has_long_prefix rule (shape_of kinds c) given then Some (fault.TooManyRows number)
+        if too_many (candidates_of (shape_of kinds c) given)
+        || has_long_prefix rule.prefixes (shape_of kinds c) (joined_tables rule.reduce (shape_of kinds c) given) then Some (fault.TooManyRows number)
         else if list_any (overflows_on (shape_of kinds c).arith (shape_of kinds c).emits) (candidates_of (shape_of kinds c) given) then Some (fault.Overflow number)
         else if fits then None
         else Some (fault.AggregateOverflow number)
@@ -79,7 +80,7 @@ resolved-range given condition emits =
     by (Some cs) h None = tt
     by (Some cs) h (Some es) = h cs refl
 
-module _ (rule : PrefixRule) (files : List File) (results : Results) (env : RelationEnvironment) (names : Names)
+module _ (rule : FaultRule) (files : List File) (results : Results) (env : RelationEnvironment) (names : Names)
     (assigned : env.assigned ≡ map (named files results) names.assigned) (stored : env.stored ≡ map (named files results) names.stored) (number : ℕ) where
   abbrev rows_of : Source → Rows
   rows_of o = (value_of files results o).rows
@@ -157,7 +158,7 @@ module _ (rule : PrefixRule) (files : List File) (results : Results) (env : Rela
 -- ---- scripts
 
 -- a store of something earlier changes no fault of later steps
-fault-without : (rules : ℕ → PrefixRule) (files : List File) (number : ℕ) (s : StoreStep) (stores : List StoreStep) → IsBefore number s.source → (steps : List StepTree)
+fault-without : (rules : ℕ → FaultRule) (files : List File) (number : ℕ) (s : StoreStep) (stores : List StoreStep) → IsBefore number s.source → (steps : List StepTree)
     → All (λ (s : StepTree). number ≤ s.statement) steps → (results : Results) → first_fault rules files (s ∷ stores) results steps ≡ first_fault rules files stores results steps
 fault-without rules files number s stores h [] later results = refl
 fault-without rules files number s stores h (t ∷ steps) later results =
@@ -170,7 +171,7 @@ fault-without rules files number s stores h (t ∷ steps) later results =
     ∙ ap (λ rest. cond (is_some (cond (is_used t.statement stores (needed_steps stores steps)) own None)) (cond (is_used t.statement stores (needed_steps stores steps)) own None) rest)
     (fault-without rules files number s stores h steps behind ((t.statement, step_relation files results t) ∷ results))
 
-faults : (rule : PrefixRule) (files : List File) (number : ℕ) (names : Names) (script : List StatementTree) (c : CheckedTree) → Follows files number names script c
+faults : (rule : FaultRule) (files : List File) (number : ℕ) (names : Names) (script : List StatementTree) (c : CheckedTree) → Follows files number names script c
     → (results : Results) (env : RelationEnvironment) → Agrees files number results env names → AllBefore number names
     → first_fault (λ other. rule) files c.stores results c.steps ≡ fault_from rule files number env script
 faults rule files _ _ _ _ (at_end number names) results env a before = refl

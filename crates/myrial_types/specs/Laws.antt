@@ -15,7 +15,7 @@ use Rattle.std.specs.Option.{option_map_or}
 use Rattle.rel_base.specs.Limits.{most_columns, most_items, most_variables}
 use Rattle.rel_base.specs.Keys.{File}
 use Rattle.rel_base.specs.declared.names.Key.{Key}
-use Rattle.myrial_ast.specs.CandidateFaults.{PrefixRule}
+use Rattle.myrial_ast.specs.CandidateFaults.{FaultRule}
 use Rattle.myrial_ast.specs.Operands.{operands_of}
 use Rattle.myrial_ast.specs.Trees.{Name, RelTree, StatementTree}
 use Rattle.myrial_ast.specs.Trees as tree
@@ -63,7 +63,7 @@ StepsMeanTheScript =
 -- the fault of a run of the steps is that of the script, whether prefixes count or not
 abbrev pub StepsHaveTheFault : Type 0
 StepsHaveTheFault =
-    (rule : PrefixRule) (files : List File) (script : List StatementTree) (c : CheckedTree)
+    (rule : FaultRule) (files : List File) (script : List StatementTree) (c : CheckedTree)
     → IsTrue (have_forms files script) → checked_of files script ≡ Ok c
     → checked_fault (λ number. rule) files c ≡ run_fault rule files script
 

@@ -10,7 +10,7 @@ ghost use Rattle.myrial_meaning.specs.Fetches.{fetched_keys, fetches, has_key, k
 
 use crate::loads::{Load, form_among, push_loads};
 use indexmap::IndexSet;
-use myrial_ast::{Operand, RelExpr, Script, Stmt};
+use myrial_ast::{LoadForm, Operand, RelExpr, Script, Stmt};
 use myrial_meaning::{Fetch, Fetches};
 use rel_base::{Duplicate, Key, Keys, Memory, Text};
 use std::alloc::Global;
@@ -119,6 +119,23 @@ fn loads_of<'a>(alloc: Global, script: &'a [Stmt]) -> Result<Vec<Load<'a>>, Memo
     Ok(loads)
 }
 
+/// Adds the fetch of a key, whose file is loaded in this form or not loaded.
+fn push_fetch(
+    alloc: Global,
+    key: &Key,
+    form: Option<LoadForm>,
+    into: &mut Fetches,
+) -> Result<(), Memory>
+    ensures { OnOk result
+        (into.new ≡ into.old ++ record { key = key.now; form = form } ∷ []) }
+{
+    let key = key.copy(alloc)?;
+    if into.len() == u32::MAX {
+        return Err(Memory);
+    }
+    into.push(Fetch { key, form })
+}
+
 /// The files that a script needs, each once, in the order of their first scans and loads.
 ///
 /// A scan needs a file where no earlier statement stores its key; a load needs its file in any
@@ -131,11 +148,7 @@ pub fn fetches(alloc: Global, script: &Script) -> Result<Fetches, Memory>
     let mut found = Fetches::new(alloc);
     for key in keys.as_slice() {
         let form = form_among(alloc, &loads, key)?;
-        let key = key.copy(alloc)?;
-        if found.len() == u32::MAX {
-            return Err(Memory);
-        }
-        found.push(Fetch { key, form })?;
+        push_fetch(alloc, key, form, &mut found)?;
     }
     Ok(found)
 }

@@ -45,11 +45,21 @@ impl<'a> Meant<'a> {
 }
 
 /// An item of a comprehension: its alias, and what its operand stands for.
-#[derive(Drop)]
 pub(crate) struct MeantItem<'a> {
     alias: &'a Text,
     source: Source,
     schema: &'a Schema,
+}
+
+// Written out, since a derived drop is proved anew at each place where a value is let go.
+impl<'a> Drop for MeantItem<'a> {
+    fn drop(self) {
+        let MeantItem {
+            alias: _,
+            source: _,
+            schema: _,
+        } = self;
+    }
 }
 
 impl<'a> Model for MeantItem<'a> {

@@ -1,7 +1,7 @@
 //! The terms of comprehensions.
 ghost use Rattle.std.specs.Prelude.{◌≡◌, false, true, IfOk, MatchOption, is_some, map, sum};
 ghost use Rattle.std.specs.List.{list_any};
-ghost use Rattle.myrial_ast.specs.Classes.{equalities, equality};
+ghost use Rattle.myrial_ast.specs.Classes.{equalities, equality, variables};
 ghost use Rattle.myrial_ast.specs.Scalars.{arithmetic_of, plain_of};
 ghost use Rattle.myrial_ast.specs.ScalarTrees.{scalar_tree_of};
 ghost use Rattle.myrial_scopes.specs.Resolutions.{emit_of, resolved_of};
@@ -18,7 +18,9 @@ ghost use Rattle.myrial_types.specs.inner.Terms.{bare_atoms};
 
 use crate::classes::variables;
 use crate::names::MeantItem;
-use algebra::{Atom, Atoms, ColTypes, EmitKind, EmitKinds, JoinShape, Sources, Term, is_plain};
+use algebra::{
+    Atom, Atoms, ColTypes, EmitKind, EmitKinds, JoinShape, Sources, Term, Variables, is_plain,
+};
 use myrial_ast::{Scalar, Scalars};
 use myrial_scopes::{Comprehension, EmittedColumn};
 use rel_base::{Memory, Schema};
@@ -167,6 +169,23 @@ fn has_aggregate(emits: &[EmittedColumn]) -> bool
     emits.iter().any(|emit| emit.aggregate.is_some())
 }
 
+/// The join variables of a comprehension over these items, whose equalities are of columns that
+/// there are.
+fn variables_of(
+    alloc: Global,
+    items: &[MeantItem],
+    comprehension: &Comprehension,
+) -> Result<Variables, Memory>
+    requires { InRange (sum (widths_in (kinds_of_items items.now)))
+        (equalities (resolved_of comprehension.now).comprehension.conjuncts) }
+    ensures { IfOk result (λ found. found ≡ variables (widths_in (kinds_of_items items.now))
+        (equalities (resolved_of comprehension.now).comprehension.conjuncts)) }
+{
+    let widths = widths_of(alloc, items)?;
+    let equalities = equalities_of(alloc, &comprehension.conjuncts)?;
+    variables(alloc, &widths, &equalities)
+}
+
 /// The shape of a comprehension over these items, whose equalities are of columns that there are;
 /// `None` where it isn't well formed.
 fn shape_of(
@@ -182,9 +201,7 @@ fn shape_of(
         MatchOption made (is_shape shape ≡ false)
         (λ s. (shape_tree_of s ≡ shape) × (is_shape shape ≡ true))) }
 {
-    let widths = widths_of(alloc, items)?;
-    let equalities = equalities_of(alloc, &comprehension.conjuncts)?;
-    let variables = variables(alloc, &widths, &equalities)?;
+    let variables = variables_of(alloc, items, comprehension)?;
     let atoms = atoms_of(alloc, items)?;
     let plain = plain_of(alloc, &comprehension.conjuncts)?;
     let arith = arithmetic_of(alloc, &comprehension.conjuncts)?;

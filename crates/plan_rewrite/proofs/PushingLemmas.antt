@@ -129,7 +129,7 @@ module _ (s : Shape) where
       ≡ filter (λ row. passes_within (tests_of (pushed s)) (ties_of s) (span_of_item (widths_of s) j) (put_at (sum (take j (widths_of s))) row)) rows
   kept-pushed j rows = ap (λ ws. kept_rows ws (tests_of (pushed s)) (ties_of s) j rows) pushed-widths
 
-  kept-same : (j : ℕ) (rows : Rows) → kept_of s j rows ≡ kept_of (pushed s) j rows
+  pub kept-same : (j : ℕ) (rows : Rows) → kept_of s j rows ≡ kept_of (pushed s) j rows
   kept-same j rows =
       sym (kept-pushed j rows
       ∙ filter-same (λ row. passes_within (tests_of (pushed s)) (ties_of s) (span_of_item (widths_of s) j) (put_at (sum (take j (widths_of s))) row))

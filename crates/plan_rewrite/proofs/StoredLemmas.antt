@@ -1,25 +1,27 @@
 -- A rewritten script stores what the script stores, and has its fault.
 use Rattle.std.proofs.Common.{◌≡◌, ◌∙◌, ℕ, ◌-◌, ◌==◌, Bool, true, false, cond, find, fold, List, [], ◌∷◌, length, map, refl, sym, ap, None, Some}
-use Rattle.std.specs.Prelude.{◌||◌, is_some, option_map, unwrap_or}
-use Rattle.std.specs.List.{list_any, range_with_len}
+use Rattle.std.specs.Prelude.{◌&&◌, ◌||◌, filter, is_some, option_map, unwrap_or}
+use Rattle.std.specs.List.{enumerate_from, list_any, range_with_len}
 use Rattle.std.proofs.lemmas.Bool.{eq-eqb, eqb-true, or_left, or_right}
 use Rattle.rel_base.specs.declared.faults.RunFault.TheVariants as fault
 use Rattle.rel_base.specs.Keys.{File}
 use Rattle.rel_base.specs.Relations.{RelationState}
 use Rattle.myrial_ast.specs.Bags.{union_all, distinct, difference}
-use Rattle.myrial_ast.specs.CandidateFaults.{PrefixRule, Counted, Uncounted, join_fault, too_many}
+use Rattle.myrial_ast.specs.CandidateFaults.{PrefixRule, Counted, Uncounted, FaultRule, join_fault, too_many}
 use Rattle.myrial_ast.specs.Combinations.{Rows, listed_from}
 use Rattle.myrial_ast.specs.Groups.{Kinds, groups}
+use Rattle.myrial_ast.specs.JoinTrees.{is_acyclic, all_items}
+use Rattle.myrial_ast.specs.ReducedRows.{takes_part}
 use Rattle.algebra.specs.declared.terms.Source.{Source}
 use Rattle.algebra.specs.declared.terms.Source.TheVariants as source
 use Rattle.algebra.specs.declared.terms.StoreStep.{StoreStep}
 use Rattle.algebra.specs.Meanings.{checked_fault, first_fault, found, has_long_prefix, is_result, is_used, needed_steps, no_relation, relations_of, shape_fault, sources_of, step_relation, step_relations, stored_by, term_fault, term_rows, uses}
-use Rattle.algebra.specs.Shapes.{listed_of}
+use Rattle.algebra.specs.Shapes.{joined_tables, listed_of}
 use Rattle.algebra.specs.Trees.{CheckedTree, Shape, StepTree, TermTree, Same, Empty, UnionAll, Diff, Distinct, Join, Group}
 use Rattle.plan_rewrite.specs.inner.Pushing.{pushed}
 use Rattle.plan_rewrite.specs.inner.Steps.{pushed_step, pushed_term, rewritten}
 use Rattle.plan_rewrite.proofs.ListLemmas.{Each}
-use Rattle.plan_rewrite.proofs.PushingLemmas.{candidates-same, prefix-same}
+use Rattle.plan_rewrite.proofs.PushingLemmas.{candidates-same, kept-same, prefix-same, pushed-widths}
 
 abbrev Results : Type 0
 Results = List (ℕ × RelationState)
@@ -37,9 +39,21 @@ long-same : (rule : PrefixRule) (s : Shape) (tables : List Rows) → has_long_pr
 long-same Counted s tables = λ t. list_any (λ i. too_many (prefix-same s i tables t)) (range_with_len 1 (length tables - 1))
 long-same Uncounted s tables = refl
 
-fault-same : (rule : PrefixRule) (number : ℕ) (s : Shape) (kinds : Kinds) (tables : List Rows)
+-- what is joined is told by the numbers of columns, the variables and the kept rows
+joined-same : (reduce : Bool) (s : Shape) (tables : List Rows) → joined_tables reduce s tables ≡ joined_tables reduce (pushed s) tables
+joined-same reduce s tables = λ t.
+    cond (reduce && is_acyclic (sym (pushed-widths s) t) s.variables (all_items (sym (pushed-widths s) t)))
+    (map (λ (e : ℕ × Rows). filter (takes_part s.variables (map (λ (o : ℕ × Rows). kept-same s o.0 o.1 t) (enumerate_from 0 tables)) e.0) (kept-same s e.0 e.1 t)) (enumerate_from 0 tables))
+    tables
+
+fault-same : (rule : FaultRule) (number : ℕ) (s : Shape) (kinds : Kinds) (tables : List Rows)
     → shape_fault rule number s kinds tables ≡ shape_fault rule number (pushed s) kinds tables
-fault-same rule number s kinds tables = λ t. join_fault number (long-same rule s tables t) s.arith s.emits kinds (candidates-same s tables t)
+fault-same rule number s kinds tables = λ t. join_fault number (long t) s.arith s.emits kinds (candidates-same s tables t)
+  where
+    long : has_long_prefix rule.prefixes s (joined_tables rule.reduce s tables)
+        ≡ has_long_prefix rule.prefixes (pushed s) (joined_tables rule.reduce (pushed s) tables)
+    long = ap (has_long_prefix rule.prefixes s) (joined-same rule.reduce s tables)
+        ∙ long-same rule.prefixes s (joined_tables rule.reduce (pushed s) tables)
 
 -- ---- what is used
 
@@ -124,7 +138,7 @@ module _ (stores : List StoreStep) where
     term-agrees all few (Group shape sources kinds) h =
         ap (groups kinds) (ap (listed_of shape) (tables-agree all few sources h) ∙ listed-same shape (map (λ o. (value_in few o).rows) sources))
 
-    term-fails : (rule : PrefixRule) (number : ℕ) (all few : Results) (t : TermTree) → Each (λ o. value_in all o ≡ value_in few o) (sources_of t)
+    term-fails : (rule : FaultRule) (number : ℕ) (all few : Results) (t : TermTree) → Each (λ o. value_in all o ≡ value_in few o) (sources_of t)
         → term_fault rule number (λ o. (value_in all o).rows) t ≡ term_fault rule number (λ o. (value_in few o).rows) (pushed_term t)
     term-fails rule number all few (Same o) h = refl
     term-fails rule number all few Empty h = refl
@@ -186,7 +200,7 @@ module _ (stores : List StoreStep) where
         by false u agree rest = rest few (unneeded-more all few s (needed_steps stores steps) u agree)
 
     -- the first fault of a needed step
-    first-agrees : (rules : ℕ → PrefixRule) (steps : List StepTree) (all few : Results) → Agree all few (needed_steps stores steps)
+    first-agrees : (rules : ℕ → FaultRule) (steps : List StepTree) (all few : Results) → Agree all few (needed_steps stores steps)
         → first_fault rules files stores few (map pushed_step (needed_steps stores steps)) ≡ first_fault rules files stores all steps
     first-agrees rules [] all few agree = refl
     first-agrees rules (s ∷ steps) all few agree =
@@ -234,5 +248,5 @@ stored-same files c =
     sym (stores-agree c.stores files (step_relations files c.steps) (step_relations files (map pushed_step (needed_steps c.stores c.steps))) c.stores
     (λ k e. results-agree c.stores files c.steps [] [] (λ k u. refl) k (or_left (list_any (λ (t : StoreStep). is_result k t.source) c.stores) false e)))
 
-pub faults-same : (rules : ℕ → PrefixRule) (files : List File) (c : CheckedTree) → checked_fault rules files (rewritten c) ≡ checked_fault rules files c
+pub faults-same : (rules : ℕ → FaultRule) (files : List File) (c : CheckedTree) → checked_fault rules files (rewritten c) ≡ checked_fault rules files c
 faults-same rules files c = first-agrees c.stores files rules c.steps [] [] (λ k u. refl)

@@ -3,7 +3,7 @@ ghost use Rattle.std.specs.Prelude.{◌≡◌, ◌||◌, ℕ, List, map, reverse
 ghost use Rattle.std.specs.List.{list_any};
 ghost use Rattle.algebra.specs.CheckedTrees.{checked_tree_of, step_tree_of, term_tree_of};
 ghost use Rattle.rel_base.specs.Keys.{File};
-ghost use Rattle.myrial_ast.specs.CandidateFaults.{PrefixRule};
+ghost use Rattle.myrial_ast.specs.CandidateFaults.{FaultRule};
 ghost use Rattle.algebra.specs.Meanings.{checked_fault, is_result, needed_steps};
 ghost use Rattle.algebra.specs.Meanings.{stored_by, uses, is_used};
 ghost use Rattle.algebra.specs.Rewriting.{IsRewritten};
@@ -177,7 +177,7 @@ pub fn rewrite(alloc: Global, checked: &Checked) -> Result<Planned, Memory>
     ensures stored { IfOk result (λ planned. (files : List File)
         → stored_by files (planned_tree_of planned)
         ≡ stored_by files (checked_tree_of checked.now)) }
-    ensures fault { IfOk result (λ planned. (rules : ℕ → PrefixRule) (files : List File)
+    ensures fault { IfOk result (λ planned. (rules : ℕ → FaultRule) (files : List File)
         → checked_fault rules files (planned_tree_of planned)
         ≡ checked_fault rules files (checked_tree_of checked.now)) }
 {

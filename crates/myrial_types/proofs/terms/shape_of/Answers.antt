@@ -1,5 +1,4 @@
 use Rattle.std.proofs.Common.{◌≡◌, ◌∙◌, map, refl}
-use Rattle.myrial_ast.specs.Classes.{variables}
 use Rattle.myrial_scopes.specs.Emits.{Emit}
 use Rattle.myrial_scopes.specs.Resolutions.{emit_of, resolved_of}
 use Rattle.algebra.specs.Shapes.{shape_of}
@@ -13,14 +12,12 @@ pub returns : goal.returns
 returns c =
     let comprehension = (resolved_of c.args.comprehension.now).comprehension in
     let parts = shape_of_parts c.in_ok-atoms.atoms c.in_ok-variables.variables c.in_ok-plain.plain c.in_ok-arith.arith c.in_ok-emits.emits in
-    let widths = c.deref.ensures.value ∙ c.in_ok-widths.ensures in
-    let pairs = c.deref-2.ensures.value ∙ c.in_ok-equalities.ensures in
     let emits = c.in_ok-emits.ensures
-    ∙ map-through (λ (e : Emit). e.scalar) emit_of c.deref-3.result.now c.args.comprehension.now.emits.items (map emit_of c.args.comprehension.now.emits.items) c.deref-3.ensures.value refl in
+    ∙ map-through (λ (e : Emit). e.scalar) emit_of c.deref.result.now c.args.comprehension.now.emits.items (map emit_of c.args.comprehension.now.emits.items) c.deref.ensures.value refl in
     let same : parts ≡ shape_of (kinds_of_items c.args.items.now) comprehension =
     λ i. let s : Shape = record {
       atoms = c.in_ok-atoms.ensures i;
-      variables = (c.in_ok-variables.ensures ∙ (λ j. variables (widths j) (pairs j))) i;
+      variables = c.in_ok-variables.ensures i;
       plain = c.in_ok-plain.ensures i;
       arith = c.in_ok-arith.ensures i;
       emits = emits i;
