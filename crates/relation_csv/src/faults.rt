@@ -55,9 +55,9 @@ impl fmt::Display for RelFault {
 
     fn fmt<W: fmt::Write>(&self, f: &mut fmt::Formatter<W>) -> fmt::Result {
         match self {
-            RelFault::NoHeader => write!(f, "no header"),
+            RelFault::NoHeader => f.write_str("no header"),
             RelFault::NotText { nth } => write!(f, "record {nth} is not UTF-8"),
-            RelFault::TooManyColumns => write!(f, "too many columns"),
+            RelFault::TooManyColumns => f.write_str("too many columns"),
             RelFault::BadHeader { field } => write!(f, "bad header field {field}"),
             RelFault::FieldCount { nth } => {
                 write!(f, "record {nth} has a wrong number of fields")
@@ -68,8 +68,8 @@ impl fmt::Display for RelFault {
             RelFault::BadBool { nth, column } => {
                 write!(f, "record {nth} column {column} is not a boolean")
             }
-            RelFault::TooManyRows => write!(f, "too many rows"),
-            RelFault::Memory => write!(f, "out of memory"),
+            RelFault::TooManyRows => f.write_str("too many rows"),
+            RelFault::Memory => f.write_str("out of memory"),
         }
     }
 }

@@ -132,27 +132,32 @@ fn rows_behind<P: PlainReader>(
 {
     match plain.rows(alloc, schema, bytes, skip)? {
         Some(rows) => Ok(rows),
-        None => rows_of(alloc, schema, reader),
+        None => rows_of(alloc, schema, reader, &mut StringRecord::new(alloc)),
     }
 }
 
-/// Reads the rows of all records that are left. They are shared from the start.
-fn rows_of(alloc: Global, schema: &Schema, reader: &mut Reader<&[u8]>) -> Result<Rows, RelFault>
+/// Reads the rows of all records that are left, each record into `fields`. They are shared from the
+/// start.
+fn rows_of(
+    alloc: Global,
+    schema: &Schema,
+    reader: &mut Reader<&[u8]>,
+    fields: &mut StringRecord,
+) -> Result<Rows, RelFault>
     requires { IsSteady reader.old }
     ensures { IsReadAs result (rows_of_records schema.now (records_left reader.old)) }
 {
     let mut rows = Rows::new(alloc);
-    let mut fields = StringRecord::new(alloc);
     'rows: loop {
         let nth = rows.len() + 1;
-        match read_next(reader, &mut fields)? {
+        match read_next(reader, fields)? {
             Next::End => {
                 rows.freeze(alloc)?;
                 return Ok(rows);
             }
             Next::NotText if nth <= MOST_ROWS => return Err(RelFault::NotText { nth }),
             Next::Record if nth <= MOST_ROWS => {
-                let row = row_of(alloc, schema, nth, &fields)?;
+                let row = row_of(alloc, schema, nth, fields)?;
                 rows.push(row)?;
             }
             _ => return Err(RelFault::TooManyRows),
