@@ -87,8 +87,7 @@ fn difference_by_sort(alloc: Global, a: &Rows, b: &Rows) -> Result<Rows, Memory>
 {
     let rows = rows_in_order(alloc, a)?;
     let others = rows_in_order(alloc, b)?;
-    let made = without(alloc, &rows, &others)?;
-    Ok(made)
+    without(alloc, &rows, &others)
 }
 
 /// Each row of the first list that the second doesn't have, once, in ascending order.
@@ -111,8 +110,7 @@ fn distinct_by_sort(alloc: Global, rows: &Rows) -> Result<Rows, Memory>
     ensures { IfOk result (λ made. SameBag (distinct rows.now) made) }
 {
     let sorted = rows_in_order(alloc, rows)?;
-    let made = without(alloc, &sorted, &[])?;
-    Ok(made)
+    without(alloc, &sorted, &[])
 }
 
 /// Each row once, in ascending order.

@@ -81,8 +81,7 @@ pub fn partial_places(alloc: Global, kinds: &[EmitKind]) -> Result<Places, Memor
     ensures { IfOk result (λ made. made ≡ key_places (partial_kinds (map kind_of_emit kinds.now))) }
 {
     let kinds = partial_kinds(alloc, kinds)?;
-    let places = key_places(alloc, &kinds)?;
-    Ok(places)
+    key_places(alloc, &kinds)
 }
 
 /// The places of what rows are grouped by.

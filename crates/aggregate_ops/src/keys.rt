@@ -241,8 +241,7 @@ fn rows_by_row<'a>(
 {
     let mut keyed = keyed_rows(alloc, rows, places)?;
     keyed.sort_unstable();
-    let made = bare_rows(alloc, &keyed)?;
-    Ok(made)
+    bare_rows(alloc, &keyed)
 }
 
 /// The bits of a row's values at these places, each in its column.
@@ -298,8 +297,7 @@ fn rows_by_word<'a>(
 {
     let mut worded = rows_with_words(alloc, rows, places, columns)?;
     worded.sort_unstable_by_key(|item| item.0);
-    let made = without_words(alloc, &worded)?;
-    Ok(made)
+    without_words(alloc, &worded)
 }
 
 /// The rows in the order of their values at these places. None is copied.

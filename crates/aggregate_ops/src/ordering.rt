@@ -39,6 +39,5 @@ pub fn rows_in_order(alloc: Global, rows: &Rows) -> Result<Vec<&[Value]>, Memory
     let _few = rows.len();
     let mut led = led_rows(alloc, rows)?;
     led.sort_unstable();
-    let made = bare_rows(alloc, &led)?;
-    Ok(made)
+    bare_rows(alloc, &led)
 }

@@ -44,6 +44,12 @@ fn keys_first(alloc: Global, keys: &[u32], width: usize) -> Result<Vec<usize>, M
     Ok(places)
 }
 
+/// The column at a place in the highest of so many bits that are left, where its values take no
+/// more.
+fn column_at(scanned: &[ScannedColumn], place: usize, left: u32) -> Option<PackedColumn> {
+    scanned.get(place)?.span.column(left)
+}
+
 /// These columns in a word, those of the keys first; none where one has other values than ints and
 /// booleans, or they take more bits.
 pub fn packed_columns(
@@ -58,9 +64,7 @@ pub fn packed_columns(
         let place = places[i];
         let column = match twin_of(scanned, &places[..i], place) {
             Some(twin) => columns.get(twin).copied(),
-            None => scanned
-                .get(place)
-                .and_then(|column| column.span.column(left)),
+            None => column_at(scanned, place, left),
         };
         let (Some(column), Some(old)) = (column, columns.get_mut(place)) else {
             return Ok(Vec::new(alloc));
@@ -81,10 +85,7 @@ pub fn key_columns(
     let mut columns = Vec::with_capacity(alloc, keys.len())?;
     let mut left = 64;
     for key in keys {
-        let column = scanned
-            .get(*key as usize)
-            .and_then(|column| column.span.column(left));
-        let Some(column) = column else {
+        let Some(column) = column_at(scanned, *key as usize, left) else {
             return Ok(Vec::new(alloc));
         };
         columns.push(column)?;

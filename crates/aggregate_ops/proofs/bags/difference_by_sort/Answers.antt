@@ -1,8 +1,10 @@
-use Rattle.std.proofs.Common.{◌≡◌, ◌∙◌, ap, arith, length}
+use Rattle.std.proofs.Common.{◌∙◌, ap, sym, subst, arith, length}
+use Rattle.std.proofs.lemmas.Result.{IfOk-weaker}
 use Rattle.std.proofs.lemmas.List.{length-map}
 use Rattle.std.proofs.lemmas.List.Sorted.{length_permutation}
 use Rattle.std.specs.Borrow.{Bor}
-use Rattle.myrial_ast.specs.Combinations.{Row}
+use Rattle.rel_base.specs.Bags.{SameBag}
+use Rattle.myrial_ast.specs.Combinations.{Row, Rows}
 use Rattle.myrial_ast.specs.Bags.{difference}
 use Rattle.bag_laws.proofs.RowPermutations.{difference-same}
 use Rattle.aggregate_ops.specs.Columns.{rows_in}
@@ -23,6 +25,8 @@ pub returns : goal.returns
 returns c =
     let rows = rows_in c.in_ok-rows.rows.items in
     let others = rows_in c.in_ok-others.others.items in
-    let made : c.in_ok-made.made ≡ difference rows others =
-    c.in_ok-made.ensures ∙ (λ i. difference (rows_in (c.deref.ensures.value i)) (rows_in (c.deref-2.ensures.value i))) in
-    rw made (difference-same c.args.a.now rows c.args.b.now others c.in_ok-rows.ensures.order.same_rows c.in_ok-others.ensures.order.same_rows)
+    let same = difference-same c.args.a.now rows c.args.b.now others c.in_ok-rows.ensures.order.same_rows c.in_ok-others.ensures.order.same_rows in
+    IfOk-weaker c.without.result _ _
+    (λ made is. subst (λ (rows : Rows). SameBag (difference c.args.a.now c.args.b.now) rows)
+    (sym (is ∙ (λ i. difference (rows_in (c.deref.ensures.value i)) (rows_in (c.deref-2.ensures.value i))))) same)
+    c.without.ensures

@@ -1,8 +1,10 @@
-use Rattle.std.proofs.Common.{◌≡◌, ◌∙◌, [], ap, arith, length}
+use Rattle.std.proofs.Common.{◌∙◌, [], ap, sym, subst, arith, length}
+use Rattle.std.proofs.lemmas.Result.{IfOk-weaker}
 use Rattle.std.proofs.lemmas.List.{length-map}
 use Rattle.std.proofs.lemmas.List.Sorted.{length_permutation}
 use Rattle.std.specs.Borrow.{Bor}
-use Rattle.myrial_ast.specs.Combinations.{Row}
+use Rattle.rel_base.specs.Bags.{SameBag}
+use Rattle.myrial_ast.specs.Combinations.{Row, Rows}
 use Rattle.myrial_ast.specs.Bags.{difference, distinct}
 use Rattle.bag_laws.proofs.RowPermutations.{distinct-same}
 use Rattle.aggregate_ops.specs.Columns.{rows_in}
@@ -23,6 +25,8 @@ without-requires-clause-few c =
 pub returns : goal.returns
 returns c =
     let rows = rows_in c.in_ok-sorted.sorted.items in
-    let made : c.in_ok-made.made ≡ distinct rows =
-    c.in_ok-made.ensures ∙ (λ i. difference (rows_in (c.deref.ensures.value i)) []) ∙ difference-none rows in
-    rw made (distinct-same c.args.rows.now rows c.in_ok-sorted.ensures.order.same_rows)
+    let same = distinct-same c.args.rows.now rows c.in_ok-sorted.ensures.order.same_rows in
+    IfOk-weaker c.without.result _ _
+    (λ made is. subst (λ (rows : Rows). SameBag (distinct c.args.rows.now) rows)
+    (sym (is ∙ (λ i. difference (rows_in (c.deref.ensures.value i)) []) ∙ difference-none rows)) same)
+    c.without.ensures

@@ -1,5 +1,6 @@
 use Rattle.std.proofs.Common.{◌≡◌, true, List, map, All, Err, IfErr, sym, subst, rules, arith}
 use Rattle.std.proofs.lemmas.Grind.{common_steps}
+use Rattle.std.proofs.lemmas.Result.{IfOk-weaker}
 use Rattle.rel_base.specs.Bags.{SameBag}
 use Rattle.myrial_ast.specs.declared.scalars.Scalar as code
 use Rattle.myrial_ast.specs.Combinations.{emitted}
@@ -55,16 +56,21 @@ returns-in-Some-2-clause-bag c =
     c.as_slice.ensures.value same
 
 pub returns-in-Some-clause-bag : goal.returns-in-Some-clause-bag
-returns-in-Some-clause-bag c = grind (arith, common_steps)
+returns-in-Some-clause-bag c =
+    let done = results c.args.form (map kind_of_emit c.args.kinds.now) in
+    let same : SameBag (done (map (emitted (map scalar_tree_of c.as_slice.result.now)) c.args.rows.now)) c.in-Some.made =
+    rw c.in-Some.is at c.in_ok-made.ensures.bag in
+    subst (λ (picks : List code.Scalar). SameBag (done (map (emitted (map scalar_tree_of picks)) c.args.rows.now)) c.in-Some.made)
+    c.as_slice.ensures.value same
 
 pub returns-clause-bag : goal.returns-clause-bag
-returns-clause-bag c = grind (arith, common_steps)
+returns-clause-bag c = rw c.in_ok-listed.ensures.rows at c.grouped_rows.ensures.bag
 
 pub returns-clause-numbers : goal.returns-clause-numbers
-returns-clause-numbers c = grind (arith, common_steps)
+returns-clause-numbers c = IfOk-weaker c.grouped_rows.result _ _ (λ made same. c.in_ok-listed.ensures.fits) c.grouped_rows.ensures.bag
 
 pub returns-clause-fault : goal.returns-clause-fault
-returns-clause-fault c = grind (arith, common_steps)
+returns-clause-fault c = rw c.in_ok-listed.ensures.rows at c.grouped_rows.ensures.fault
 
 pub grouped_rows-requires-clause-few : goal.grouped_rows-requires-clause-few
 grouped_rows-requires-clause-few c = grind (arith, common_steps)

@@ -55,3 +55,12 @@ loop-done-init c = grind (arith, common_steps)
 
 pub loop-done-smaller : goal.loop-done-smaller
 loop-done-smaller c = grind (arith, common_steps)
+
+pub run_length-count-requires : goal.run_length-count-requires
+run_length-count-requires c = grind (arith, common_steps)
+
+pub put_row-requires : goal.put_row-requires
+put_row-requires c = grind (arith, common_steps)
+
+pub overflow_add-done : goal.overflow_add-done
+overflow_add-done c = grind (arith, common_steps)
