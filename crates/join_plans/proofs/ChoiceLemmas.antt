@@ -1,5 +1,5 @@
 -- The shares of least load.
-use Rattle.std.proofs.Common.{◌≡◌, ℕ, zero, suc, ◌+◌, ◌<◌, ◌≤◌, Bool, true, false, cond, List, [], ◌∷◌, length, get_or, take, refl, sym, ap, ◌∙◌, subst, arith}
+use Rattle.std.proofs.Common.{◌≡◌, ℕ, zero, suc, ◌+◌, ◌<◌, ◌≤◌, Bool, true, false, cond, List, [], ◌∷◌, length, map, get_or, take, refl, sym, ap, ◌∙◌, subst, arith}
 use Rattle.std.specs.Prelude.{◌-◌, find, Some, unwrap_or, not, nat_lt, sum_by}
 use Rattle.std.specs.List.{range_with_len, enumerate_from, zip, list_any}
 use Rattle.std.specs.Ordering.{nat_cmp, ordering_then, is_lt}
@@ -16,13 +16,15 @@ use Rattle.algebra.specs.declared.settings.Settings.{Settings}
 use Rattle.algebra.specs.declared.settings.ShuffleKind.{ShuffleKind}
 use Rattle.algebra.specs.declared.settings.ShuffleKind.TheVariants as shuffle_kind
 use Rattle.algebra.specs.Trees.{Shape}
-use Rattle.algebra.specs.Shapes.{kept_of}
+use Rattle.algebra.specs.Shapes.{kept_of, is_acyclic_shape}
 use Rattle.placement.specs.Laws.{IsSharing}
-use Rattle.placement.specs.Layouts.{is_most, staying_atom}
+use Rattle.placement.specs.Layouts.{PlacedRelation, rows_of, reduced_item, reduced_items, joined_items, is_most, staying_atom}
 use Rattle.placement.specs.Plans.{uses_of, kept_sizes, usual_shuffle}
+use Rattle.placement.proofs.JoinedLemmas.{reduced_are_kept}
 use Rattle.join_plans.specs.declared.choices.ShuffleChoice.{ShuffleChoice}
 use Rattle.join_plans.specs.declared.choices.ShuffleChoice.TheVariants as choice
-use Rattle.join_plans.specs.JoinPlans.{shuffle_of, chosen, staying_of, IsChosenFor, ChosenAreUsual}
+use Rattle.join_plans.specs.declared.sizes.Reduction.TheVariants as reduction
+use Rattle.join_plans.specs.JoinPlans.{shuffle_of, sizes_of, reduction_of, joined_sizes, chosen, staying_of, IsChosenFor, ChosenAreUsual}
 use Rattle.join_plans.specs.inner.Lines.{IsFitting}
 
 -- what stands behind the sizes of all atoms is not read
@@ -47,11 +49,11 @@ least-taken uses sizes variables workers shares least = record {
 }
 
 -- the shares of least load for these sizes, and whatever stands behind them, are the best ones
-pub least-is-best : (uses sizes kept : List ℕ) (variables workers : ℕ) (shares : List ℕ) → 1 ≤ workers → length uses ≡ length kept
-    → take (length kept) sizes ≡ kept → IsLeastLoad uses sizes variables workers shares
-    → shares ≡ best_shares uses kept variables workers
-least-is-best uses sizes kept variables workers shares some long front least =
-    (best_is_least uses kept variables workers some).1 shares
+pub least-is-best : (uses sizes joined : List ℕ) (variables workers : ℕ) (shares : List ℕ) → 1 ≤ workers → length uses ≡ length joined
+    → take (length joined) sizes ≡ joined → IsLeastLoad uses sizes variables workers shares
+    → shares ≡ best_shares uses joined variables workers
+least-is-best uses sizes joined variables workers shares some long front least =
+    (best_is_least uses joined variables workers some).1 shares
     (subst (λ s. IsLeastLoad uses s variables workers shares) (ap (λ n. take n sizes) long ∙ front)
     (least-taken uses sizes variables workers shares least))
 
@@ -59,10 +61,10 @@ pub load-den : (uses sizes shares : List ℕ) → (load_of uses sizes shares).de
 unfolding load_of
 load-den uses sizes shares = refl
 
--- the load of the kept rows, where so many stand in front
-pub load-kept : (uses own sizes kept shares : List ℕ) → uses ≡ own → length own ≡ length kept → take (length kept) sizes ≡ kept
-    → load_of uses sizes shares ≡ load_of own kept shares
-load-kept uses own sizes kept shares same long front =
+-- the load of these rows, where so many stand in front
+pub load-front : (uses own sizes joined shares : List ℕ) → uses ≡ own → length own ≡ length joined → take (length joined) sizes ≡ joined
+    → load_of uses sizes shares ≡ load_of own joined shares
+load-front uses own sizes joined shares same long front =
     ap (λ us. load_of us sizes shares) same ∙ load-taken own sizes shares
     ∙ ap (λ s. load_of own s shares) (ap (λ n. take n sizes) long ∙ front)
 
@@ -82,17 +84,37 @@ pub staying-same : (shape : Shape) (given : List Rows) → staying_of (kept_size
 staying-same shape given =
     ap (λ n. unwrap_or (find (is_most (kept_sizes shape given)) (range_with_len 0 n)) 0) (sizes-long shape given)
 
+-- the reduced rows are kept rows, so that they are as many
+reduced-sizes : (shape : Shape) (tables : List Rows) (n : ℕ) (given : List PlacedRelation)
+    → sizes_of (rows_of (map (λ (e : ℕ × PlacedRelation). reduced_item shape tables e.0 e.1) (enumerate_from n given)))
+    ≡ map (λ (e : ℕ × Rows). length (kept_of shape e.0 e.1))
+    (enumerate_from n (rows_of (map (λ (e : ℕ × PlacedRelation). reduced_item shape tables e.0 e.1) (enumerate_from n given))))
+reduced-sizes shape tables n [] = refl
+reduced-sizes shape tables n (p ∷ given) =
+    (λ i. length (sym (reduced_are_kept shape tables n p.relation.rows) i) ∷ reduced-sizes shape tables (n + 1) given i)
+
+-- the numbers of joined rows are those of the kept rows of what is joined
+pub joined-kept : (reduce : Bool) (shape : Shape) (given : List PlacedRelation)
+    → joined_sizes (reduction_of reduce shape) shape given ≡ kept_sizes shape (rows_of (joined_items reduce shape given))
+joined-kept false shape given = refl
+joined-kept true shape given = by (is_acyclic_shape shape)
+  where
+    by : (b : Bool) → joined_sizes (cond b reduction.Reduced reduction.Cyclic) shape given
+        ≡ kept_sizes shape (rows_of (cond b (reduced_items shape given) given))
+    by true = reduced-sizes shape (rows_of given) 0 given
+    by false = refl
+
 pub chosen_are_usual : ChosenAreUsual
-chosen_are_usual = record { shuffle = chosen-usual; stays = staying-same }
+chosen_are_usual = record { shuffle = chosen-usual; stays = staying-same; sizes = joined-kept }
 
 -- what is chosen has shares that so many workers may have
-pub chosen-shares : (settings : Settings) (shape : Shape) (kept : List ℕ) (made : ShuffleChoice) → 1 ≤ settings.workers
-    → IsChosenFor settings shape kept made → IsSharing settings.workers shape (shuffle_of made)
-chosen-shares settings shape kept made some is =
+pub chosen-shares : (settings : Settings) (shape : Shape) (joined : List ℕ) (made : ShuffleChoice) → 1 ≤ settings.workers
+    → IsChosenFor settings shape joined made → IsSharing settings.workers shape (shuffle_of made)
+chosen-shares settings shape joined made some is =
     subst (IsSharing settings.workers shape) (sym is.shuffle) (shares settings.shuffle)
   where
-    shares : (kind : ShuffleKind) → IsSharing settings.workers shape (chosen kind settings.workers shape kept)
-    shares shuffle_kind.Hc = (best_is_least (uses_of shape) kept (length shape.variables) settings.workers some).0.vector
+    shares : (kind : ShuffleKind) → IsSharing settings.workers shape (chosen kind settings.workers shape joined)
+    shares shuffle_kind.Hc = (best_is_least (uses_of shape) joined (length shape.variables) settings.workers some).0.vector
     shares shuffle_kind.Rs = tt
     shares shuffle_kind.Br = tt
 
@@ -105,23 +127,23 @@ found-below p d m a (suc n) low room = by (p a) (found-below p d m (a + 1) n low
     by true rest = omega (arith, room)
     by false rest = rest
 
-staying-inside : (kept : List ℕ) → 0 < length kept → staying_of kept < length kept
-staying-inside kept some = found-below (is_most kept) 0 (length kept) 0 (length kept) some (omega arith)
+staying-inside : (joined : List ℕ) → 0 < length joined → staying_of joined < length joined
+staying-inside joined some = found-below (is_most joined) 0 (length joined) 0 (length joined) some (omega arith)
 
 -- what is chosen fits
-pub chosen-fits : (settings : Settings) (shape : Shape) (kept : List ℕ) (made : ShuffleChoice) → 1 ≤ settings.workers
-    → settings.workers ≤ most_workers → length kept ≡ length shape.atoms → 0 < length shape.atoms
-    → IsChosenFor settings shape kept made → IsFitting shape made
-chosen-fits settings shape kept (choice.Cells shares) some few long here is =
-    let vector = chosen-shares settings shape kept (choice.Cells shares) some is in
+pub chosen-fits : (settings : Settings) (shape : Shape) (joined : List ℕ) (made : ShuffleChoice) → 1 ≤ settings.workers
+    → settings.workers ≤ most_workers → length joined ≡ length shape.atoms → 0 < length shape.atoms
+    → IsChosenFor settings shape joined made → IsFitting shape made
+chosen-fits settings shape joined (choice.Cells shares) some few long here is =
+    let vector = chosen-shares settings shape joined (choice.Cells shares) some is in
     record {
       one_each = vector.one_each;
       positive = vector.positive;
       cells = omega (arith, vector.cells, few);
     }
-chosen-fits settings shape kept choice.Keys some few long here is = tt
-chosen-fits settings shape kept (choice.Broadcast stays) some few long here is =
-    omega (arith, is.stays, staying-inside kept (omega (arith, long, here)), long)
+chosen-fits settings shape joined choice.Keys some few long here is = tt
+chosen-fits settings shape joined (choice.Broadcast stays) some few long here is =
+    omega (arith, is.stays, staying-inside joined (omega (arith, long, here)), long)
 
 -- ---- the atom that stays
 
@@ -150,41 +172,41 @@ some-over m (x ∷ xs) zero low over = or_left (nat_lt m x) (list_any (nat_lt m)
 some-over m (x ∷ xs) (suc k) low over = or_right (nat_lt m x) (list_any (nat_lt m) xs) (some-over m xs k (omega arith) over)
 
 -- what is known of the atom that stays after the first i sizes
-pub record IsMostOf (kept : List ℕ) (i s : ℕ) : Type 0 where
+pub record IsMostOf (joined : List ℕ) (i s : ℕ) : Type 0 where
   pub low : s ≤ i - 1
-  pub most : (k : ℕ) → k < i → get_or kept k 0 ≤ get_or kept s 0
-  pub first : (k : ℕ) → k < s → get_or kept k 0 < get_or kept s 0
+  pub most : (k : ℕ) → k < i → get_or joined k 0 ≤ get_or joined s 0
+  pub first : (k : ℕ) → k < s → get_or joined k 0 < get_or joined s 0
 
-pub most_none : (kept : List ℕ) → IsMostOf kept 0 0
-most_none kept = record { low = omega arith; most = λ k low. absurd (omega arith); first = λ k low. absurd (omega arith) }
+pub most_none : (joined : List ℕ) → IsMostOf joined 0 0
+most_none joined = record { low = omega arith; most = λ k low. absurd (omega arith); first = λ k low. absurd (omega arith) }
 
-one-more : (kept : List ℕ) (i m k : ℕ) → (k < i → get_or kept k 0 ≤ m) → get_or kept i 0 ≤ m → k < i + 1 → get_or kept k 0 ≤ m
-one-more kept i m k before here low = by (nat_lt k i) refl
+one-more : (joined : List ℕ) (i m k : ℕ) → (k < i → get_or joined k 0 ≤ m) → get_or joined i 0 ≤ m → k < i + 1 → get_or joined k 0 ≤ m
+one-more joined i m k before here low = by (nat_lt k i) refl
   where
-    by : (b : Bool) → nat_lt k i ≡ b → get_or kept k 0 ≤ m
+    by : (b : Bool) → nat_lt k i ≡ b → get_or joined k 0 ≤ m
     by true e = before (ltb-true k i e)
-    by false e = let same : i ≡ k = omega (arith, ltb-false k i e) in subst (λ j. get_or kept j 0 ≤ m) same here
+    by false e = let same : i ≡ k = omega (arith, ltb-false k i e) in subst (λ j. get_or joined j 0 ≤ m) same here
 
-pub most_new : (kept : List ℕ) (i s : ℕ) → get_or kept s 0 < get_or kept i 0 → IsMostOf kept i s → IsMostOf kept (i + 1) i
-most_new kept i s over so = record {
+pub most_new : (joined : List ℕ) (i s : ℕ) → get_or joined s 0 < get_or joined i 0 → IsMostOf joined i s → IsMostOf joined (i + 1) i
+most_new joined i s over so = record {
   low = omega arith;
-  most = λ k low. one-more kept i (get_or kept i 0) k (λ less. omega (arith, so.most k less)) (omega arith) low;
+  most = λ k low. one-more joined i (get_or joined i 0) k (λ less. omega (arith, so.most k less)) (omega arith) low;
   first = λ k low. omega (arith, so.most k low);
 }
 
-pub most_old : (kept : List ℕ) (i s : ℕ) → get_or kept i 0 ≤ get_or kept s 0 → IsMostOf kept i s → IsMostOf kept (i + 1) s
-most_old kept i s under so = record {
+pub most_old : (joined : List ℕ) (i s : ℕ) → get_or joined i 0 ≤ get_or joined s 0 → IsMostOf joined i s → IsMostOf joined (i + 1) s
+most_old joined i s under so = record {
   low = omega (arith, so.low);
-  most = λ k low. one-more kept i (get_or kept s 0) k (so.most k) under low;
+  most = λ k low. one-more joined i (get_or joined s 0) k (so.most k) under low;
   first = so.first;
 }
 
 -- after all sizes it is the first of the greatest
-pub most-stays : (kept : List ℕ) (s : ℕ) → IsMostOf kept (length kept) s → s ≡ staying_of kept
+pub most-stays : (joined : List ℕ) (s : ℕ) → IsMostOf joined (length joined) s → s ≡ staying_of joined
 most-stays [] s so = omega (arith, so.low)
-most-stays (size ∷ kept) s so =
-    let all = size ∷ kept in
-    let good : is_most (size ∷ kept) s ≡ true = ap not (none-over (get_or all s 0) all so.most) in
-    let none : (k : ℕ) → 0 ≤ k → k < s → is_most (size ∷ kept) k ≡ false =
+most-stays (size ∷ joined) s so =
+    let all = size ∷ joined in
+    let good : is_most (size ∷ joined) s ≡ true = ap not (none-over (get_or all s 0) all so.most) in
+    let none : (k : ℕ) → 0 ≤ k → k < s → is_most (size ∷ joined) k ≡ false =
     λ k from low. ap not (some-over (get_or all k 0) all s (omega (arith, so.low)) (so.first k low)) in
     sym (ap (λ found. unwrap_or found 0) (find-first (is_most all) 0 (length all) s (omega arith) (omega (arith, so.low)) good none))

@@ -1,10 +1,9 @@
 -- What is counted of an atom's columns, one after another.
-use Rattle.std.proofs.Common.{◌≡◌, ◌≢◌, ℕ, zero, suc, ◌+◌, ◌-◌, ◌^◌, ◌<◌, ◌≤◌, Bool, true, false, cond, eqb, List, [], ◌∷◌, ◌++◌, length, length-append, map, get_or, take, drop, filter, refl, sym, ap, ◌∙◌, subst, arith}
+use Rattle.std.proofs.Common.{◌≡◌, ◌≢◌, ℕ, suc, ◌+◌, ◌-◌, ◌^◌, ◌<◌, ◌≤◌, Bool, true, false, cond, eqb, List, [], ◌∷◌, ◌++◌, length, length-append, map, get_or, take, drop, filter, refl, sym, ap, ◌∙◌, subst, arith}
 use Rattle.std.specs.Prelude.{set, sum_by, nat_lt, Option, Some, None, is_some, is_none}
 use Rattle.std.specs.List.{enumerate_from, range_with_len, list_any, zip}
 use Rattle.std.proofs.Math.Seq.{drop-cons}
-use Rattle.std.proofs.lemmas.Grind.{flat_map-append}
-use Rattle.std.proofs.lemmas.List.{take_more, length-take, length-map, append-nil, append_assoc, map-append, get_or-map, get_or-set_same, get_or-set_other, drop_all}
+use Rattle.std.proofs.lemmas.List.{take_more, length-take, length-map, append_assoc, map-append, get_or-map, get_or-set_same, get_or-set_other, drop_all}
 use Rattle.std.proofs.lemmas.List.FromFn.{length-enumerate_from}
 use Rattle.std.proofs.lemmas.Slice.Zip.{length-zip}
 use Rattle.std.proofs.lemmas.List.Elements.{filter-append}
@@ -13,15 +12,14 @@ use Rattle.std.proofs.lemmas.Bool.{lt-ltb, eqb-true, eqb-false}
 use Rattle.myrial_ast.specs.declared.scalars.Scalar as code
 use Rattle.myrial_ast.specs.ScalarTrees.{scalar_tree_of}
 use Rattle.myrial_ast.specs.Scalars.{Scalar}
-use Rattle.myrial_ast.specs.Combinations.{Rows}
 use Rattle.myrial_ast.specs.KeptRows.{Span, lies_in}
 use Rattle.algebra.specs.declared.notes.PlanNote.{PlanNote}
 use Rattle.algebra.specs.declared.notes.PlanNote.TheVariants as note
 use Rattle.algebra.specs.declared.shapes.Atom.{Atom}
-use Rattle.algebra.specs.Shapes.{keeps_from, shifted, widths_of, kept_of}
+use Rattle.algebra.specs.Shapes.{keeps_from, shifted, widths_of}
 use Rattle.algebra.specs.Trees.{AtomTree, Shape, atom_tree_of}
 use Rattle.placement.specs.Layouts.{Shuffle}
-use Rattle.placement.specs.Plans.{places_of, share_of, kept_sizes, uses_of, bits_of}
+use Rattle.placement.specs.Plans.{places_of, share_of, uses_of, bits_of}
 use Rattle.join_plans.specs.inner.Counts.{bits_in, ties_within, places_in}
 use Rattle.join_plans.proofs.SpanLemmas.{places-are, all-unmoved}
 

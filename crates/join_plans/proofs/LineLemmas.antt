@@ -1,5 +1,5 @@
 -- The lines by numbers of rows are those that a plan has.
-use Rattle.std.proofs.Common.{◌≡◌, ℕ, suc, ◌+◌, List, [], ◌∷◌, ◌++◌, length, map, refl, sym, ap, ◌∙◌}
+use Rattle.std.proofs.Common.{◌≡◌, ◌<◌, ℕ, suc, ◌+◌, Bool, true, false, cond, List, [], ◌∷◌, ◌++◌, length, map, refl, sym, ap, ◌∙◌, subst, arith}
 use Rattle.std.specs.List.{enumerate_from, zip}
 use Rattle.myrial_ast.specs.Combinations.{Rows}
 use Rattle.algebra.specs.declared.notes.PlanNote.{PlanNote}
@@ -7,14 +7,17 @@ use Rattle.algebra.specs.declared.notes.PlanNote.TheVariants as note
 use Rattle.algebra.specs.declared.settings.JoinKind.{JoinKind}
 use Rattle.algebra.specs.declared.settings.Settings.{Settings}
 use Rattle.algebra.specs.Trees.{Shape}
-use Rattle.algebra.specs.Shapes.{kept_of}
-use Rattle.placement.specs.Layouts.{PlacedRelation, Shuffle, rows_of}
-use Rattle.placement.specs.Plans.{pushed_of, kept_sizes, item_notes, variable_notes, shuffle_note, join_notes, usual_shuffle, usual_placing}
+use Rattle.algebra.specs.Shapes.{kept_of, is_acyclic_shape}
+use Rattle.placement.specs.Layouts.{PlacedRelation, rows_of, reduced_items, joined_items}
+use Rattle.placement.specs.Plans.{pushed_of, kept_sizes, item_notes, reduce_notes, variable_notes, shuffle_note, join_notes, usual_shuffle, usual_placing}
 use Rattle.join_plans.specs.declared.choices.ShuffleChoice.{ShuffleChoice}
 use Rattle.join_plans.specs.declared.choices.ShuffleChoice.TheVariants as choice
-use Rattle.join_plans.specs.JoinPlans.{shuffle_of, sizes_of, IsStaying, IsChosenFor}
-use Rattle.join_plans.proofs.ChoiceLemmas.{chosen-usual, staying-same}
-use Rattle.join_plans.specs.inner.Lines.{item_line, item_lines, choice_line, join_lines}
+use Rattle.join_plans.specs.declared.sizes.JoinSizes.{JoinSizes}
+use Rattle.join_plans.specs.declared.sizes.Reduction.{Reduction}
+use Rattle.join_plans.specs.declared.sizes.Reduction.TheVariants as reduction
+use Rattle.join_plans.specs.JoinPlans.{shuffle_of, sizes_of, reduction_of, joined_sizes, AreSizes, chosen, IsStaying, IsChosenFor}
+use Rattle.join_plans.proofs.ChoiceLemmas.{chosen-usual, staying-same, joined-kept}
+use Rattle.join_plans.specs.inner.Lines.{item_line, item_lines, reduce_lines, choice_line, join_lines}
 
 lines-from : (shape : Shape) (n : ℕ) (given : List Rows)
     → map (λ (e : ℕ × Rows). note.Item (suc e.0) (length e.1) (pushed_of shape e.0) (length (kept_of shape e.0 e.1)))
@@ -32,27 +35,60 @@ choice-same (choice.Cells shares) local shape given is = refl
 choice-same choice.Keys local shape given is = refl
 choice-same (choice.Broadcast stays) local shape given is = ap (λ j. note.Br local (suc j)) (sym (is ∙ staying-same shape given))
 
-lines-of : (shuffle : Shuffle) (chosen : ShuffleChoice) (local : JoinKind) (shape : Shape) (given : List Rows)
-    → shuffle_of chosen ≡ shuffle → IsStaying (kept_sizes shape given) chosen
-    → item_notes shape given ++ variable_notes shuffle shape ++ shuffle_note shuffle local shape given ∷ []
-    ≡ item_lines shape (sizes_of given) (kept_sizes shape given) ++ variable_notes (shuffle_of chosen) shape
-    ++ choice_line chosen local shape (kept_sizes shape given) ∷ []
-lines-of shuffle chosen local shape given is stays =
-    ap (λ s. item_notes shape given ++ variable_notes s shape ++ shuffle_note s local shape given ∷ []) (sym is)
-    ∙ (λ i. lines-from shape 0 given i ++ variable_notes (shuffle_of chosen)
-    shape ++ choice-same chosen local shape given stays i ∷ [])
+-- the line on what is joined
+reduce-same : (reduce : Bool) (shape : Shape) (given : List PlacedRelation) (joined : List ℕ)
+    → joined_sizes (reduction_of reduce shape) shape given ≡ joined
+    → reduce_lines (reduction_of reduce shape) joined ≡ reduce_notes reduce shape (rows_of (joined_items reduce shape given))
+reduce-same false shape given joined is = refl
+reduce-same true shape given joined is = by (is_acyclic_shape shape) is
+  where
+    by : (b : Bool) → joined_sizes (cond b reduction.Reduced reduction.Cyclic) shape given ≡ joined
+        → reduce_lines (cond b reduction.Reduced reduction.Cyclic) joined
+        ≡ cond b (note.Reduced (sizes_of (rows_of (cond b (reduced_items shape given) given)))) note.ReduceCyclic ∷ []
+    by true are = ap (λ (sizes : List ℕ). note.Reduced sizes ∷ []) (sym are)
+    by false are = refl
+
+-- the lines of several items
+lines-of : (settings : Settings) (local : JoinKind) (shape : Shape) (given : List PlacedRelation) (joined : List ℕ)
+    (choice : ShuffleChoice)
+    → joined_sizes (reduction_of settings.reduce shape) shape given ≡ joined → IsChosenFor settings shape joined choice
+    → item_lines shape (sizes_of (rows_of given)) (kept_sizes shape (rows_of given))
+    ++ reduce_lines (reduction_of settings.reduce shape) joined ++ variable_notes (shuffle_of choice) shape
+    ++ choice_line choice local shape joined ∷ []
+    ≡ (let items = rows_of (joined_items settings.reduce shape given) in
+    let shuffle = usual_shuffle settings.shuffle settings.workers shape items in
+    item_notes shape (rows_of given) ++ reduce_notes settings.reduce shape items ++ variable_notes shuffle shape
+    ++ shuffle_note shuffle local shape items ∷ [])
+lines-of settings local shape given joined choice are is =
+    let items = rows_of (joined_items settings.reduce shape given) in
+    let same : joined ≡ kept_sizes shape (rows_of (joined_items settings.reduce shape given)) =
+    sym are ∙ joined-kept settings.reduce shape given in
+    let shuffle = is.shuffle ∙ ap (chosen settings.shuffle settings.workers shape) same
+    ∙ chosen-usual settings.shuffle settings.workers shape items in
+    let last = ap (choice_line choice local shape) same
+    ∙ sym (choice-same choice local shape items (subst (λ sizes. IsStaying sizes choice) same is.stays))
+    ∙ ap (λ s. shuffle_note s local shape items) shuffle in
+    (λ i. sym (lines-from shape 0 (rows_of given)) i ++ reduce-same settings.reduce shape given joined are i
+    ++ variable_notes (shuffle i) shape ++ last i ∷ [])
+
+-- by the same numbers the lines are the same
+lines-by : (choice : ShuffleChoice) (local : JoinKind) (shape : Shape) (reduction : Reduction) (given : List PlacedRelation)
+    (sizes : JoinSizes) → AreSizes reduction shape given sizes
+    → join_lines choice local shape reduction sizes.rows.now sizes.kept.now sizes.joined.now
+    ≡ join_lines choice local shape reduction (sizes_of (rows_of given)) (kept_sizes shape (rows_of given)) sizes.joined.now
+lines-by choice local shape reduction given sizes are =
+    (λ i. join_lines choice local shape reduction (sym are.rows i) (sym are.kept i) sizes.joined.now)
 
 -- the lines of a join are those that its plan has, whatever the number of its statement
 pub lines-are-notes : (settings : Settings) (local : JoinKind) (number : ℕ) (shape : Shape) (given : List PlacedRelation)
-    (choice : ShuffleChoice)
-    → IsChosenFor settings shape (kept_sizes shape (rows_of given)) choice
-    → join_lines choice local shape (sizes_of (rows_of given)) (kept_sizes shape (rows_of given))
+    (sizes : JoinSizes) (choice : ShuffleChoice)
+    → 0 < length sizes.rows.now → AreSizes (reduction_of settings.reduce shape) shape given sizes
+    → IsChosenFor settings shape sizes.joined.now choice
+    → join_lines choice local shape (reduction_of settings.reduce shape) sizes.rows.now sizes.kept.now sizes.joined.now
     ≡ join_notes (usual_placing settings) local number shape given
-lines-are-notes settings local number shape [] choice is =
-    sym (lines-of (usual_shuffle settings.shuffle settings.workers shape []) choice local shape []
-    (is.shuffle ∙ chosen-usual settings.shuffle settings.workers shape []) is.stays)
-lines-are-notes settings local number shape (one ∷ []) choice is = refl
-lines-are-notes settings local number shape (one ∷ two ∷ given) choice is =
-    let all = rows_of (one ∷ two ∷ given) in
-    sym (lines-of (usual_shuffle settings.shuffle settings.workers shape all) choice local shape all
-    (is.shuffle ∙ chosen-usual settings.shuffle settings.workers shape all) is.stays)
+lines-are-notes settings local number shape [] sizes choice some are is = absurd (omega (arith, some, ap length are.rows))
+lines-are-notes settings local number shape (one ∷ []) sizes choice some are is =
+    lines-by choice local shape (reduction_of settings.reduce shape) (one ∷ []) sizes are
+lines-are-notes settings local number shape (one ∷ two ∷ given) sizes choice some are is =
+    lines-by choice local shape (reduction_of settings.reduce shape) (one ∷ two ∷ given) sizes are
+    ∙ lines-of settings local shape (one ∷ two ∷ given) sizes.joined.now choice (are.joined (omega arith)) is

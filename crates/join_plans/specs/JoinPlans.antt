@@ -1,25 +1,32 @@
 -- The shuffle that is chosen for a join, and the lines of its plan.
 --
---   shuffle_of choice               how rows come together by this choice
---   sizes_of given                  the numbers of rows
---   chosen kind workers shape kept  what settings ask for with so many kept rows of each atom
---   staying_of kept                 the atom with the most kept rows
---   IsStaying kept choice           the atom whose rows stay is this one
---   IsChosenFor settings shape kept choice   the choice is what settings ask for
---   ChosenAreUsual                  that is the shuffle of the settings
-use Rattle.std.specs.Prelude.{◌≡◌, ⊤, ℕ, List, map, length, find, unwrap_or}
+--   shuffle_of choice                    how rows come together by this choice
+--   sizes_of given                       the numbers of rows
+--   reduction_of reduce shape            what a reduction comes to, if it is asked for
+--   joined_sizes reduction shape given   the numbers of joined rows
+--   AreSizes reduction shape given sizes the numbers are those of these items
+--   chosen kind workers shape joined     what settings ask for with so many joined rows of each atom
+--   staying_of joined                    the atom with the most joined rows
+--   IsStaying joined choice              the atom whose rows stay is this one
+--   IsChosenFor settings shape joined choice   the choice is what settings ask for
+--   ChosenAreUsual                       that is the shuffle of the settings
+use Rattle.std.specs.Prelude.{◌≡◌, ◌<◌, ⊤, ℕ, Bool, true, false, if◌then◌else◌, List, map, length, find, unwrap_or}
 use Rattle.std.specs.List.{range_with_len}
 use Rattle.myrial_ast.specs.Combinations.{Rows}
 use Rattle.algebra.specs.declared.settings.Settings.{Settings}
 use Rattle.algebra.specs.declared.settings.ShuffleKind.{ShuffleKind}
 use Rattle.algebra.specs.declared.settings.ShuffleKind.TheVariants as shuffle_kind
 use Rattle.algebra.specs.Trees.{Shape}
+use Rattle.algebra.specs.Shapes.{is_acyclic_shape}
 use Rattle.share_chooser.specs.Best.{best_shares}
 use Rattle.share_chooser.specs.Shares.{shares_of}
-use Rattle.placement.specs.Layouts.{Shuffle, ByCells, ByKeys, Broadcast, is_most, staying_atom}
+use Rattle.placement.specs.Layouts.{PlacedRelation, Shuffle, ByCells, ByKeys, Broadcast, is_most, staying_atom, rows_of, reduced_items, joined_items}
 use Rattle.placement.specs.Plans.{uses_of, kept_sizes, usual_shuffle}
 use Rattle.join_plans.specs.declared.choices.ShuffleChoice.{ShuffleChoice}
 use Rattle.join_plans.specs.declared.choices.ShuffleChoice.TheVariants as choice
+use Rattle.join_plans.specs.declared.sizes.JoinSizes.{JoinSizes}
+use Rattle.join_plans.specs.declared.sizes.Reduction.{Reduction}
+use Rattle.join_plans.specs.declared.sizes.Reduction.TheVariants as reduction
 
 -- how rows come together by this choice
 abbrev pub shuffle_of : ShuffleChoice → Shuffle
@@ -27,34 +34,58 @@ shuffle_of (choice.Cells shares) = ByCells (shares_of shares)
 shuffle_of choice.Keys = ByKeys
 shuffle_of (choice.Broadcast stays) = Broadcast
 
+-- ---- numbers of rows
+
 -- the numbers of rows
 abbrev pub sizes_of : List Rows → List ℕ
 sizes_of given = map (λ rows. length rows) given
 
--- what settings ask for with so many kept rows of each atom: cells with the shares of least load, two atoms at a time, or
+-- what a reduction comes to: nothing where none is asked for, and else the shape tells
+abbrev pub reduction_of : Bool → Shape → Reduction
+reduction_of false shape = reduction.Unasked
+reduction_of true shape = if is_acyclic_shape shape then reduction.Reduced else reduction.Cyclic
+
+-- the numbers of joined rows: of the reduced rows where rows are gone, and else of the kept rows
+abbrev pub joined_sizes : Reduction → Shape → List PlacedRelation → List ℕ
+joined_sizes reduction.Unasked shape given = kept_sizes shape (rows_of given)
+joined_sizes reduction.Cyclic shape given = kept_sizes shape (rows_of given)
+joined_sizes reduction.Reduced shape given = sizes_of (rows_of (reduced_items shape given))
+
+-- the numbers of rows, kept rows and joined rows of these items; no line tells what is joined of an item that is alone
+pub record AreSizes (reduction : Reduction) (shape : Shape) (given : List PlacedRelation) (sizes : JoinSizes) : Type 0 where
+  pub rows : sizes_of (rows_of given) ≡ sizes.rows.now
+  pub kept : kept_sizes shape (rows_of given) ≡ sizes.kept.now
+  pub joined : 1 < length given → joined_sizes reduction shape given ≡ sizes.joined.now
+
+-- ---- choices
+
+-- what settings ask for with so many joined rows of each atom: cells with the shares of least load, two atoms at a time, or
 -- broadcast
 abbrev pub chosen : ShuffleKind → ℕ → Shape → List ℕ → Shuffle
-chosen shuffle_kind.Hc workers shape kept = ByCells (best_shares (uses_of shape) kept (length shape.variables) workers)
-chosen shuffle_kind.Rs workers shape kept = ByKeys
-chosen shuffle_kind.Br workers shape kept = Broadcast
+chosen shuffle_kind.Hc workers shape joined = ByCells (best_shares (uses_of shape) joined (length shape.variables) workers)
+chosen shuffle_kind.Rs workers shape joined = ByKeys
+chosen shuffle_kind.Br workers shape joined = Broadcast
 
 -- the place of the greatest number, the first of them at a tie
 abbrev pub staying_of : List ℕ → ℕ
-staying_of kept = unwrap_or (find (is_most kept) (range_with_len 0 (length kept))) 0
+staying_of joined = unwrap_or (find (is_most joined) (range_with_len 0 (length joined))) 0
 
--- where the rows of one atom stay, it is the one with the most kept rows
+-- where the rows of one atom stay, it is the one with the most joined rows
 abbrev pub IsStaying : List ℕ → ShuffleChoice → Type 0
-IsStaying kept (choice.Cells shares) = ⊤
-IsStaying kept choice.Keys = ⊤
-IsStaying kept (choice.Broadcast stays) = stays ≡ staying_of kept
+IsStaying joined (choice.Cells shares) = ⊤
+IsStaying joined choice.Keys = ⊤
+IsStaying joined (choice.Broadcast stays) = stays ≡ staying_of joined
 
--- the choice is what settings ask for with so many kept rows of each atom
-pub record IsChosenFor (settings : Settings) (shape : Shape) (kept : List ℕ) (choice : ShuffleChoice) : Type 0 where
-  pub shuffle : shuffle_of choice ≡ chosen settings.shuffle settings.workers shape kept
-  pub stays : IsStaying kept choice
+-- the choice is what settings ask for with so many joined rows of each atom
+pub record IsChosenFor (settings : Settings) (shape : Shape) (joined : List ℕ) (choice : ShuffleChoice) : Type 0 where
+  pub shuffle : shuffle_of choice ≡ chosen settings.shuffle settings.workers shape joined
+  pub stays : IsStaying joined choice
 
--- by the numbers of kept rows, it is the shuffle of the settings, and the atom that stays is that of the definitions
+-- by the numbers of kept rows of what is joined, it is the shuffle of the settings, and the atom that stays is that of the
+-- definitions; and these are the numbers of joined rows
 pub record ChosenAreUsual : Type 0 where
-  pub shuffle : (kind : ShuffleKind) (workers : ℕ) (shape : Shape) (given : List Rows)
-      → chosen kind workers shape (kept_sizes shape given) ≡ usual_shuffle kind workers shape given
-  pub stays : (shape : Shape) (given : List Rows) → staying_of (kept_sizes shape given) ≡ staying_atom shape given
+  pub shuffle : (kind : ShuffleKind) (workers : ℕ) (shape : Shape) (items : List Rows)
+      → chosen kind workers shape (kept_sizes shape items) ≡ usual_shuffle kind workers shape items
+  pub stays : (shape : Shape) (items : List Rows) → staying_of (kept_sizes shape items) ≡ staying_atom shape items
+  pub sizes : (reduce : Bool) (shape : Shape) (given : List PlacedRelation)
+      → joined_sizes (reduction_of reduce shape) shape given ≡ kept_sizes shape (rows_of (joined_items reduce shape given))

@@ -7,17 +7,18 @@
 //! load, and on `placement`, whose definitions say what a plan is.
 //!
 //! Promises: the shuffle is the one that the settings ask for, by cells with the shares of least
-//! load; and the lines of a join are those that the definitions state. Both are found by the
-//! numbers of rows alone, and are the same in whatever order rows lie. Not promised: that memory
-//! is there.
+//! load for the rows that are joined; and the lines of a join are those that the definitions state.
+//! Both are found by the numbers of rows alone, and are the same in whatever order rows lie. Not
+//! promised: that memory is there.
 //!
-//! Read `specs/JoinPlans.antt` and `plans.rt`, then `choices.rt` and `notes.rt`.
+//! Read `specs/JoinPlans.antt`, `sizes.rt` and `plans.rt`, then `choices.rt` and `notes.rt`.
 #![tactic(auto)]
 
 mod choices;
 mod laws;
 mod notes;
 mod plans;
+mod sizes;
 mod spans;
 mod uses;
 
@@ -25,3 +26,4 @@ pub use choices::ShuffleChoice;
 pub use laws::chosen_are_usual;
 pub use notes::{add_note, group_note};
 pub use plans::plan_join;
+pub use sizes::{JoinSizes, Reduction};
