@@ -139,7 +139,7 @@ module _ (n seed : ℕ) (s t : Shape) (given others : List PlacedRelation) (h : 
   meeting-same : (shares : List ℕ) → meeting_cell seed shares s ≡ meeting_cell seed shares t
   meeting-same shares = λ k. meeting_by seed shares (h.variables k)
 
-  pub staying-same : staying_atom s (rows_of given) ≡ staying_atom t (rows_of others)
+  staying-same : staying_atom s (rows_of given) ≡ staying_atom t (rows_of others)
   staying-same =
       ap (λ sizes. unwrap_or (find (is_most sizes) (range_with_len 0 (length (rows_of given)))) 0) h.sizes
       ∙ ap (λ m. unwrap_or (find (is_most (kept_sizes t (rows_of others))) (range_with_len 0 m)) 0)
@@ -335,7 +335,7 @@ module _ (n seed : ℕ) (s t : Shape) (given others : List PlacedRelation) (h : 
 
   -- ---- faults
 
-  many-alike : too_many (candidates_of s (rows_of given)) ≡ too_many (candidates_of t (rows_of others))
+  pub many-alike : too_many (candidates_of s (rows_of given)) ≡ too_many (candidates_of t (rows_of others))
   many-alike = ap (λ m. nat_lt most_rows m)
       (sym (length_permutation (candidates_of s (rows_of given)) (candidates_of t (rows_of others)) h.candidates))
 

@@ -17,7 +17,7 @@ use Rattle.algebra.specs.Rewriting.{AreTables}
 use Rattle.std.specs.Prelude.{IsTrue}
 use Rattle.std.specs.Cmp.Lexicographic.{pointwise}
 use Rattle.placement.specs.Layouts.{PlacedRelation, rows_of, together, placed_steps}
-use Rattle.placement.specs.Laws.{AreWide, IsPlaced, IsReady, IsSamePlaced, HasReadyItems}
+use Rattle.placement.specs.Laws.{AreWide, IsPlaced, IsReady, IsSamePlaced, AreSamePlaced, none_placed, one_placed, HasReadyItems}
 use Rattle.placement.proofs.ScriptLemmas.{steps-IsPlaced, found-IsPlaced}
 use Rattle.run_laws.specs.Values.{meant}
 use Rattle.run_laws.specs.Scripts.{AreRowsOf, HasTypedSources, HeldAreMeant, ReadyAreOfBags}
@@ -66,6 +66,13 @@ held_are_meant p files c good of_files typed o parts same =
 -- ---- sources
 
 module _ (v w : Source → PlacedRelation) where
+  pub values-placed : (sources : List Source) → All (λ o. IsSamePlaced (v o) (w o)) sources
+      → AreSamePlaced (map v sources) (map w sources)
+  values-placed [] same = none_placed
+  values-placed (o ∷ sources) same =
+      one_placed (v o) (w o) (map v sources) (map w sources) (All-head (λ o. IsSamePlaced (v o) (w o)) o sources same)
+      (values-placed sources (All-tail (λ o. IsSamePlaced (v o) (w o)) o sources same))
+
   wide-same : (widths : List ℕ) (sources : List Source) → All (λ o. IsSamePlaced (v o) (w o)) sources
       → AreWide widths (rows_of (map v sources)) → AreWide widths (rows_of (map w sources))
   wide-same [] [] same h = tt

@@ -6,19 +6,19 @@ pub mod TypeLemmas
 pub mod RewrittenLemmas
 pub mod ScriptLemmas
 pub mod BagLemmas
+pub mod TableLemmas
 pub mod NoteLemmas
 pub mod FoundLemmas
 pub mod HeldLemmas
 pub mod LoopLemmas
-pub mod TableLemmas
 pub mod MovedLemmas
 pub mod RunLemmas
 pub mod SendLemmas
 pub mod AlikeLemmas
-pub mod BagNoteLemmas
 pub mod TermLemmas
 pub mod PrefixLemmas
 pub mod TypedLemmas
 pub mod KeptLemmas
 pub mod PartLemmas
+pub mod JoinedLemmas
 mod WorkedRows

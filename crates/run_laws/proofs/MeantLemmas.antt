@@ -7,7 +7,7 @@ use Rattle.rel_base.specs.declared.faults.RunFault.{RunFault}
 use Rattle.rel_base.specs.Keys.{File}
 use Rattle.rel_base.specs.Relations.{RelationState}
 use Rattle.myrial_ast.specs.Combinations.{Rows}
-use Rattle.myrial_ast.specs.CandidateFaults.{PrefixRule}
+use Rattle.myrial_ast.specs.CandidateFaults.{FaultRule}
 use Rattle.algebra.specs.declared.terms.Source.{Source}
 use Rattle.algebra.specs.declared.terms.Source.TheVariants as source
 use Rattle.algebra.specs.declared.terms.StoreStep.{StoreStep}
@@ -146,7 +146,7 @@ steps_are_meant p files c h =
 
 -- ---- faults
 
-module _ (rules : ℕ → PrefixRule) (files : List File) (stores : List StoreStep) (final : List (ℕ × RelationState)) where
+module _ (rules : ℕ → FaultRule) (files : List File) (stores : List StoreStep) (final : List (ℕ × RelationState)) where
   abbrev rows-in : List (ℕ × RelationState) → Source → Rows
   rows-in results o = (found no_relation (relations_of files) results o).rows
 

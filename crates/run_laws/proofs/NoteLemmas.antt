@@ -1,8 +1,7 @@
 -- The lines of a plan are of the numbers of rows alone.
-use Rattle.std.proofs.Common.{◌≡◌, ℕ, suc, ◌+◌, Bool, List, [], ◌∷◌, ◌++◌, map, length, refl, sym, ◌∙◌, ap}
+use Rattle.std.proofs.Common.{◌≡◌, ℕ, suc, ◌+◌, Bool, true, false, cond, List, [], ◌∷◌, ◌++◌, map, length, refl, sym, ◌∙◌, ap}
 use Rattle.std.specs.Prelude.{All, find, unwrap_or}
 use Rattle.std.specs.List.{enumerate_from, range_with_len}
-use Rattle.std.proofs.lemmas.List.Elements.{All-head, All-tail}
 use Rattle.std.proofs.lemmas.List.Sorted.{length_permutation}
 use Rattle.myrial_ast.specs.Combinations.{Row, Rows}
 use Rattle.myrial_ast.specs.KeptRows.{passes_within, span_of_item, put_at}
@@ -18,12 +17,15 @@ use Rattle.algebra.specs.declared.settings.ShuffleKind.{ShuffleKind}
 use Rattle.algebra.specs.declared.settings.ShuffleKind.TheVariants as shuffle_kind
 use Rattle.algebra.specs.declared.terms.Source.{Source}
 use Rattle.algebra.specs.Trees.{Shape, TermTree, Same, Empty, UnionAll, Diff, Distinct, Join, Group}
-use Rattle.algebra.specs.Shapes.{widths_of, tests_of, ties_of, kept_of}
+use Rattle.algebra.specs.Shapes.{widths_of, tests_of, ties_of, kept_of, is_acyclic_shape}
 use Rattle.algebra.specs.Meanings.{sources_of}
-use Rattle.placement.specs.Layouts.{PlacedRelation, Shuffle, ByCells, ByKeys, Broadcast, rows_of, is_most, staying_atom}
-use Rattle.placement.specs.Laws.{IsSamePlaced}
-use Rattle.placement.specs.Plans.{uses_of, pushed_of, usual_shuffle, usual_placing, item_notes, variable_notes, shuffle_note, join_notes, group_note, term_notes}
+use Rattle.placement.specs.Layouts.{PlacedRelation, Shuffle, ByCells, ByKeys, Broadcast, rows_of, joined_items, is_most, staying_atom}
+use Rattle.placement.specs.Laws.{IsSamePlaced, AreSamePlaced, none_placed, one_placed}
+use Rattle.placement.specs.Plans.{uses_of, pushed_of, usual_shuffle, usual_placing, item_notes, variable_notes, shuffle_note, reduce_notes, join_notes, group_note, term_notes}
+use Rattle.placement.proofs.JoinedLemmas.{rows-same, joined_are_of_bags}
 use Rattle.run_laws.specs.Scripts.{NotesAreOfBags}
+use Rattle.run_laws.proofs.TableLemmas.{tables-counts}
+use Rattle.run_laws.proofs.BagLemmas.{values-placed}
 
 module _ (shape : Shape) where
   kept-many : (i : ℕ) (rows others : Rows) → SameTables (rows ∷ []) (others ∷ []) → length (kept_of shape i rows)
@@ -33,7 +35,7 @@ module _ (shape : Shape) where
       let passes : Row → Bool = λ row. passes_within (tests_of shape) (ties_of shape) span (put_at span.from row) in
       sym (length_permutation (kept_of shape i rows) (kept_of shape i others) (filter_rows-same passes rows others h))
 
-  sizes-same : (i : ℕ) (ts us : List Rows) → SameTables ts us
+  pub sizes-same : (i : ℕ) (ts us : List Rows) → SameTables ts us
       → map (λ (e : ℕ × Rows). length (kept_of shape e.0 e.1)) (enumerate_from i ts)
       ≡ map (λ (e : ℕ × Rows). length (kept_of shape e.0 e.1)) (enumerate_from i us)
   sizes-same i _ _ no_table = refl
@@ -79,40 +81,46 @@ module _ (shape : Shape) where
   note-same ByKeys local ts us h = refl
   note-same Broadcast local ts us h = ap (λ j. note.Br local (suc j)) (stays-same ts us h)
 
-  -- the lines of a join of several items
-  several : (kind : ShuffleKind) (n : ℕ) (local : JoinKind) → List Rows → List PlanNote
-  several kind n local ts =
-      item_notes shape ts ++ variable_notes (usual_shuffle kind n shape ts) shape ++ shuffle_note
-      (usual_shuffle kind n shape ts) local shape ts ∷ []
+  reduce-same : (reduce : Bool) (ts us : List Rows) → SameTables ts us → reduce_notes reduce shape ts ≡ reduce_notes reduce shape us
+  reduce-same false ts us h = refl
+  reduce-same true ts us h =
+      ap (λ counts. cond (is_acyclic_shape shape) (note.Reduced counts) note.ReduceCyclic ∷ []) (tables-counts ts us h)
 
-  several-same : (kind : ShuffleKind) (n : ℕ) (local : JoinKind) (ts us : List Rows) → SameTables ts us → several kind n local ts
-      ≡ several kind n local us
+  -- the lines of a join of several items, by all rows and by those that are joined
+  several : (kind : ShuffleKind) (n : ℕ) (reduce : Bool) (local : JoinKind) → List Rows → List Rows → List PlanNote
+  several kind n reduce local ts items =
+      item_notes shape ts ++ reduce_notes reduce shape items ++ variable_notes (usual_shuffle kind n shape items) shape
+      ++ shuffle_note (usual_shuffle kind n shape items) local shape items ∷ []
+
+  several-same : (kind : ShuffleKind) (n : ℕ) (reduce : Bool) (local : JoinKind) (ts us : List Rows) → SameTables ts us
+      → (items others : List Rows) → SameTables items others
+      → several kind n reduce local ts items ≡ several kind n reduce local us others
   unfolding several
-  several-same kind n local ts us h =
-      let items = notes-same 0 ts us h in
-      let how = shuffle-same kind n ts us h in
-      let own = note-same (usual_shuffle kind n shape ts) local ts us h ∙ ap (λ shuffle. shuffle_note shuffle local shape us) how in
-      λ t. items t ++ variable_notes (how t) shape ++ own t ∷ []
+  several-same kind n reduce local ts us h items others k =
+      let rows = notes-same 0 ts us h in
+      let line = reduce-same reduce items others k in
+      let how = shuffle-same kind n items others k in
+      let own = note-same (usual_shuffle kind n shape items) local items others k
+      ∙ ap (λ shuffle. shuffle_note shuffle local shape others) how in
+      λ t. rows t ++ line t ++ variable_notes (how t) shape ++ own t ∷ []
+
+module _ (s : Settings) (local : JoinKind) (number : ℕ) where
+  join-same : (shape : Shape) (given others : List PlacedRelation) → AreSamePlaced given others
+      → join_notes (usual_placing s) local number shape given ≡ join_notes (usual_placing s) local number shape others
+  unfolding several
+  join-same shape _ _ none_placed = refl
+  join-same shape _ _ (one_placed p q _ _ h none_placed) =
+      notes-same shape 0 (rows_of (p ∷ [])) (rows_of (q ∷ [])) (rows-same (p ∷ []) (q ∷ []) (one_placed p q [] [] h none_placed))
+  join-same shape _ _ (one_placed p q _ _ h (one_placed r u ps qs k hs)) =
+      let given = p ∷ r ∷ ps in
+      let others = q ∷ u ∷ qs in
+      let placed = one_placed p q (r ∷ ps) (u ∷ qs) h (one_placed r u ps qs k hs) in
+      several-same shape s.shuffle s.workers s.reduce local (rows_of given) (rows_of others) (rows-same given others placed)
+      (rows_of (joined_items s.reduce shape given)) (rows_of (joined_items s.reduce shape others))
+      (rows-same (joined_items s.reduce shape given) (joined_items s.reduce shape others)
+      (joined_are_of_bags s.reduce shape given others placed))
 
 module _ (s : Settings) (local : JoinKind) (number : ℕ) (v w : Source → PlacedRelation) where
-  tables-of : (sources : List Source) → All (λ o. IsSamePlaced (v o) (w o)) sources
-      → SameTables (rows_of (map v sources)) (rows_of (map w sources))
-  tables-of [] same = no_table
-  tables-of (o ∷ sources) same =
-      a_table (v o).relation.rows (w o).relation.rows (rows_of (map v sources)) (rows_of (map w sources))
-      (All-head (λ o. IsSamePlaced (v o) (w o)) o sources same).rows
-      (tables-of sources (All-tail (λ o. IsSamePlaced (v o) (w o)) o sources same))
-
-  join-same : (shape : Shape) (sources : List Source) → All (λ o. IsSamePlaced (v o) (w o)) sources
-      → join_notes (usual_placing s) local number shape (map v sources)
-      ≡ join_notes (usual_placing s) local number shape (map w sources)
-  unfolding several
-  join-same shape [] same = refl
-  join-same shape (o ∷ []) same = notes-same shape 0 (rows_of (map v (o ∷ []))) (rows_of (map w (o ∷ []))) (tables-of (o ∷ []) same)
-  join-same shape (o ∷ q ∷ more) same =
-      several-same shape s.shuffle s.workers local (rows_of (map v (o ∷ q ∷ more))) (rows_of (map w (o ∷ q ∷ more)))
-      (tables-of (o ∷ q ∷ more) same)
-
   term-same : (t : TermTree) → All (λ o. IsSamePlaced (v o) (w o)) (sources_of t)
       → term_notes (usual_placing s) local number v t ≡ term_notes (usual_placing s) local number w t
   term-same (Same o) same = refl
@@ -120,8 +128,11 @@ module _ (s : Settings) (local : JoinKind) (number : ℕ) (v w : Source → Plac
   term-same (UnionAll o q) same = refl
   term-same (Diff o q) same = refl
   term-same (Distinct o) same = refl
-  term-same (Join shape sources) same = join-same shape sources same
-  term-same (Group shape sources kinds) same = ap (λ notes. notes ++ group_note kinds ∷ []) (join-same shape sources same)
+  term-same (Join shape sources) same =
+      join-same s local number shape (map v sources) (map w sources) (values-placed v w sources same)
+  term-same (Group shape sources kinds) same =
+      ap (λ notes. notes ++ group_note kinds ∷ [])
+      (join-same s local number shape (map v sources) (map w sources) (values-placed v w sources same))
 
 pub notes_are_of_bags : NotesAreOfBags
 notes_are_of_bags s local number v w t same = term-same s local number v w t same

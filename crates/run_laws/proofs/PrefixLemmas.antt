@@ -27,15 +27,15 @@ pub kept-again : (shape : Shape) (j : ℕ) (rows : Rows) → kept_of shape j (ke
 kept-again shape j rows = filter-inside (keeps shape j) (keeps shape j) (λ row h. h) rows
 
 -- the kept rows of each table
-abbrev pub kept_tables : Shape → ℕ → List Rows → List Rows
-kept_tables shape i tables = map (λ (e : ℕ × Rows). kept_of shape e.0 e.1) (enumerate_from i tables)
+abbrev pub kept_from : Shape → ℕ → List Rows → List Rows
+kept_from shape i tables = map (λ (e : ℕ × Rows). kept_of shape e.0 e.1) (enumerate_from i tables)
 
-pub tables-kept-long : (shape : Shape) (i : ℕ) (tables : List Rows) → length (kept_tables shape i tables) ≡ length tables
+pub tables-kept-long : (shape : Shape) (i : ℕ) (tables : List Rows) → length (kept_from shape i tables) ≡ length tables
 tables-kept-long shape i tables = length-map (enumerate_from i tables) (λ (e : ℕ × Rows). kept_of shape e.0 e.1)
     ∙ length-enumerate_from i tables
 
 tables-kept-at : (shape : Shape) (i k : ℕ) (tables : List Rows)
-    → slice_index_or (kept_tables shape i tables) k [] ≡ kept_of shape (i + k) (slice_index_or tables k [])
+    → slice_index_or (kept_from shape i tables) k [] ≡ kept_of shape (i + k) (slice_index_or tables k [])
 tables-kept-at shape i k [] = refl
 tables-kept-at shape i zero (rows ∷ tables) = ap (λ j. kept_of shape j rows) (plus-none i)
   where
@@ -48,22 +48,22 @@ tables-kept-at shape i (suc k) (rows ∷ tables) = tables-kept-at shape (i + 1) 
     plus-one i k = omega arith
 
 pub tables-kept-set : (shape : Shape) (i j : ℕ) (tables : List Rows) (own : Rows)
-    → kept_tables shape i (set tables j own) ≡ set (kept_tables shape i tables) j (kept_of shape (i + j) own)
+    → kept_from shape i (set tables j own) ≡ set (kept_from shape i tables) j (kept_of shape (i + j) own)
 tables-kept-set shape i j [] own = refl
-tables-kept-set shape i zero (rows ∷ tables) own = ap (λ k. kept_of shape k own ∷ kept_tables shape (i + 1) tables) (plus-none i)
+tables-kept-set shape i zero (rows ∷ tables) own = ap (λ k. kept_of shape k own ∷ kept_from shape (i + 1) tables) (plus-none i)
   where
     plus-none : (i : ℕ) → i ≡ i + 0
     plus-none i = omega arith
 tables-kept-set shape i (suc j) (rows ∷ tables) own =
     ap (λ ts. kept_of shape i rows ∷ ts)
     (tables-kept-set shape (i + 1) j tables own
-    ∙ ap (λ k. set (kept_tables shape (i + 1) tables) j (kept_of shape k own)) (plus-one i j))
+    ∙ ap (λ k. set (kept_from shape (i + 1) tables) j (kept_of shape k own)) (plus-one i j))
   where
     plus-one : (i j : ℕ) → (i + 1) + j ≡ i + suc j
     plus-one i j = omega arith
 
 tables-kept-wide : (shape : Shape) (i : ℕ) (widths : List ℕ) (tables : List Rows) → AreWide widths tables
-    → AreWide widths (kept_tables shape i tables)
+    → AreWide widths (kept_from shape i tables)
 tables-kept-wide shape i [] [] h = tt
 tables-kept-wide shape i [] (rows ∷ tables) h = absurd h
 tables-kept-wide shape i (width ∷ widths) [] h = absurd h
@@ -101,13 +101,13 @@ prefix-one shape rows tables =
     (combined-before ([] ∷ []) rows ∙ alone rows)
 
 prefixes-kept : (shape : Shape) (i : ℕ) (tables : List Rows) → AreWide (widths_of shape) tables → suc i ≤ length tables
-    → prefix_of shape (suc i) tables ≡ prefix_of shape (suc i) (kept_tables shape 0 tables)
+    → prefix_of shape (suc i) tables ≡ prefix_of shape (suc i) (kept_from shape 0 tables)
 prefixes-kept shape zero [] wide low = absurd (omega (arith, low))
 prefixes-kept shape zero (rows ∷ tables) wide low =
     prefix-one shape rows tables ∙ sym (kept-again shape 0 rows)
-    ∙ sym (prefix-one shape (kept_of shape 0 rows) (kept_tables shape 1 tables))
+    ∙ sym (prefix-one shape (kept_of shape 0 rows) (kept_from shape 1 tables))
 prefixes-kept shape (suc i) tables wide low =
-    let kept = kept_tables shape 0 tables in
+    let kept = kept_from shape 0 tables in
     let own : kept_of shape (suc i) (slice_index_or tables (suc i) []) ≡ kept_of shape (suc i) (slice_index_or kept (suc i) []) =
     sym (kept-again shape (suc i) (slice_index_or tables (suc i) []))
     ∙ ap (kept_of shape (suc i))
@@ -122,6 +122,6 @@ prefixes-kept shape (suc i) tables wide low =
     none-plus j = omega arith
 
 pub prefix-kept : (shape : Shape) (i : ℕ) (tables : List Rows) → AreWide (widths_of shape) tables → 1 ≤ i → i ≤ length tables
-    → prefix_of shape i tables ≡ prefix_of shape i (kept_tables shape 0 tables)
+    → prefix_of shape i tables ≡ prefix_of shape i (kept_from shape 0 tables)
 prefix-kept shape zero tables wide some low = absurd (omega (arith, some))
 prefix-kept shape (suc i) tables wide some low = prefixes-kept shape i tables wide low

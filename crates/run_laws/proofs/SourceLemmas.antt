@@ -10,7 +10,7 @@ use Rattle.rel_base.specs.Keys.{File}
 use Rattle.myrial_ast.specs.Combinations.{Rows}
 use Rattle.myrial_ast.specs.Bags.{union_all, distinct, difference}
 use Rattle.myrial_ast.specs.Groups.{groups}
-use Rattle.myrial_ast.specs.CandidateFaults.{PrefixRule, too_many}
+use Rattle.myrial_ast.specs.CandidateFaults.{FaultRule, too_many}
 use Rattle.algebra.specs.declared.terms.Source.{Source}
 use Rattle.algebra.specs.declared.terms.Source.TheVariants as source
 use Rattle.algebra.specs.Trees.{AtomTree, TermTree, Same, Empty, UnionAll, Diff, Distinct, Join, Group, StepTree}
@@ -147,7 +147,7 @@ module _ (f g : Source → Rows) where
   rows-same (Join shape sources) h = ap (listed_of shape) (map-same f g sources h)
   rows-same (Group shape sources kinds) h = ap (λ tables. groups kinds (listed_of shape tables)) (map-same f g sources h)
 
-  pub fault-same : (rule : PrefixRule) (number : ℕ) (t : TermTree) → All (λ o. f o ≡ g o) (sources_of t)
+  pub fault-same : (rule : FaultRule) (number : ℕ) (t : TermTree) → All (λ o. f o ≡ g o) (sources_of t)
       → term_fault rule number f t ≡ term_fault rule number g t
   fault-same rule number (Same s) h = refl
   fault-same rule number Empty h = refl

@@ -1,7 +1,7 @@
 -- A term over the same bags comes to the same bags, by exchanges that tell the same, with the same fault.
 use Rattle.std.proofs.Common.{◌≡◌, ℕ, zero, suc, ◌+◌, Bool, true, false, not, List, [], ◌∷◌, ◌++◌, map, length, refl, sym, ◌∙◌, ap, subst, Option, Some, None}
 use Rattle.std.specs.Prelude.{slice_index_or, set, take, nat_lt, if◌then◌else◌, ◌||◌, ◌&&◌}
-use Rattle.std.specs.List.{enumerate_from, list_all, list_any, zip}
+use Rattle.std.specs.List.{list_all, list_any, zip}
 use Rattle.std.proofs.lemmas.List.Elements.{All-head, All-tail}
 use Rattle.std.proofs.lemmas.List.Sorted.{IsPermutation-map, IsPermutation-append, length_permutation, list_any-IsPermutation}
 use Rattle.rel_base.specs.Bags.{SameBag}
@@ -14,36 +14,32 @@ use Rattle.myrial_ast.specs.Bags.{union_all, distinct, difference}
 use Rattle.myrial_ast.specs.Groups.{Kinds, key_of, groups, sum_fits, sums_fit}
 use Rattle.myrial_ast.specs.Partials.{partial_rows, split_sums}
 use Rattle.myrial_ast.specs.KeptRows.{passes_within, span_of_item, span_of_prefix, put_at}
-use Rattle.myrial_ast.specs.CandidateFaults.{PrefixRule}
+use Rattle.myrial_ast.specs.CandidateFaults.{FaultRule}
 use Rattle.bag_laws.specs.Permuted.{SameTables, no_table, a_table}
 use Rattle.bag_laws.proofs.GroupPermutations.{groups-same}
 use Rattle.bag_laws.proofs.RowPermutations.{combinations-same, filter_rows-same, candidates-same, listed_from-same, union_all-same, distinct-same, difference-same}
 use Rattle.algebra.specs.declared.notes.Exchange.{Exchange}
 use Rattle.algebra.specs.declared.notes.Exchange.TheVariants as exchange
-use Rattle.algebra.specs.declared.settings.JoinKind.{JoinKind}
 use Rattle.algebra.specs.declared.settings.Settings.{Settings}
 use Rattle.algebra.specs.declared.terms.Source.{Source}
 use Rattle.algebra.specs.Trees.{Shape, TermTree, Same, Empty, UnionAll, Diff, Distinct, Join, Group}
-use Rattle.algebra.specs.Shapes.{widths_of, tests_of, ties_of, tie_test, candidates_of, kept_of, listed_of, prefix_of}
-use Rattle.algebra.specs.Meanings.{sources_of, shape_fault}
+use Rattle.algebra.specs.Shapes.{widths_of, tests_of, ties_of, tie_test, candidates_of, kept_of, joined_tables, listed_of, prefix_of}
+use Rattle.algebra.specs.Meanings.{sources_of, has_long_prefix, shape_fault}
 use Rattle.placement.specs.Exchanges.{row_counts, shuffle_exchanges, join_exchanges, to_home, whole_row, row_exchange, partial_sending, group_exchange}
-use Rattle.placement.specs.Layouts.{PlacedRelation, Shuffle, placed_nothing, by_worker, part, rows_of, join_parts, listed_parts, term_parts}
+use Rattle.placement.specs.Layouts.{PlacedRelation, placed_nothing, by_worker, part, rows_of, joined_items, join_parts, listed_parts, term_parts}
 use Rattle.placement.specs.Laws.{IsSamePlaced, AreSamePlaced, none_placed, one_placed}
-use Rattle.placement.specs.Plans.{group_note, item_notes, variable_notes, shuffle_note, join_notes, usual_shuffle, usual_placing}
+use Rattle.placement.specs.Plans.{usual_shuffle, usual_placing}
+use Rattle.placement.proofs.JoinedLemmas.{rows-same, joined-rows, joined_are_of_bags}
 use Rattle.placement.proofs.PrefixLemmas.{map-through}
 use Rattle.run_laws.specs.SameExchanges.{AreSameExchanges, no_exchange, an_exchange}
 use Rattle.run_laws.specs.BagRuns.{AreSameValues, rows_in, IsSameRun, TermsAreOfBags}
 use Rattle.run_laws.proofs.TableLemmas.{tables-itself, tables-counts, tables-at, tables-map, tables-set, tables-take, tables-range, homes-same}
 use Rattle.run_laws.proofs.SendLemmas.{AreSameSendings, no_sending, a_sending, sendings-tell, exchanges-before}
-use Rattle.run_laws.proofs.AlikeLemmas.{AreKeptAlike, no_item, an_item, AreAlike, staying-same, parts-alike, exchanges-alike, shuffle-alike, few-alike, overflow-alike, listed-alike}
-use Rattle.run_laws.proofs.BagNoteLemmas.{item-notes, shuffle-noted}
+use Rattle.run_laws.proofs.BagLemmas.{values-placed}
+use Rattle.run_laws.proofs.NoteLemmas.{sizes-same, notes_are_of_bags}
+use Rattle.run_laws.proofs.AlikeLemmas.{AreKeptAlike, no_item, an_item, AreAlike, parts-alike, exchanges-alike, shuffle-alike, many-alike, long-alike, overflow-alike, listed-alike}
 
 -- ---- one shape over the same bags
-
-rows-same : (ps qs : List PlacedRelation) → AreSamePlaced ps qs → SameTables (rows_of ps) (rows_of qs)
-rows-same _ _ none_placed = no_table
-rows-same _ _ (one_placed p q ps qs h hs) =
-    a_table p.relation.rows q.relation.rows (rows_of ps) (rows_of qs) h.rows (rows-same ps qs hs)
 
 pub placed-long : (ps qs : List PlacedRelation) → AreSamePlaced ps qs → length ps ≡ length qs
 placed-long _ _ none_placed = refl
@@ -66,16 +62,6 @@ module _ (shape : Shape) where
   kept-each i _ _ (one_placed p q ps qs h hs) =
       an_item i p q ps qs (tables-map (kept_of shape i) (kept_of shape i) (kept-same i) p.parts q.parts h.parts)
       (kept-each (i + 1) ps qs hs)
-
-  sizes-same : (i : ℕ) (ts us : List Rows) → SameTables ts us
-      → map (λ (e : ℕ × Rows). length (kept_of shape e.0 e.1)) (enumerate_from i ts)
-      ≡ map (λ (e : ℕ × Rows). length (kept_of shape e.0 e.1)) (enumerate_from i us)
-  sizes-same i _ _ no_table = refl
-  sizes-same i _ _ (a_table rows others ts us h hs) =
-      let here : length (kept_of shape i rows) ≡ length (kept_of shape i others) =
-      sym (length_permutation (kept_of shape i rows) (kept_of shape i others) (kept-same i rows others h)) in
-      let rest = sizes-same (i + 1) ts us hs in
-      λ k. here k ∷ rest k
 
   pub candidates_of-same : (ts us : List Rows) → SameTables ts us → SameBag (candidates_of shape ts) (candidates_of shape us)
   candidates_of-same ts us h = candidates-same (tests_of shape ++ map tie_test (ties_of shape)) ts us h
@@ -102,7 +88,7 @@ module _ (shape : Shape) where
         atoms = refl;
         long = placed-long given others h;
         kept = kept-each 0 given others h;
-        sizes = sizes-same 0 (rows_of given) (rows_of others) rows;
+        sizes = sizes-same shape 0 (rows_of given) (rows_of others) rows;
         candidates = candidates_of-same (rows_of given) (rows_of others) rows;
         prefixes = λ i some low. prefix_of-same i (rows_of given) (rows_of others) rows;
         staying = λ j.
@@ -138,24 +124,26 @@ fault_by number many over sums =
     else if sums then None
     else Some (fault.AggregateOverflow number)
 
-pub fault-alike : (n seed number : ℕ) (rule : PrefixRule) (kinds : Kinds) (s t : Shape) (given others : List PlacedRelation)
+-- prefixes are counted over what is joined
+pub fault-alike : (n seed number : ℕ) (rule : FaultRule) (kinds : Kinds) (s t : Shape) (given others : List PlacedRelation)
     → AreAlike n s t given others
+    → AreAlike n s t (joined_items rule.reduce s given) (joined_items rule.reduce t others)
     → shape_fault rule number s kinds (rows_of given) ≡ shape_fault rule number t kinds (rows_of others)
-fault-alike n seed number rule kinds s t given others h =
-    let few = few-alike n seed s t given others h rule in
+fault-alike n seed number rule kinds s t given others h joined =
+    let items = joined_items rule.reduce s given in
+    let more = joined_items rule.reduce t others in
+    let many = many-alike n seed s t given others h in
+    let long : has_long_prefix rule.prefixes s (joined_tables rule.reduce s (rows_of given))
+    ≡ has_long_prefix rule.prefixes t (joined_tables rule.reduce t (rows_of others)) =
+    ap (has_long_prefix rule.prefixes s) (sym (joined-rows rule.reduce s given))
+    ∙ long-alike n seed s t items more joined rule.prefixes
+    ∙ ap (has_long_prefix rule.prefixes t) (joined-rows rule.reduce t others) in
     let over = overflow-alike n seed s t given others h in
     let sums = sums-same kinds (listed_of s (rows_of given)) (listed_of t (rows_of others)) (listed-alike n seed s t given others h)
     in
-    λ k. fault_by number (few k) (over k) (sums k)
+    λ k. fault_by number (many k || long k) (over k) (sums k)
 
 -- ---- joins
-
-values-placed : (v w : Source → PlacedRelation) (sources : List Source) → AreSameValues v w sources
-    → AreSamePlaced (map v sources) (map w sources)
-values-placed v w [] h = none_placed
-values-placed v w (o ∷ sources) h =
-    one_placed (v o) (w o) (map v sources) (map w sources) (All-head (λ o. IsSamePlaced (v o) (w o)) o sources h)
-    (values-placed v w sources (All-tail (λ o. IsSamePlaced (v o) (w o)) o sources h))
 
 values-rows : (v w : Source → PlacedRelation) (sources : List Source) → AreSameValues v w sources
     → SameTables (map (rows_in v) sources) (map (rows_in w) sources)
@@ -195,48 +183,31 @@ module _ (s : Settings) (number : ℕ) (shape : Shape) where
         (exchanges-alike s.workers s.seed shape shape given others alike (usual_parts given) (usual_parts others) usual-parts
         (usual_shuffle s.shuffle s.workers shape (rows_of given)))
 
-  usual-notes : (local : JoinKind) (given others : List PlacedRelation) → AreSamePlaced given others
-      → item_notes shape (rows_of given) ++ variable_notes (usual_shuffle s.shuffle s.workers shape (rows_of given)) shape
-      ++ shuffle_note (usual_shuffle s.shuffle s.workers shape (rows_of given)) local shape (rows_of given) ∷ []
-      ≡ item_notes shape (rows_of others) ++ variable_notes (usual_shuffle s.shuffle s.workers shape (rows_of others)) shape
-      ++ shuffle_note (usual_shuffle s.shuffle s.workers shape (rows_of others)) local shape (rows_of others) ∷ []
-  usual-notes local given others h =
-      let rows = rows-same given others h in
-      let items = item-notes shape (kept-same shape) (rows_of given) (rows_of others) rows in
-      let line = shuffle-noted shape local (rows_of given) (rows_of others)
-      (sizes-same shape 0 (rows_of given) (rows_of others) rows)
-      (staying-same s.workers s.seed shape shape given others (alike given others h)) in
-      let used : Shuffle = usual_shuffle s.shuffle s.workers shape (rows_of given) in
-      (λ k. items k ++ variable_notes used shape ++ line used k ∷ [])
-      ∙ ap (λ shuffle. item_notes shape (rows_of others) ++ variable_notes shuffle shape ++ shuffle_note shuffle local shape
-      (rows_of others) ∷ []) (shuffles given others h)
+  joined-same : (given others : List PlacedRelation) → AreSamePlaced given others
+      → AreSamePlaced (joined_items s.reduce shape given) (joined_items s.reduce shape others)
+  joined-same given others h = joined_are_of_bags s.reduce shape given others h
 
   listed-same : (given others : List PlacedRelation) → AreSamePlaced given others
       → SameTables (listed_parts (usual_placing s) number shape given) (listed_parts (usual_placing s) number shape others)
-  listed-same _ _ none_placed = usual-parts [] [] none_placed
+  listed-same _ _ none_placed =
+      usual-parts (joined_items s.reduce shape []) (joined_items s.reduce shape []) (joined-same [] [] none_placed)
   listed-same _ _ (one_placed p q _ _ h none_placed) =
       tables-map (λ own. listed_of shape (own ∷ [])) (λ own. listed_of shape (own ∷ []))
       (λ a b k. listed_of-same shape (a ∷ []) (b ∷ []) (a_table a b [] [] k no_table))
       p.parts q.parts h.parts
   listed-same _ _ (one_placed p q _ _ h (one_placed r u ps qs k hs)) =
-      usual-parts (p ∷ r ∷ ps) (q ∷ u ∷ qs) (one_placed p q (r ∷ ps) (u ∷ qs) h (one_placed r u ps qs k hs))
+      usual-parts (joined_items s.reduce shape (p ∷ r ∷ ps)) (joined_items s.reduce shape (q ∷ u ∷ qs))
+      (joined-same (p ∷ r ∷ ps) (q ∷ u ∷ qs) (one_placed p q (r ∷ ps) (u ∷ qs) h (one_placed r u ps qs k hs)))
 
   exchanges-same : (given others : List PlacedRelation) → AreSamePlaced given others
       → AreSameExchanges s.workers (join_exchanges (usual_placing s) number shape given)
       (join_exchanges (usual_placing s) number shape others)
-  exchanges-same _ _ none_placed = usual-exchanges [] [] none_placed
+  exchanges-same _ _ none_placed =
+      usual-exchanges (joined_items s.reduce shape []) (joined_items s.reduce shape []) (joined-same [] [] none_placed)
   exchanges-same _ _ (one_placed p q _ _ h none_placed) = no_exchange
   exchanges-same _ _ (one_placed p q _ _ h (one_placed r u ps qs k hs)) =
-      usual-exchanges (p ∷ r ∷ ps) (q ∷ u ∷ qs) (one_placed p q (r ∷ ps) (u ∷ qs) h (one_placed r u ps qs k hs))
-
-  notes-same : (local : JoinKind) (given others : List PlacedRelation) → AreSamePlaced given others
-      → join_notes (usual_placing s) local number shape given ≡ join_notes (usual_placing s) local number shape others
-  notes-same local _ _ none_placed = refl
-  notes-same local _ _ (one_placed p q _ _ h none_placed) =
-      item-notes shape (kept-same shape) (p.relation.rows ∷ []) (q.relation.rows ∷ [])
-      (a_table p.relation.rows q.relation.rows [] [] h.rows no_table)
-  notes-same local _ _ (one_placed p q _ _ h (one_placed r u ps qs k hs)) =
-      usual-notes local (p ∷ r ∷ ps) (q ∷ u ∷ qs) (one_placed p q (r ∷ ps) (u ∷ qs) h (one_placed r u ps qs k hs))
+      usual-exchanges (joined_items s.reduce shape (p ∷ r ∷ ps)) (joined_items s.reduce shape (q ∷ u ∷ qs))
+      (joined-same (p ∷ r ∷ ps) (q ∷ u ∷ qs) (one_placed p q (r ∷ ps) (u ∷ qs) h (one_placed r u ps qs k hs)))
 
 -- ---- the other terms
 
@@ -276,13 +247,15 @@ partials-exchanged s kinds listed others parts more h k =
     partials : (a b : Rows) → SameBag a b → SameBag (partial_rows kinds a) (partial_rows kinds b)
     partials a b e = IsPermutation-map (split_sums kinds) (groups kinds a) (groups kinds b) (groups-same kinds a b e)
 
-fault-same : (s : Settings) (number : ℕ) (rule : PrefixRule) (shape : Shape) (kinds : Kinds) (v w : Source → PlacedRelation)
+fault-same : (s : Settings) (number : ℕ) (rule : FaultRule) (shape : Shape) (kinds : Kinds) (v w : Source → PlacedRelation)
     (sources : List Source) → AreSameValues v w sources
     → shape_fault rule number shape kinds (map (rows_in v) sources) ≡ shape_fault rule number shape kinds (map (rows_in w) sources)
 fault-same s number rule shape kinds v w sources h =
     ap (shape_fault rule number shape kinds) (sym (map-through (λ (p : PlacedRelation). p.relation.rows) v sources))
     ∙ fault-alike s.workers s.seed number rule kinds shape shape (map v sources) (map w sources)
     (same-alike shape s.workers (map v sources) (map w sources) (values-placed v w sources h))
+    (same-alike shape s.workers (joined_items rule.reduce shape (map v sources)) (joined_items rule.reduce shape (map w sources))
+    (joined_are_of_bags rule.reduce shape (map v sources) (map w sources) (values-placed v w sources h)))
     ∙ ap (shape_fault rule number shape kinds) (map-through (λ (p : PlacedRelation). p.relation.rows) w sources)
 
 pub same-run : (s : Settings) (number : ℕ) (v w : Source → PlacedRelation) (t : TermTree) → AreSameValues v w (sources_of t)
@@ -350,7 +323,7 @@ same-run s number v w (Join shape sources) h =
       parts = listed-same s number shape (map v sources) (map w sources) placed;
       exchanges = exchanges-same s number shape (map v sources) (map w sources) placed;
       fault = λ rule. fault-same s number rule shape [] v w sources h;
-      notes = λ local. notes-same s number shape local (map v sources) (map w sources) placed;
+      notes = λ local. notes_are_of_bags s local number v w (Join shape sources) h;
     }
 same-run s number v w (Group shape sources kinds) h =
     let placed = values-placed v w sources h in
@@ -375,8 +348,7 @@ same-run s number v w (Group shape sources kinds) h =
           (term_parts (usual_placing s) number w (Group shape sources kinds))
           (listed-same s number shape (map v sources) (map w sources) placed) parts);
       fault = λ rule. fault-same s number rule shape kinds v w sources h;
-      notes = λ local. ap (λ lines. lines ++ group_note kinds ∷ [])
-          (notes-same s number shape local (map v sources) (map w sources) placed);
+      notes = λ local. notes_are_of_bags s local number v w (Group shape sources kinds) h;
     }
 
 pub terms_are_of_bags : TermsAreOfBags

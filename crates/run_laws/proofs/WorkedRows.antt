@@ -1,5 +1,5 @@
 -- Worked cases of a script step by step, computed: a wrong definition does not check.
-use Rattle.std.proofs.Common.{◌≡◌, ℕ, true, List, [], ◌∷◌, map, codes, refl, Some, None}
+use Rattle.std.proofs.Common.{◌≡◌, ℕ, true, false, List, [], ◌∷◌, map, codes, refl, Some, None}
 use Rattle.std.specs.Prelude.{pos}
 use Rattle.rel_base.specs.declared.faults.RunFault.TheVariants as fault
 use Rattle.rel_base.specs.declared.names.Key.{Key}
@@ -7,16 +7,18 @@ use Rattle.rel_base.specs.declared.relations.Column.{Column}
 use Rattle.rel_base.specs.declared.values.ColType.TheVariants as kind
 use Rattle.rel_base.specs.declared.values.Value.TheVariants as value
 use Rattle.rel_base.specs.Keys.{File}
+use Rattle.myrial_ast.specs.Scalars.{At}
 use Rattle.myrial_ast.specs.Combinations.{Rows}
 use Rattle.algebra.specs.declared.settings.ShuffleKind.TheVariants as shuffle_kind
 use Rattle.algebra.specs.declared.terms.Source.TheVariants as source
 use Rattle.algebra.specs.Conditions.{is_of}
-use Rattle.algebra.specs.Trees.{TermTree, Same, UnionAll, Distinct, StepTree, CheckedTree}
+use Rattle.algebra.specs.Trees.{Shape, TermTree, Same, UnionAll, Distinct, StepTree, CheckedTree}
 use Rattle.placement.specs.Layouts.{Placing}
 use Rattle.placement.specs.Plans.{usual_shuffle}
 use Rattle.run_laws.specs.Values.{meant, rows_meant, result_of, first_of}
 use Rattle.run_laws.specs.Rewritten.{needed, numbers_of}
 use Rattle.run_laws.specs.Held.{parts_in}
+use Rattle.run_laws.specs.KeptRuns.{joined_spreads}
 
 abbrev adhoc : List ℕ → Key
 adhoc name = record { user = codes "public"; program = codes "adhoc"; name = name }
@@ -38,7 +40,7 @@ abbrev two : Placing
 two = record {
   workers = 2;
   seed = 0;
-  joined = λ shape given. given;
+  reduce = false;
   shuffle = λ number. usual_shuffle shuffle_kind.Hc 2;
 }
 
@@ -87,3 +89,24 @@ held-file = refl
 
 pub held-result : parts_in [] held (source.Result 3) ≡ singles (8 ∷ []) ∷ []
 held-result = refl
+
+-- R = 0, 1, 2, 3 and S = 1, 3 at two workers, joined by their values
+abbrev by_value : Shape
+by_value = record {
+  atoms = record { kinds = kind.Int ∷ []; keeps = [] } ∷ record { kinds = kind.Int ∷ []; keeps = [] } ∷ [];
+  variables = (0 ∷ 1 ∷ []) ∷ [];
+  plain = [];
+  arith = [];
+  emits = At 0 ∷ [];
+}
+
+abbrev two_spreads : List (List Rows)
+two_spreads =
+    (singles (0 ∷ 2 ∷ []) ∷ singles (1 ∷ 3 ∷ []) ∷ []) ∷ (singles (1 ∷ []) ∷ singles (3 ∷ []) ∷ []) ∷ []
+
+pub joined-reduced : joined_spreads true by_value two_spreads
+    ≡ (singles [] ∷ singles (1 ∷ 3 ∷ []) ∷ []) ∷ (singles (1 ∷ []) ∷ singles (3 ∷ []) ∷ []) ∷ []
+joined-reduced = refl
+
+pub joined-whole : joined_spreads false by_value two_spreads ≡ two_spreads
+joined-whole = refl

@@ -4,7 +4,7 @@
 --   TermsAreOfBags                  then a term has the same bags at each worker, by exchanges that tell the same, and one fault
 use Rattle.std.specs.Prelude.{◌≡◌, ℕ, List, All}
 use Rattle.myrial_ast.specs.Combinations.{Rows}
-use Rattle.myrial_ast.specs.CandidateFaults.{PrefixRule}
+use Rattle.myrial_ast.specs.CandidateFaults.{FaultRule}
 use Rattle.bag_laws.specs.Permuted.{SameTables}
 use Rattle.algebra.specs.declared.settings.JoinKind.{JoinKind}
 use Rattle.algebra.specs.declared.settings.Settings.{Settings}
@@ -31,7 +31,7 @@ pub record IsSameRun (s : Settings) (number : ℕ) (v w : Source → PlacedRelat
   pub parts : SameTables (term_parts (usual_placing s) number v t) (term_parts (usual_placing s) number w t)
   pub exchanges : AreSameExchanges s.workers (term_exchanges (usual_placing s) number v t)
       (term_exchanges (usual_placing s) number w t)
-  pub fault : (rule : PrefixRule) → term_fault rule number (rows_in v) t ≡ term_fault rule number (rows_in w) t
+  pub fault : (rule : FaultRule) → term_fault rule number (rows_in v) t ≡ term_fault rule number (rows_in w) t
   pub notes : (local : JoinKind) → term_notes (usual_placing s) local number v t ≡ term_notes (usual_placing s) local number w t
 
 abbrev pub TermsAreOfBags : Type 0

@@ -22,7 +22,7 @@ use Rattle.rel_base.specs.Bags.{SameBag}
 use Rattle.rel_base.specs.Keys.{File}
 use Rattle.rel_base.specs.Relations.{HasTypes}
 use Rattle.myrial_ast.specs.Combinations.{Rows}
-use Rattle.myrial_ast.specs.CandidateFaults.{PrefixRule}
+use Rattle.myrial_ast.specs.CandidateFaults.{FaultRule}
 use Rattle.bag_laws.specs.Permuted.{SameTables}
 use Rattle.algebra.specs.declared.settings.JoinKind.{JoinKind}
 use Rattle.algebra.specs.declared.settings.Settings.{Settings}
@@ -79,11 +79,11 @@ ResultsAreFound =
 -- ---- what is wrong with a script
 
 -- whether nothing is wrong with a step
-abbrev pub IsSound : Placing → (ℕ → PrefixRule) → List File → CheckedTree → StepTree → Type 0
+abbrev pub IsSound : Placing → (ℕ → FaultRule) → List File → CheckedTree → StepTree → Type 0
 IsSound p rules files c s = step_fault rules (rows_meant p files c) s ≡ None
 
 -- the fault of a script is that of a needed step before which nothing is wrong, and where nothing is wrong there is none
-pub record HasFirstFault (p : Placing) (rules : ℕ → PrefixRule) (files : List File) (c : CheckedTree) : Type 0 where
+pub record HasFirstFault (p : Placing) (rules : ℕ → FaultRule) (files : List File) (c : CheckedTree) : Type 0 where
   pub first : (i : ℕ) (a : StepTree) → i < length (needed c) → All (IsSound p rules files c) (take i (needed c))
       → (fault : RunFault) → step_fault rules (rows_meant p files c) (slice_index_or (needed c) i a) ≡ Some fault
       → checked_fault rules files c ≡ Some fault
@@ -91,7 +91,7 @@ pub record HasFirstFault (p : Placing) (rules : ℕ → PrefixRule) (files : Lis
 
 abbrev pub FaultsAreFirst : Type 0
 FaultsAreFirst =
-    (p : Placing) (files : List File) (c : CheckedTree) → IsTrue (is_of files c) → (rules : ℕ → PrefixRule)
+    (p : Placing) (files : List File) (c : CheckedTree) → IsTrue (is_of files c) → (rules : ℕ → FaultRule)
     → HasFirstFault p rules files c
 
 -- ---- what a step comes to

@@ -12,7 +12,7 @@ use Rattle.rel_base.specs.declared.faults.RunFault.{RunFault}
 use Rattle.rel_base.specs.Keys.{File}
 use Rattle.rel_base.specs.Relations.{HasTypes}
 use Rattle.myrial_ast.specs.Combinations.{Rows}
-use Rattle.myrial_ast.specs.CandidateFaults.{PrefixRule}
+use Rattle.myrial_ast.specs.CandidateFaults.{FaultRule}
 use Rattle.algebra.specs.declared.terms.Source.{Source}
 use Rattle.algebra.specs.declared.terms.Source.TheVariants as source
 use Rattle.algebra.specs.declared.terms.StoreStep.{StoreStep}
@@ -51,13 +51,13 @@ first_of (Some fault ∷ rest) = Some fault
 first_of (None ∷ rest) = first_of rest
 
 -- the fault of a step, by what its sources stand for
-abbrev pub step_fault : (ℕ → PrefixRule) → (Source → Rows) → StepTree → Option RunFault
+abbrev pub step_fault : (ℕ → FaultRule) → (Source → Rows) → StepTree → Option RunFault
 step_fault rules rows s = term_fault (rules s.statement) s.statement rows s.term
 
 -- the fault of a script is the first one of its needed steps
 abbrev pub FaultsAreOfSteps : Type 0
 FaultsAreOfSteps =
-    (p : Placing) (files : List File) (c : CheckedTree) → IsTrue (is_of files c) → (rules : ℕ → PrefixRule)
+    (p : Placing) (files : List File) (c : CheckedTree) → IsTrue (is_of files c) → (rules : ℕ → FaultRule)
     → checked_fault rules files c
     ≡ first_of (map (step_fault rules (rows_meant p files c)) (needed_steps c.stores c.steps))
 
