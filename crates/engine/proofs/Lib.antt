@@ -2,6 +2,7 @@
 pub mod ListLemmas
 pub mod FaultLemmas
 pub mod JoinLemmas
+pub mod ReducingLemmas
 pub mod GroupLemmas
 pub mod PickLemmas
 pub mod TermLemmas

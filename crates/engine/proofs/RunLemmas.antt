@@ -53,7 +53,7 @@ use Rattle.run_laws.proofs.TermLemmas.{terms_are_of_bags}
 use Rattle.engine.specs.declared.held.Held.{Held}
 use Rattle.engine.specs.declared.noted.Noted.{Noted}
 use Rattle.engine.specs.declared.runs.Ran.{Ran}
-use Rattle.engine.specs.Runs.{run_exchanges, IsRan, AreStoredAt, no_store, a_store, prefixes_of, fault_of, IsRunFault}
+use Rattle.engine.specs.Runs.{run_exchanges, IsRan, AreStoredAt, no_store, a_store, faults_by, fault_of, IsRunFault}
 use Rattle.engine.specs.inner.Held.{IsHeld, parts_held, value_held, UsedAreHeld, IsJoinable, HasJoinable, IsRunnable}
 use Rattle.engine.proofs.UsedLemmas.{ready-among, used-with-one-more, used-without-last, used-in-turn, stores-among}
 use Rattle.engine.specs.inner.Steps.{held_exchanges, IsStepDone, numbered_exchanges, bare_exchanges, AreRun, schema_at, held_store}
@@ -157,14 +157,14 @@ module _ {T : Type 0} (s : Settings) (files : List File) (c : CheckedTree) (of_f
   as-meant = terms_are_of_bags s x.statement value (value_held held) x.term ready.same
 
   abbrev own_fault : Option RunFault
-  own_fault = term_fault (prefixes_of s.shuffle) x.statement (λ o. (value_held held o).relation.rows) x.term
+  own_fault = term_fault (faults_by s) x.statement (λ o. (value_held held o).relation.rows) x.term
 
   -- its fault is that of the script
   pub first-fault : (e : RunFault) → IsRunFault own_fault e → IsRunFault (fault_of s files c) e
   first-fault =
       fault-of-all own_fault (fault_of s files c)
-      (λ e h. (faults_are_first p files c of_files (λ number. prefixes_of s.shuffle)).first i a l run.sound e
-      (as-meant.fault (prefixes_of s.shuffle) ∙ h))
+      (λ e h. (faults_are_first p files c of_files (λ number. faults_by s)).first i a l run.sound e
+      (as-meant.fault (faults_by s) ∙ h))
 
   module _ (after_held : Held) (after_noted : Noted) (after : List T) (fair : AreFair totals tag middle after)
       (done : IsStepDone s x c.stores later held after_held noted after_noted totals tag middle after) where
@@ -238,8 +238,8 @@ module _ {T : Type 0} (s : Settings) (files : List File) (c : CheckedTree) (of_f
           ((joined-moves totals tag).joined s.workers (bare_exchanges s files c (take i (needed c))) exchanges before middle after
           run.moved moved.1);
       sound =
-          All-more (IsSound p (λ number. prefixes_of s.shuffle) files c) (needed c) i a l run.sound
-          (as-meant.fault (prefixes_of s.shuffle) ∙ done.sound);
+          All-more (IsSound p (λ number. faults_by s) files c) (needed c) i a l run.sound
+          (as-meant.fault (faults_by s) ∙ done.sound);
     }
 
 -- ---- letting go
@@ -362,11 +362,11 @@ module _ (files : List File) (checked : Checked) (of_files : IsTrue (is_of files
             noted before middle run-from)
 
         pub turn-fault : (e : RunFault)
-            → IsRunFault (term_fault (prefixes_of s.shuffle) step.statement (λ o. (value_held held o).relation.rows)
+            → IsRunFault (term_fault (faults_by s) step.statement (λ o. (value_held held o).relation.rows)
             (term_tree_of step.term)) e → IsRunFault (fault_of s files script) e
         turn-fault e =
             let t = turn step found in
-            subst (λ (x : StepTree). IsRunFault (term_fault (prefixes_of s.shuffle) x.statement
+            subst (λ (x : StepTree). IsRunFault (term_fault (faults_by s) x.statement
             (λ o. (value_held held o).relation.rows) x.term) e → IsRunFault (fault_of s files script) e) t.own
             (first-fault s files script of_files typed totals tag i (step_tree_of step) t.low (step_tree_of pushed) later t.alike
             held noted before middle run-from e)
@@ -414,7 +414,7 @@ none-run s files c left held noted totals tag taps dealt results plan traffic re
   traffic = traffic;
   receipts = subst (AreShown (size_of s) []) (sym receipts) no_receipt;
   moved = (joined-moves totals tag).none s.workers taps;
-  sound = All-nil (IsSound (usual_placing s) (λ number. prefixes_of s.shuffle) files c);
+  sound = All-nil (IsSound (usual_placing s) (λ number. faults_by s) files c);
 }
 
 -- ---- stores, and the end
@@ -454,7 +454,7 @@ module _ {T : Type 0} (s : Settings) (files : List File) (c : CheckedTree) (of_f
   all-ran ran stored plan traffic receipts =
       let steps = scripts_are_of_steps (usual_placing s) files c in (
         record {
-          sound = (faults_are_first (usual_placing s) files c of_files (λ number. prefixes_of s.shuffle)).none run.sound;
+          sound = (faults_are_first (usual_placing s) files c of_files (λ number. faults_by s)).none run.sound;
           stored =
               subst (λ made. AreStoredAt made (placed_stores (usual_placing s) files c)) (sym stored)
               (subst (AreStoredAt (map (held_store files c held) c.stores)) (sym steps.placed)
@@ -512,7 +512,7 @@ result-found files checked number h none =
 
 -- whatever the workers are, its columns are that step's
 by-keys : Placing
-by-keys = record { workers = 1; seed = 0; joined = λ shape given. given; shuffle = λ number shape given. ByKeys }
+by-keys = record { workers = 1; seed = 0; reduce = false; shuffle = λ number shape given. ByKeys }
 
 module _ (files : List File) (checked : Checked) (of_files : IsTrue (is_of files (checked_tree_of checked))) where
   pub result-schema : (number : ℕ) (step : Step) → Some step ≡ find (λ (s : Step). s.statement == number) checked.steps

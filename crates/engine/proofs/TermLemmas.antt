@@ -34,7 +34,7 @@ use Rattle.term_runs.proofs.TapLemmas.{fair-none, joined-moves}
 use Rattle.run_laws.proofs.TableLemmas.{tables-equal}
 use Rattle.run_laws.specs.Held.{HasWideParts}
 use Rattle.engine.specs.declared.held.Held.{Held}
-use Rattle.engine.specs.Runs.{prefixes_of, IsRunFault}
+use Rattle.engine.specs.Runs.{faults_by, IsRunFault}
 use Rattle.engine.specs.inner.Held.{parts_held, value_held, IsHeld}
 use Rattle.engine.specs.inner.Joins.{IsTold, IsStepJoin, IsStepGroup}
 use Rattle.engine.specs.inner.Terms.{IsStepRun}
@@ -209,7 +209,7 @@ module _ {T : Type 0} (s : Settings) (number : ℕ) (held : Held) (totals : T �
           let p = usual_placing s in
           let told : ℕ → JoinShape → List PlacedRelation → List Rows → Type 0 =
           λ n x items given. IsTold s n (listed_parts p n (shape_tree_of x) items) (join_exchanges p n (shape_tree_of x) items)
-          (shape_fault (prefixes_of s.shuffle) n (shape_tree_of x) [] given) totals tag before after answer in
+          (shape_fault (faults_by s) n (shape_tree_of x) [] given) totals tag before after answer in
           subst (λ u. Runs u before after answer) (sym e)
           (subst (λ (given : List Rows). told number shape (map (value_held held) sources) given) (rows-held held sources)
           (subst (λ (items : List PlacedRelation). told number shape items (rows_of items))
@@ -242,7 +242,7 @@ module _ {T : Type 0} (s : Settings) (number : ℕ) (held : Held) (totals : T �
             λ n x items given. IsTold s n (made x given)
             (join_exchanges p n (shape_tree_of x) items
             ++ group_exchange p kinds (listed_parts p n (shape_tree_of x) items) (made x given) ∷ [])
-            (shape_fault (prefixes_of s.shuffle) n (shape_tree_of x) kinds given) totals tag before after answer in
+            (shape_fault (faults_by s) n (shape_tree_of x) kinds given) totals tag before after answer in
             subst (λ u. Runs u before after answer) (sym e)
             (subst (λ (given : List Rows). told number shape (map (value_held held) sources) given) (rows-held held sources)
             (subst (λ (items : List PlacedRelation). told number shape items (rows_of items))

@@ -1,6 +1,7 @@
 -- What running a checked script at workers does.
 --
---   prefixes_of kind, fault_of s files c   the fault of a script by these settings
+--   prefixes_of kind, faults_by s          what counts as a fault by these settings
+--   fault_of s files c                     the fault of a script by them
 --   run_exchanges s files c                the exchanges of the needed steps
 --   IsStoredAt stored placed               what a store holds, worker by worker
 --   IsRan s files c ran                    a run stores, plans, counts and shows what is placed
@@ -13,7 +14,7 @@ use Rattle.rel_base.specs.declared.names.Key.{Key}
 use Rattle.rel_base.specs.declared.faults.RunFault.{RunFault}
 use Rattle.rel_base.specs.declared.faults.RunFault.TheVariants as fault
 use Rattle.rel_io.specs.declared.taps.Totals.{Totals}
-use Rattle.myrial_ast.specs.CandidateFaults.{PrefixRule, Counted, Uncounted}
+use Rattle.myrial_ast.specs.CandidateFaults.{PrefixRule, Counted, Uncounted, FaultRule}
 use Rattle.bag_laws.specs.Permuted.{SameTables}
 use Rattle.algebra.specs.declared.settings.ShuffleKind.{ShuffleKind}
 use Rattle.algebra.specs.declared.settings.ShuffleKind.TheVariants as shuffle_kind
@@ -51,9 +52,13 @@ prefixes_of shuffle_kind.Rs = Counted
 prefixes_of shuffle_kind.Hc = Uncounted
 prefixes_of shuffle_kind.Br = Uncounted
 
+-- and of the rows that are joined alone
+abbrev pub faults_by : Settings → FaultRule
+faults_by s = record { prefixes = prefixes_of s.shuffle; reduce = s.reduce }
+
 -- the fault of the script by these settings
 abbrev pub fault_of : Settings → List File → CheckedTree → Option RunFault
-fault_of s files c = checked_fault (λ number. prefixes_of s.shuffle) files c
+fault_of s files c = checked_fault (λ number. faults_by s) files c
 
 -- the exchanges of the needed steps
 abbrev pub run_exchanges : Settings → List File → CheckedTree → List PlacedExchange

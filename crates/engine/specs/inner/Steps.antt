@@ -31,7 +31,7 @@ use Rattle.run_laws.specs.Held.{AreHeld}
 use Rattle.engine.specs.declared.held.Held.{Held}
 use Rattle.engine.specs.declared.noted.Noted.{Noted}
 use Rattle.engine.specs.declared.runs.SpreadStore.{SpreadStore}
-use Rattle.engine.specs.Runs.{prefixes_of, IsRunFault}
+use Rattle.engine.specs.Runs.{faults_by, IsRunFault}
 use Rattle.engine.specs.inner.Held.{parts_held, value_held, UsedAreHeld}
 
 -- ---- one step
@@ -59,7 +59,7 @@ pub record IsStepDone {T : Type 0} (s : Settings) (t : StepTree) (stores : List 
   pub noted_receipts : after_noted.receipts ≡ noted.receipts ++ receipts
   pub shown : AreShown (size_of s) (flat_map shown_moves (held_exchanges s held t)) receipts
   pub moved : AreMoved totals tag s.workers (held_exchanges s held t) before after
-  pub sound : term_fault (prefixes_of s.shuffle) t.statement (λ o. (value_held held o).relation.rows) t.term ≡ None
+  pub sound : term_fault (faults_by s) t.statement (λ o. (value_held held o).relation.rows) t.term ≡ None
 
 -- what running a step over what is held does
 pub record IsStep {T : Type 0} (s : Settings) (t : StepTree) (stores : List StoreStep)
@@ -70,7 +70,7 @@ pub record IsStep {T : Type 0} (s : Settings) (t : StepTree) (stores : List Stor
   pub ok : OnOk answer
       (IsStepDone s t stores later held after_held noted after_noted totals tag before after)
   pub err : IfErr answer
-      (IsRunFault (term_fault (prefixes_of s.shuffle) t.statement (λ o. (value_held held o).relation.rows) t.term))
+      (IsRunFault (term_fault (faults_by s) t.statement (λ o. (value_held held o).relation.rows) t.term))
 
 -- ---- the steps so far
 
@@ -94,7 +94,7 @@ pub record AreRun {T : Type 0} (s : Settings) (files : List File) (c : CheckedTr
   pub traffic : noted.traffic ≡ map (traffic_note s.workers) (numbered_exchanges s files c steps)
   pub receipts : AreShown (size_of s) (flat_map shown_moves (bare_exchanges s files c steps)) noted.receipts
   pub moved : AreMoved totals tag s.workers (bare_exchanges s files c steps) before after
-  pub sound : All (IsSound (usual_placing s) (λ _. prefixes_of s.shuffle) files c) steps
+  pub sound : All (IsSound (usual_placing s) (λ _. faults_by s) files c) steps
 
 -- ---- stores
 

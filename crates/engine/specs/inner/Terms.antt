@@ -17,7 +17,7 @@ use Rattle.placement.specs.Exchanges.{term_exchanges}
 use Rattle.placement.specs.Layouts.{PlacedRelation, term_parts}
 use Rattle.placement.specs.Plans.{usual_placing}
 use Rattle.term_runs.specs.declared.moved.Moved.{Moved}
-use Rattle.engine.specs.Runs.{prefixes_of}
+use Rattle.engine.specs.Runs.{faults_by}
 use Rattle.engine.specs.declared.terms.RunStep.{RunStep}
 use Rattle.engine.specs.inner.Joins.{IsTold}
 
@@ -32,7 +32,7 @@ abbrev pub IsStepRun : {T : Type 0} → Settings → ℕ → (Source → PlacedR
 IsStepRun s number value t totals tag before after answer =
     let p = usual_placing s in
     IsTold s number (term_parts p number value t) (term_exchanges p number value t)
-    (term_fault (prefixes_of s.shuffle) number (λ o. (value o).relation.rows) t) totals tag before after answer
+    (term_fault (faults_by s) number (λ o. (value o).relation.rows) t) totals tag before after answer
 
 -- the steps behind the one that is run
 abbrev pub later_in : RunStep → List StepTree
