@@ -14,6 +14,7 @@ same-settings s t same = λ i. record {
   seed = (same i).seed;
   shuffle = (same i).shuffle;
   local = (same i).local;
+  reduce = (same i).reduce;
   workers_in_range = is_prop→PathP (λ j. (1 ≤ (same j).workers) × ((same j).workers ≤ most_workers)) (λ j. ×_prop le_prop le_prop)
       s.workers_in_range t.workers_in_range i;
   capacity_in_range = is_prop→PathP (λ j. (1 ≤ (same j).capacity) × ((same j).capacity ≤ most_capacity)) (λ j. ×_prop le_prop le_prop)

@@ -9,7 +9,7 @@ use Rattle.command_words.specs.Commands.{command}
 use Rattle.command_words.specs.Requests.{Asked, AskedSettings, asked}
 
 abbrev usual : AskedSettings
-usual = record { workers = 4; capacity = 16; batch = 256; seed = 0; shuffle = shuffle.Hc; local = join.Tj }
+usual = record { workers = 4; capacity = 16; batch = 256; seed = 0; shuffle = shuffle.Hc; local = join.Tj; reduce = false }
 
 -- a run of the script q with what is usual
 abbrev plain : Asked
@@ -37,7 +37,7 @@ eight_workers_and_plan = refl
 -- all of them, the script first
 pub every_option : asked (myria (codes "q" ∷ codes "--traffic" ∷ codes "--mode" ∷ codes "explain" ∷ codes "--workers" ∷ codes "64"
     ∷ codes "--capacity" ∷ codes "1024" ∷ codes "--batch" ∷ codes "4096" ∷ codes "--seed" ∷ codes "18446744073709551615"
-    ∷ codes "--shuffle" ∷ codes "br" ∷ codes "--join" ∷ codes "hj" ∷ codes "--size" ∷ codes "100000" ∷ codes "--plan" ∷ []))
+    ∷ codes "--shuffle" ∷ codes "br" ∷ codes "--join" ∷ codes "hj" ∷ codes "--size" ∷ codes "100000" ∷ codes "--plan" ∷ codes "--reduce" ∷ []))
     ≡ Some (record {
       mode = mode.Explain;
       settings = record {
@@ -47,6 +47,7 @@ pub every_option : asked (myria (codes "q" ∷ codes "--traffic" ∷ codes "--mo
         seed = 18446744073709551615;
         shuffle = shuffle.Br;
         local = join.Hj;
+        reduce = true;
       };
       plan = true;
       traffic = true;
@@ -55,6 +56,13 @@ pub every_option : asked (myria (codes "q" ∷ codes "--traffic" ∷ codes "--mo
     })
 unfolding clap_on_literals command
 every_option = refl
+
+-- a flag stands before the script or behind it, and with or without others
+pub reduce_alone : (asked (myria (codes "--reduce" ∷ codes "q" ∷ [])) ≡ Some (record plain { settings = record usual { reduce = true } }))
+    × (asked (myria (codes "q" ∷ codes "--reduce" ∷ [])) ≡ Some (record plain { settings = record usual { reduce = true } }))
+    × (asked (myria (codes "--plan" ∷ codes "--traffic" ∷ codes "q" ∷ [])) ≡ Some (record plain { plan = true; traffic = true }))
+unfolding clap_on_literals command
+reduce_alone = (refl, refl, refl)
 
 pub other_choices : (asked (with_text (codes "--mode") (codes "check")) ≡ Some (record plain { mode = mode.Check }))
     × (asked (with_text (codes "--mode") (codes "trial")) ≡ Some (record plain { mode = mode.Trial }))
@@ -101,6 +109,8 @@ pub bad_words : list_all (λ words. refuses (myria words)) (
     ∷ (codes "--workers" ∷ codes "4" ∷ codes "--workers" ∷ codes "4" ∷ codes "q" ∷ [])
     ∷ (codes "--plan" ∷ codes "--plan" ∷ codes "q" ∷ [])
     ∷ (codes "--plan=yes" ∷ codes "q" ∷ [])
+    ∷ (codes "--reduce" ∷ codes "--reduce" ∷ codes "q" ∷ [])
+    ∷ (codes "--reduce=x" ∷ codes "q" ∷ [])
     ∷ (codes "q" ∷ codes "--workers" ∷ [])
     ∷ (codes "--rows" ∷ codes "4" ∷ codes "q" ∷ [])
     ∷ (codes "--help" ∷ [])

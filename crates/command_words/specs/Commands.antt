@@ -1,6 +1,6 @@
 -- The command of the program, as what clap reads of it.
 --
---   command          eight options that take one text, two flags, and the script
+--   command          eight options that take one text, three flags, and the script
 --   is_read words    whether clap reads the words, by its own definition of what fails
 use Rattle.std.specs.Prelude.{◌==◌, Bool, List, Some, true, codes, length}
 use Rattle.clap.specs.declared.builder.action.ArgAction.TheVariants.{Set, SetTrue}
@@ -30,7 +30,8 @@ command =
     let sized = with_option (codes "batch") (with_option (codes "capacity") (with_option (codes "workers") run)) in
     let joined = with_option (codes "join") (with_option (codes "shuffle") (with_option (codes "seed") sized)) in
     let printed = with_flag (codes "traffic") (with_flag (codes "plan") joined) in
-    with_rule (with_option (codes "size") printed) (word_rule (codes "script"))
+    let reduced = with_flag (codes "reduce") printed in
+    with_rule (with_option (codes "size") reduced) (word_rule (codes "script"))
 
 -- the words are those of the command line, the program's name first
 abbrev pub is_read : List Text → Bool

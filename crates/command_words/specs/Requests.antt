@@ -29,6 +29,7 @@ pub record AskedSettings : Type 0 where
   pub seed : ℕ
   pub shuffle : ShuffleKind
   pub local : JoinKind
+  pub reduce : Bool
 
 pub record Asked : Type 0 where
   pub mode : Mode
@@ -83,6 +84,7 @@ settings_given rows =
       seed = seed;
       shuffle = shuffle;
       local = local;
+      reduce = is_flag_given (codes "reduce") rows;
     }) (join_given rows)) (shuffle_given rows)) (seed_given rows)) (batch_given rows)) (capacity_given rows)) (workers_given rows)
 
 -- what is asked for where each of its parts is told
@@ -114,6 +116,7 @@ asked_settings_of s = record {
   seed = s.seed;
   shuffle = s.shuffle;
   local = s.local;
+  reduce = s.reduce;
 }
 
 abbrev pub asked_of : Request → Asked

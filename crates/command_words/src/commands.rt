@@ -46,6 +46,7 @@ fn command<'a>(alloc: Global) -> Result<Command<'a>, AllocError>
         .arg(option(alloc, "join"))?
         .arg(flag(alloc, "plan"))?
         .arg(flag(alloc, "traffic"))?
+        .arg(flag(alloc, "reduce"))?
         .arg(option(alloc, "size"))?
         .arg(word(alloc, "script"))
 }

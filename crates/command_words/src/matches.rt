@@ -91,5 +91,6 @@ pub fn settings_in(matches: &ArgMatches<'_>) -> Option<Settings>
     let seed = seed_in(matches)?;
     let shuffle = shuffle_in(matches)?;
     let join = join_in(matches)?;
-    Settings::new(workers, capacity, batch, seed, shuffle, join)
+    let reduce = is_flag_in(matches, "reduce");
+    Settings::new(workers, capacity, batch, seed, shuffle, join, reduce)
 }

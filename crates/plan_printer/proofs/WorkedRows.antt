@@ -1,10 +1,9 @@
 -- Worked plans and traffic: their texts, proved by computing.
-use Rattle.std.proofs.Common.{◌≡◌, List, [], ◌∷◌, Some, None, codes, refl}
+use Rattle.std.proofs.Common.{◌≡◌, [], ◌∷◌, Some, None, codes, refl}
 use Rattle.std.specs.Fmt.{digits}
 use Rattle.algebra.specs.declared.notes.PlanKind.TheVariants as plan
 use Rattle.algebra.specs.declared.notes.PlanNote.TheVariants as note
 use Rattle.algebra.specs.declared.notes.Exchange.TheVariants as exchange
-use Rattle.algebra.specs.declared.notes.Traffic.{Traffic}
 use Rattle.algebra.specs.declared.settings.JoinKind.TheVariants as join
 use Rattle.plan_printer.specs.PlanTexts.{plan_text}
 use Rattle.plan_printer.specs.TrafficTexts.{traffic_text}
@@ -29,6 +28,17 @@ pub other_lines : plan_text (note.Statement 10 plan.UnionAll 44 ∷ note.Stateme
     ≡ codes "-- plan 10 unionall rows 44\n-- plan 11 diff rows 2\n-- plan 12 distinct rows 7\n-- plan 13 empty rows 0\n-- variable 2 1.$0 3.$1\n-- shuffle rs join hj\n-- shuffle br join tj stays 2\n-- group keys 1 aggregates 2\n"
 unfolding digits
 other_lines = refl
+
+-- the rows that are joined: of each item its number, also where none is left, and the line where the items go round in a ring
+pub reduced_rows : plan_text (note.Item 1 2 0 2 ∷ note.Item 2 3 0 3 ∷ note.Item 3 2 0 2 ∷ note.Reduced (1 ∷ 1 ∷ 1 ∷ []) ∷ [])
+    ≡ codes "-- item 1 rows 2 pushed 0 kept 2\n-- item 2 rows 3 pushed 0 kept 3\n-- item 3 rows 2 pushed 0 kept 2\n-- reduce 1 1 1\n"
+unfolding digits
+reduced_rows = refl
+
+pub no_row_or_many : plan_text (note.Reduced (0 ∷ 0 ∷ []) ∷ note.Reduced (18446744073709551615 ∷ 120 ∷ []) ∷ note.ReduceCyclic ∷ [])
+    ≡ codes "-- reduce 0 0\n-- reduce 18446744073709551615 120\n-- reduce cyclic\n"
+unfolding digits
+no_row_or_many = refl
 
 -- a step of a join two at a time, and a grouping
 pub step_and_group : traffic_text (record { statement = 1; exchange = exchange.Rs 2; received = 4 ∷ 4 ∷ []; listed = 2 ∷ 2 ∷ [] }

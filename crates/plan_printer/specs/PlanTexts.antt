@@ -4,6 +4,7 @@
 --   join_word local      the word for a way to join at a worker
 --   columns_text places   the columns of a variable, as ` 1.$0 3.$1`
 --   share_text share      the share of a variable, where it has one
+--   counts_text counts    numbers of rows, as ` 2 1 1`
 --   plan_line note       the line of a note
 --   plan_text notes      the lines of all notes, in order
 use Rattle.std.specs.Prelude.{ℕ, List, [], ◌∷◌, codes, Option, Some, None}
@@ -44,6 +45,10 @@ abbrev pub share_text : Option ℕ → List ℕ
 share_text (Some share) = joined (codes " share " ∷ decimal share ∷ [])
 share_text None = []
 
+-- numbers of rows, each behind a space
+abbrev pub counts_text : List ℕ → List ℕ
+counts_text counts = flat_map (λ count. joined (codes " " ∷ decimal count ∷ [])) counts
+
 -- the line of a note
 abbrev pub plan_line : PlanNote → List ℕ
 plan_line (note.Statement number kind rows) =
@@ -51,6 +56,8 @@ plan_line (note.Statement number kind rows) =
 plan_line (note.Item number rows pushed kept) =
     joined (codes "-- item " ∷ decimal number ∷ codes " rows " ∷ decimal rows ∷ codes " pushed " ∷ decimal pushed
     ∷ codes " kept " ∷ decimal kept ∷ codes "\n" ∷ [])
+plan_line (note.Reduced counts) = joined (codes "-- reduce" ∷ counts_text counts ∷ codes "\n" ∷ [])
+plan_line note.ReduceCyclic = codes "-- reduce cyclic\n"
 plan_line (note.Variable number places share) =
     joined (codes "-- variable " ∷ decimal number ∷ columns_text places ∷ share_text share ∷ codes "\n" ∷ [])
 plan_line (note.Hc local cells num den) =

@@ -1,10 +1,10 @@
 //! The lines of a plan.
 ghost use Rattle.std.specs.Prelude.{◌≡◌, ◌++◌, OnOk, OnErr, string_bytes};
 ghost use Rattle.algebra.specs.declared.notes.PlanNote.TheVariants as note;
-ghost use Rattle.plan_printer.specs.PlanTexts.{columns_text, join_word, kind_word};
+ghost use Rattle.plan_printer.specs.PlanTexts.{columns_text, counts_text, join_word, kind_word};
 ghost use Rattle.plan_printer.specs.PlanTexts.{plan_line, plan_text, share_text};
 
-use algebra::{ItemPlaces, JoinKind, PlanKind, PlanNote, PlanNotes};
+use algebra::{Counts, ItemPlaces, JoinKind, PlanKind, PlanNote, PlanNotes};
 use rel_base::Memory;
 use std::fmt::Write;
 
@@ -39,6 +39,8 @@ fn push_line(note: &PlanNote, text: &mut String) -> Result<(), Memory>
             text,
             "-- item {number} rows {rows} pushed {pushed} kept {kept}"
         )?,
+        PlanNote::Reduced(counts) => push_reduced(counts, text)?,
+        PlanNote::ReduceCyclic => text.push_str("-- reduce cyclic\n")?,
         PlanNote::Variable {
             number,
             places,
@@ -67,6 +69,28 @@ fn push_line(note: &PlanNote, text: &mut String) -> Result<(), Memory>
         PlanNote::Group { keys, aggregates } => {
             writeln!(text, "-- group keys {keys} aggregates {aggregates}")?;
         }
+    }
+    Ok(())
+}
+
+/// Adds the line of the rows that are joined, as `-- reduce 2 1 1`.
+fn push_reduced(counts: &Counts, text: &mut String) -> Result<(), Memory>
+    ensures { OnOk result (string_bytes text.new
+        ≡ string_bytes text.old ++ plan_line (note.Reduced counts.now)) }
+{
+    text.push_str("-- reduce")?;
+    push_counts(counts, text)?;
+    text.push_str("\n")?;
+    Ok(())
+}
+
+/// Adds numbers of rows, each behind a space, as ` 2 1 1`.
+fn push_counts(counts: &Counts, text: &mut String) -> Result<(), Memory>
+    ensures { OnOk result
+        (string_bytes text.new ≡ string_bytes text.old ++ counts_text counts.now) }
+{
+    for count in counts.as_slice() {
+        write!(text, " {count}")?;
     }
     Ok(())
 }
