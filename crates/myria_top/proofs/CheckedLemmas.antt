@@ -6,7 +6,7 @@ use Rattle.std.specs.Option.{option_map_or}
 use Rattle.rel_base.specs.Keys.{File}
 use Rattle.rel_base.specs.declared.faults.RunFault.{RunFault}
 use Rattle.rel_base.specs.declared.faults.RunFault.TheVariants as fault
-use Rattle.myrial_ast.specs.CandidateFaults.{PrefixRule, Uncounted}
+use Rattle.myrial_ast.specs.CandidateFaults.{FaultRule, joins_alone}
 use Rattle.myrial_ast.specs.Trees.{StatementTree}
 use Rattle.myrial_meaning.specs.Evaluating.{IsFault}
 use Rattle.myrial_meaning.specs.Faults.{run_fault}
@@ -37,12 +37,12 @@ use Rattle.command_words.specs.declared.requests.Request.{Request}
 use Rattle.myria_top.specs.declared.outcomes.Outcome.{Outcome}
 use Rattle.myria_top.specs.Printed.{printed_text, text_in, text_of_mode}
 use Rattle.myria_top.specs.Reading.{AgreesRefused}
-use Rattle.myria_top.specs.Requests.{is_check, prefixes_in}
+use Rattle.myria_top.specs.Requests.{is_check, faults_in}
 use Rattle.myria_top.specs.Runs.{run_answer, typed_verdict}
 use Rattle.myria_top.specs.Verdicts.{Verdict, refused, passes, IfTold}
 use Rattle.myria_top.specs.inner.Working.{checked_verdict, evaluated_verdict}
 use Rattle.myria_top.proofs.PrintedLemmas.{text-placed}
-use Rattle.myria_top.proofs.RequestLemmas.{prefixes-at-workers}
+use Rattle.myria_top.proofs.RequestLemmas.{faults-at-workers}
 use Rattle.myria_top.proofs.TrafficLemmas.{traffic-whole}
 use Rattle.myria_top.proofs.VerdictLemmas.{meets_step}
 
@@ -75,10 +75,10 @@ module _ (text : List ℕ) where
 
 module _ (r : Request) (files : List File) (c : CheckedTree) (workers : is_check r.mode ≡ false) where
   abbrev own_fault : Option RunFault
-  own_fault = checked_fault (λ number. prefixes_in r.mode r.settings.shuffle) files c
+  own_fault = checked_fault (λ number. faults_in r.mode r.settings) files c
 
   fault-same : fault_of r.settings files c ≡ own_fault
-  fault-same = ap (λ (rule : PrefixRule). checked_fault (λ number. rule) files c) (sym (prefixes-at-workers r.mode r.settings.shuffle workers))
+  fault-same = ap (λ (rule : FaultRule). checked_fault (λ number. rule) files c) (sym (faults-at-workers r.mode r.settings workers))
 
   -- a run that ends well prints this text
   pub ran-prints : (ran : Ran) (text : List ℕ) → IsTrue (is_of files c) → AreTyped files → IsRan r.settings files c ran
@@ -113,11 +113,11 @@ ran-whole r files c ran of typed h =
 
 module _ (script : List StatementTree) (files : List File) where
   -- an evaluation that ends well prints this text
-  pub evaluated-prints : (stored : List File) (text : List ℕ) → SortedLinesAreTheText → run_fault Uncounted files script ≡ None
+  pub evaluated-prints : (stored : List File) (text : List ℕ) → SortedLinesAreTheText → run_fault joins_alone files script ≡ None
       → stored ≡ map sorted_file (stored_relations files script) → text ≡ flat_map relation_lines stored
       → IfTold (evaluated_verdict script files) (λ v. v ≡ passes text)
   evaluated-prints stored text law sound are is =
-      no_fault (output_text (stored_relations files script)) (run_fault Uncounted files script) text sound
+      no_fault (output_text (stored_relations files script)) (run_fault joins_alone files script) text sound
       (is ∙ ap (flat_map relation_lines) are ∙ law (stored_relations files script))
 
   run-fault : (own : Option RunFault) (why : RunFault) → IsFault why own → IsRunFault own why
@@ -126,11 +126,11 @@ module _ (script : List StatementTree) (files : List File) where
   run-fault own (fault.AggregateOverflow number) h = h
   run-fault own fault.Memory h = tt
 
-  pub evaluated-refuses : (why : RunFault) (answer : Outcome) → answer ≡ run_answer why → IsFault why (run_fault Uncounted files script)
+  pub evaluated-refuses : (why : RunFault) (answer : Outcome) → answer ≡ run_answer why → IsFault why (run_fault joins_alone files script)
       → AgreesRefused (evaluated_verdict script files) answer
   evaluated-refuses why answer is h =
-      fault_refuses (output_text (stored_relations files script)) (run_fault Uncounted files script) why answer is
-      (run-fault (run_fault Uncounted files script) why h)
+      fault_refuses (output_text (stored_relations files script)) (run_fault joins_alone files script) why answer is
+      (run-fault (run_fault joins_alone files script) why h)
 
   -- in a check the script comes to what its evaluation comes to
   pub evaluated_is_typed : (r : Request) (c : CheckedTree) → r.mode ≡ mode.Check
@@ -138,7 +138,7 @@ module _ (script : List StatementTree) (files : List File) where
   evaluated_is_typed r c e =
       let plan = plan_of (usual_placing r.settings) r.settings.local files c in
       let traffic = traffic_of (usual_placing r.settings) files c in
-      λ i. option_map_or (λ why. refused (run_answer why)) (run_fault (prefixes_in (sym e i) r.settings.shuffle) files script)
+      λ i. option_map_or (λ why. refused (run_answer why)) (run_fault (faults_in (sym e i) r.settings) files script)
       (passes (text_of_mode (sym e i) r (stored_relations files script) plan traffic))
 
 -- ---- the script that was checked
@@ -148,5 +148,5 @@ pub checked_is_typed : (r : Request) (files : List File) (c : CheckedTree) → S
     → (script : List StatementTree) → IsTrue (have_forms files script) → checked_of files script ≡ Ok c
     → checked_verdict r files c ≡ typed_verdict r script files c
 checked_is_typed r files c faults means script formed is =
-    λ i. option_map_or (λ why. refused (run_answer why)) (faults (prefixes_in r.mode r.settings.shuffle) files script c formed is i)
+    λ i. option_map_or (λ why. refused (run_answer why)) (faults (faults_in r.mode r.settings) files script c formed is i)
     (passes (printed_text r (means files script c formed is i) files c))

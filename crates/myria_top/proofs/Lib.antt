@@ -2,6 +2,8 @@ mod ReadingLemmas
 mod VerdictLemmas
 mod RequestLemmas
 mod OneAnswerLemmas
+mod ReducingLemmas
+mod FewerPrefixLemmas
 mod ScriptLemmas
 mod FetchLemmas
 mod EachFileLemmas

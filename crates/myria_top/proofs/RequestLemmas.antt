@@ -2,15 +2,15 @@
 use Rattle.std.proofs.Common.{◌≡◌, ◌≤◌, ◌∙◌, refl, ap, sym, Bool, true, false, not, cond, Option, Some, None}
 use Rattle.std.specs.Coded.{×_prop, le_prop}
 use mathlib.Core.HLevel.{is_prop→PathP}
-use Rattle.algebra.specs.declared.settings.ShuffleKind.{ShuffleKind}
-use Rattle.myrial_ast.specs.CandidateFaults.{Uncounted}
-use Rattle.engine.specs.Runs.{prefixes_of}
+use Rattle.algebra.specs.declared.settings.Settings.{Settings}
+use Rattle.myrial_ast.specs.CandidateFaults.{joins_alone}
+use Rattle.engine.specs.Runs.{faults_by}
 use Rattle.command_words.specs.Limits.{most_size}
 use Rattle.command_words.specs.declared.requests.Mode.{Mode}
 use Rattle.command_words.specs.declared.requests.Request.{Request}
 use Rattle.command_words.specs.Requests.{Asked, asked_of}
 use Rattle.command_words.proofs.SettingsLemmas.{same-settings}
-use Rattle.myria_top.specs.Requests.{Asks, is_check, is_trial, prefixes_in, script_asked, takes_workers}
+use Rattle.myria_top.specs.Requests.{Asks, is_check, is_trial, faults_in, script_asked, takes_workers}
 
 -- ---- one request
 
@@ -66,6 +66,6 @@ check-asked asked r asks none = by (is_check r.mode) (ap takes_workers (sym asks
     by true e = refl
     by false e = cc
 
--- prefixes count by the shuffle where there are workers
-pub prefixes-at-workers : (m : Mode) (shuffle : ShuffleKind) → is_check m ≡ false → prefixes_in m shuffle ≡ prefixes_of shuffle
-prefixes-at-workers m shuffle workers = ap (λ (b : Bool). cond b Uncounted (prefixes_of shuffle)) workers
+-- the settings say what counts where there are workers
+pub faults-at-workers : (m : Mode) (settings : Settings) → is_check m ≡ false → faults_in m settings ≡ faults_by settings
+faults-at-workers m settings workers = ap (λ (b : Bool). cond b joins_alone (faults_by settings)) workers

@@ -18,9 +18,10 @@ use Rattle.hash_partition.specs.Hashing.{home_of}
 use Rattle.placement.specs.Destinations.{meeting_cell}
 use Rattle.placement.specs.Exchanges.{PlacedExchange, broadcast_exchange, cells_exchange, exchanges_of, group_exchange, join_exchanges, kept_parts, key_exchange, prefix_parts, row_counts, row_exchange, shuffle_exchanges, term_exchanges, traffic_note, traffic_of}
 use Rattle.placement.specs.Laws.{IsPlaced, IsPlacing}
-use Rattle.placement.specs.Layouts.{PlacedRelation, placed_nothing, Placing, Shuffle, ByCells, ByKeys, Broadcast, join_parts, last_atom, listed_parts, parts_by_home, placed_source, placed_steps, prefix_key, rows_of, staying_atom, term_parts}
+use Rattle.placement.specs.Layouts.{PlacedRelation, placed_nothing, Placing, Shuffle, ByCells, ByKeys, Broadcast, joined_items, join_parts, last_atom, listed_parts, parts_by_home, placed_source, placed_steps, prefix_key, rows_of, staying_atom, term_parts}
 use Rattle.row_exchange.specs.Moves.{received}
 use Rattle.placement.proofs.CellLemmas.{All-flat_map}
+use Rattle.placement.proofs.JoinedLemmas.{joined_are_joined}
 use Rattle.placement.proofs.ScriptLemmas.{All-made, found-IsPlaced, get_or-All, nothing_IsPlaced, steps-IsPlaced}
 use Rattle.plan_printer.specs.TrafficTexts.{IsWhole}
 
@@ -86,25 +87,25 @@ shuffle-long n seed ByKeys shape given parts all long =
 module _ (p : Placing) (number : ℕ) (shape : Shape) (good : IsPlacing p) where
   listed-long : (given : List PlacedRelation) → All (IsPlaced p.workers) given → length (listed_parts p number shape given) ≡ p.workers
   listed-long [] all =
-      let items = p.joined shape [] in
-      joined-long p.workers p.seed (p.shuffle number shape (rows_of items)) shape items ((good.joined shape []).placed all)
+      let items = joined_items p.reduce shape [] in
+      joined-long p.workers p.seed (p.shuffle number shape (rows_of items)) shape items ((joined_are_joined p.workers p.reduce shape []).placed all)
   listed-long (one ∷ []) all =
       length-map one.parts (λ own. listed_of shape (own ∷ [])) ∙ (All-head (IsPlaced p.workers) one [] all).each_worker
   listed-long (one ∷ two ∷ more) all =
-      let items = p.joined shape (one ∷ two ∷ more) in
-      joined-long p.workers p.seed (p.shuffle number shape (rows_of items)) shape items ((good.joined shape (one ∷ two ∷ more)).placed all)
+      let items = joined_items p.reduce shape (one ∷ two ∷ more) in
+      joined-long p.workers p.seed (p.shuffle number shape (rows_of items)) shape items ((joined_are_joined p.workers p.reduce shape (one ∷ two ∷ more)).placed all)
 
   join-long : (given : List PlacedRelation) → All (IsPlaced p.workers) given → All (IsLong p.workers) (join_exchanges p number shape given)
   join-long [] all =
-      let items = p.joined shape [] in
+      let items = joined_items p.reduce shape [] in
       shuffle-long p.workers p.seed (p.shuffle number shape (rows_of items)) shape items (listed_parts p number shape [])
-      ((good.joined shape []).placed all) (listed-long [] all)
+      ((joined_are_joined p.workers p.reduce shape []).placed all) (listed-long [] all)
   join-long (one ∷ []) all = All-nil (IsLong p.workers)
   join-long (one ∷ two ∷ more) all =
       let given = one ∷ two ∷ more in
-      let items = p.joined shape given in
+      let items = joined_items p.reduce shape given in
       shuffle-long p.workers p.seed (p.shuffle number shape (rows_of items)) shape items (listed_parts p number shape given)
-      ((good.joined shape given).placed all) (listed-long given all)
+      ((joined_are_joined p.workers p.reduce shape given).placed all) (listed-long given all)
 
 -- ---- scripts
 

@@ -62,6 +62,7 @@ usual = record {
     seed = 0;
     shuffle = shuffle.Hc;
     local = join.Tj;
+    reduce = false;
     workers_in_range = (omega arith, omega arith);
     capacity_in_range = (omega arith, omega arith);
     batch_in_range = (omega arith, omega arith);

@@ -11,5 +11,6 @@ pub mod EachFile
 pub mod Headline
 pub mod TrialAnswers
 pub mod OneAnswer
+pub mod Reducing
 pub mod Moves
 pub mod inner

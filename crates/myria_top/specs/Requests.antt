@@ -7,12 +7,12 @@
 --   script_asked asked        the name of the script that is asked for; none where the words are
 --                             refused, or ask for a trial
 --   name_given asked          the name as it was given, for the line on standard error
---   prefixes_in mode shuffle  whether prefixes count as candidates
+--   faults_in mode settings   what counts as a fault
 use Rattle.std.specs.Prelude.{◌≡◌, ℕ, Bool, true, false, not, List, [], Option, Some, None, option_and_then, if◌then◌else◌}
 use Rattle.std.specs.Option.{option_map_or}
-use Rattle.myrial_ast.specs.CandidateFaults.{PrefixRule, Uncounted}
-use Rattle.algebra.specs.declared.settings.ShuffleKind.{ShuffleKind}
-use Rattle.engine.specs.Runs.{prefixes_of}
+use Rattle.myrial_ast.specs.CandidateFaults.{FaultRule, joins_alone}
+use Rattle.algebra.specs.declared.settings.Settings.{Settings}
+use Rattle.engine.specs.Runs.{faults_by}
 use Rattle.command_words.specs.declared.requests.Mode.{Mode}
 use Rattle.command_words.specs.declared.requests.Mode.TheVariants as mode
 use Rattle.command_words.specs.declared.requests.Request.{Request}
@@ -44,6 +44,6 @@ script_asked asked = option_and_then (λ a. if is_trial a.mode then None else So
 abbrev pub name_given : Option Asked → List ℕ
 name_given asked = option_map_or (λ a. a.script) asked []
 
--- prefixes count where workers join two items at a time
-abbrev pub prefixes_in : Mode → ShuffleKind → PrefixRule
-prefixes_in m shuffle = if is_check m then Uncounted else prefixes_of shuffle
+-- where workers run the script, its settings say what counts; a check neither joins two items at a time nor reduces
+abbrev pub faults_in : Mode → Settings → FaultRule
+faults_in m settings = if is_check m then joins_alone else faults_by settings

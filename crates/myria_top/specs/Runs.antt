@@ -39,7 +39,7 @@ use Rattle.myria_top.specs.declared.outcomes.Outcome.{Outcome}
 use Rattle.myria_top.specs.declared.outcomes.Outcome.TheVariants as outcome
 use Rattle.myria_top.specs.Printed.{printed_text}
 use Rattle.myria_top.specs.Reading.{file_verdict}
-use Rattle.myria_top.specs.Requests.{Asks, is_trial, prefixes_in}
+use Rattle.myria_top.specs.Requests.{Asks, is_trial, faults_in}
 use Rattle.myria_top.specs.Scripts.{ScriptComesTo, TextComesTo}
 use Rattle.myria_top.specs.Verdicts.{Verdict, refused, passes, and_then}
 
@@ -112,7 +112,7 @@ when_typed (Err why) further = refused (typing_answer why)
 abbrev pub typed_verdict : Request → List StatementTree → List File → CheckedTree → Verdict (List ℕ)
 typed_verdict r script files c =
     option_map_or (λ found. refused (run_answer found))
-    (run_fault (prefixes_in r.mode r.settings.shuffle) files script)
+    (run_fault (faults_in r.mode r.settings) files script)
     (passes (printed_text r (stored_relations files script) files c))
 
 -- what a script comes to over its files: each statement is typed, and then its run

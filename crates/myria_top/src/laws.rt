@@ -1,5 +1,6 @@
 //! Laws of the headline.
 ghost use Rattle.myria_top.specs.OneAnswer.{ComesToOne, PrintsWhatItComesTo};
+ghost use Rattle.myria_top.specs.Reducing.{ReducingKeepsFaults, ReducingKeepsAnswers, ReducingAddsNoFault};
 ghost use Rattle.myria_top.specs.TrialAnswers.{TrialsAreOfTheirRun};
 
 use trial_laws::{trial_is_read, trial_is_typed};
@@ -17,4 +18,13 @@ pub fn trials_are_of_their_run()
 pub fn runs_have_one_answer()
     ensures one { ComesToOne }
     ensures printed { PrintsWhatItComesTo }
+{}
+
+/// Law: where no prefix counts, a script has the same fault whether its joins are reduced or not;
+/// so a run that prints neither plan nor traffic has the same answer. And where prefixes count,
+/// a script that has no fault with all rows has none with the reduced ones. It does nothing.
+pub fn reducing_keeps_answers()
+    ensures faults { ReducingKeepsFaults }
+    ensures answers { ReducingKeepsAnswers }
+    ensures adds { ReducingAddsNoFault }
 {}

@@ -32,7 +32,7 @@ mod run;
 mod unprinted;
 
 pub use counted::fresh_taps;
-pub use laws::{runs_have_one_answer, trials_are_of_their_run};
+pub use laws::{reducing_keeps_answers, runs_have_one_answer, trials_are_of_their_run};
 pub use messages::tell;
 pub use outcomes::Outcome;
 pub use run::run_words;

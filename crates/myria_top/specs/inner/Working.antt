@@ -18,7 +18,7 @@ use Rattle.rel_base.specs.declared.names.Key.{Key}
 use Rattle.rel_io.specs.Outside.{Content}
 use Rattle.rel_io.specs.declared.taps.Totals.{Totals}
 use Rattle.exchange_channels.specs.Wirings.{ReceiptState}
-use Rattle.myrial_ast.specs.CandidateFaults.{Uncounted}
+use Rattle.myrial_ast.specs.CandidateFaults.{joins_alone}
 use Rattle.myrial_ast.specs.Trees.{StatementTree}
 use Rattle.myrial_meaning.specs.declared.needed_files.Fetch.{Fetch}
 use Rattle.myrial_meaning.specs.Faults.{run_fault}
@@ -33,7 +33,7 @@ use Rattle.myria_top.specs.declared.outcomes.Outcome.TheVariants as outcome
 use Rattle.myria_top.specs.declared.unprinted.Unprinted.{Unprinted}
 use Rattle.myria_top.specs.Moves.{HasMoved, IsRunOf}
 use Rattle.myria_top.specs.Printed.{printed_text}
-use Rattle.myria_top.specs.Requests.{prefixes_in}
+use Rattle.myria_top.specs.Requests.{faults_in}
 use Rattle.myria_top.specs.Runs.{run_answer}
 use Rattle.myria_top.specs.Verdicts.{Verdict, refused, passes}
 
@@ -46,13 +46,13 @@ text_of (Err answer) = Err answer
 abbrev pub checked_verdict : Request → List File → CheckedTree → Verdict (List ℕ)
 checked_verdict r files c =
     option_map_or (λ found. refused (run_answer found))
-    (checked_fault (λ number. prefixes_in r.mode r.settings.shuffle) files c)
+    (checked_fault (λ number. faults_in r.mode r.settings) files c)
     (passes (printed_text r (stored_by files c) files c))
 
 -- what a script comes to over its files without workers
 abbrev pub evaluated_verdict : List StatementTree → List File → Verdict (List ℕ)
 evaluated_verdict script files =
-    option_map_or (λ found. refused (run_answer found)) (run_fault Uncounted files script)
+    option_map_or (λ found. refused (run_answer found)) (run_fault joins_alone files script)
     (passes (output_text (stored_relations files script)))
 
 -- receipts and taps are those of the run of the request
