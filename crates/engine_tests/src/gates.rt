@@ -110,7 +110,7 @@ fn have_met<R: Threads + Wait + Sync>(
     shuffle: ShuffleKind,
     meets_at: u64,
 ) -> Result<bool, RunFault> {
-    let Some(settings) = Settings::new(2, 4, 1, 0, shuffle, JoinKind::Hj) else {
+    let Some(settings) = Settings::new(2, 4, 1, 0, shuffle, JoinKind::Hj, false) else {
         return Err(RunFault::Memory);
     };
     let flags = Flags {

@@ -81,7 +81,8 @@ fn compare_texts<R: Abort + Threads + Wait + Sync>(
 ) -> Result<(), RunFault> {
     for (workers, capacity, batch) in SIZES {
         let seed = u64::from(workers);
-        let Some(settings) = Settings::new(workers, capacity, batch, seed, shuffle, local) else {
+        let Some(settings) = Settings::new(workers, capacity, batch, seed, shuffle, local, false)
+        else {
             return Err(RunFault::Memory);
         };
         let sink = text_of(rt, alloc, script, &settings)?;

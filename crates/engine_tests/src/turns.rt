@@ -40,7 +40,7 @@ fn compare_turn<R: Abort + Threads + Wait + Sync>(
     turn: [i64; 4],
 ) -> Result<(), RunFault> {
     let script = Typed::new(alloc, SCRIPT, FALLING)?;
-    let Some(settings) = Settings::new(1, 16, 256, 0, ShuffleKind::Hc, local) else {
+    let Some(settings) = Settings::new(1, 16, 256, 0, ShuffleKind::Hc, local, false) else {
         return Err(RunFault::Memory);
     };
     let mut taps = blank_taps(alloc)?;

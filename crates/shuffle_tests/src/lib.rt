@@ -1,5 +1,5 @@
-//! Tests of the joins between workers, over numbers that are dealt to the workers in turn, and of
-//! the search for ears.
+//! Tests of the joins between workers, over numbers that are dealt to the workers in turn, of the
+//! search for ears, and of rows that are reduced.
 //!
 //! They stand in a crate of their own, above the shuffles and the join through hash tables, which
 //! is what a worker does alone.
@@ -15,6 +15,8 @@ mod joins;
 mod locals;
 #[cfg(test)]
 mod numbers;
+#[cfg(test)]
+mod paths;
 #[cfg(test)]
 mod positives;
 #[cfg(test)]

@@ -18,7 +18,7 @@ fn four_at_two<R: Threads + Wait + Sync>(
     shuffle: ShuffleKind,
     local: JoinKind,
 ) -> Result<Moved, JoinFault> {
-    let Some(settings) = Settings::new(2, 4, 256, 0, shuffle, local) else {
+    let Some(settings) = Settings::new(2, 4, 256, 0, shuffle, local, false) else {
         return Err(JoinFault::TooManyRows);
     };
     let Ok(mut taps) = blank_taps(alloc, 4) else {

@@ -45,6 +45,15 @@ pub(crate) fn two_counts(alloc: Global, first: u64, second: u64) -> Result<Count
     Ok(counts)
 }
 
+/// The rows of two items that are joined, and the line of items that go round in a ring.
+fn reduce_notes(alloc: Global) -> Result<PlanNotes, Memory> {
+    let counts = two_counts(alloc, 12, 0)?;
+    let mut notes = PlanNotes::new(alloc);
+    notes.push(PlanNote::Reduced(counts))?;
+    notes.push(PlanNote::ReduceCyclic)?;
+    Ok(notes)
+}
+
 /// The text of one exchange of two workers.
 fn text_of_a_step(alloc: Global) -> Result<Vec<u8>, Memory> {
     let mut text = Vec::new(alloc);
@@ -73,6 +82,17 @@ fn a_plan_is_printed(rt: HostRuntime) -> Result<(), Memory> {
     let wanted = "-- plan 12 from rows 3\n\
                   -- variable 1 1.$0 2.$1 share 2\n\
                   -- shuffle hc join tj cells 2 load 340282366920938463463374607431768211455/2\n";
+    assert_eq!(rt; text.as_slice(), wanted.as_bytes());
+    Ok(())
+}
+
+#[test]
+fn reduced_rows_are_printed(rt: HostRuntime) -> Result<(), Memory> {
+    let alloc = rt.alloc();
+    let notes = reduce_notes(alloc)?;
+    let mut text = Vec::new(alloc);
+    print_plan(&notes, &mut text)?;
+    let wanted = "-- reduce 12 0\n-- reduce cyclic\n";
     assert_eq!(rt; text.as_slice(), wanted.as_bytes());
     Ok(())
 }

@@ -15,13 +15,22 @@ fn texts_of(alloc: Global, words: &[&str]) -> Result<Vec<Text>, Memory> {
 
 #[test]
 fn words_are_read(rt: HostRuntime) -> Result<(), Fail> {
-    let words = ["myria", "--workers", "8", "--seed=7", "--plan", "q"];
+    let words = [
+        "myria",
+        "--workers",
+        "8",
+        "--seed=7",
+        "--plan",
+        "--reduce",
+        "q",
+    ];
     let texts = texts_of(rt.alloc(), words.as_slice())?;
     let request = read_words(rt.alloc(), texts.as_slice())?;
     assert_eq!(rt; request.mode, Mode::Run);
     assert_eq!(rt; request.settings.workers, 8);
     assert_eq!(rt; request.settings.capacity, 16);
     assert_eq!(rt; request.settings.seed, 7);
+    assert!(rt; request.settings.reduce);
     assert!(rt; request.plan && !request.traffic);
     assert_eq!(rt; request.size, 1000);
     assert_eq!(rt; request.script.as_str(), "q");
