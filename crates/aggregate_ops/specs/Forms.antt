@@ -57,4 +57,5 @@ abbrev pub results : Form → Kinds → Rows → Rows
 results form kinds rows = map (formed form kinds) (groups (grouped_kinds form kinds) rows)
 
 abbrev pub results_fit : Form → Kinds → Rows → Bool
-results_fit form kinds rows = list_all (form_fits form kinds) (groups (grouped_kinds form kinds) rows)
+results_fit form kinds rows =
+    list_all (form_fits form kinds) (groups (grouped_kinds form kinds) rows)

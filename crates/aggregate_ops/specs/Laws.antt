@@ -14,5 +14,7 @@ use Rattle.aggregate_ops.specs.Forms.{merged_fits}
 -- do. Of fewer than 2 ^ 63 rows every count fits
 abbrev pub MergedFitAsGroups : Type 0
 MergedFitAsGroups =
-    (kinds : Kinds) (lists : List Rows) (partials : Rows) → All (AreGrouped kinds) lists → SameBag partials (flat_map (partial_rows kinds) lists)
-    → length (flat_map (λ rows. rows) lists) < 2 ^ 63 → merged_fits kinds partials ≡ sums_fit kinds (flat_map (λ rows. rows) lists)
+    (kinds : Kinds) (lists : List Rows) (partials : Rows) → All (AreGrouped kinds) lists
+    → SameBag partials (flat_map (partial_rows kinds) lists)
+    → length (flat_map (λ rows. rows) lists) < 2 ^ 63
+    → merged_fits kinds partials ≡ sums_fit kinds (flat_map (λ rows. rows) lists)

@@ -19,7 +19,8 @@ term_tree_of (term.UnionAll s t) = UnionAll s t
 term_tree_of (term.Diff s t) = Diff s t
 term_tree_of (term.Distinct s) = Distinct s
 term_tree_of (term.Join shape sources) = Join (shape_tree_of shape) sources
-term_tree_of (term.Group shape sources kinds) = Group (shape_tree_of shape) sources (map kind_of_emit kinds)
+term_tree_of (term.Group shape sources kinds) =
+    Group (shape_tree_of shape) sources (map kind_of_emit kinds)
 
 -- the tree of a step
 abbrev pub step_tree_of : Step → StepTree

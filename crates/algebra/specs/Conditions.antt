@@ -31,9 +31,11 @@ kinds_of_columns columns = map (λ (c : Column). c.kind) columns
 
 -- the types of the columns of a source, if it is a file or an earlier step
 abbrev pub source_kinds : List File → List StepTree → Source → Option (List ColType)
-source_kinds files earlier (source.File place) = option_map (λ (f : File). kinds_of_columns f.1.schema) (slice_get files place)
+source_kinds files earlier (source.File place) =
+    option_map (λ (f : File). kinds_of_columns f.1.schema) (slice_get files place)
 source_kinds files earlier (source.Result number) =
-    option_map (λ (s : StepTree). kinds_of_columns s.schema) (find (λ (s : StepTree). s.statement == number) earlier)
+    option_map (λ (s : StepTree). kinds_of_columns s.schema)
+    (find (λ (s : StepTree). s.statement == number) earlier)
 
 -- whether these types were found
 abbrev pub has_kinds : Option (List ColType) → List ColType → Bool
@@ -52,7 +54,8 @@ emitted_kind (Some agg.Max) k = k
 abbrev pub emits_columns : List ColType → Kinds → List Scalar → List ColType → Bool
 emits_columns over kinds emits columns =
     (length kinds == length emits)
-    && pointwise (λ (p : Option AggOp × Scalar) k. is_kind k (emitted_kind p.0 (kind_in over p.1))) (zip kinds emits) columns
+    && pointwise (λ (p : Option AggOp × Scalar) k. is_kind k (emitted_kind p.0 (kind_in over p.1)))
+    (zip kinds emits) columns
 
 -- whether a term over these has columns of these types
 abbrev pub is_term : (Source → Option (List ColType)) → TermTree → List ColType → Bool
@@ -72,7 +75,8 @@ is_term known (Group shape sources kinds) columns =
 abbrev pub are_steps : List File → ℕ → List StepTree → List StepTree → Bool
 are_steps files last earlier [] = true
 are_steps files last earlier (s ∷ rest) =
-    nat_lt last s.statement && is_term (source_kinds files earlier) s.term (kinds_of_columns s.schema)
+    nat_lt last s.statement
+    && is_term (source_kinds files earlier) s.term (kinds_of_columns s.schema)
     && are_steps files s.statement (s ∷ earlier) rest
 
 -- whether a store is of a file, or of a step before it

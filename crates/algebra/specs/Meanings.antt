@@ -34,7 +34,8 @@ module _ {X : Type 0} where
 
   -- what each step comes to, by what those before it come to; the latest first
   abbrev pub run : (List (ℕ × X) → StepTree → X) → List StepTree → List (ℕ × X)
-  run value steps = fold (λ results (s : StepTree). (s.statement, value results s) ∷ results) [] steps
+  run value steps =
+      fold (λ results (s : StepTree). (s.statement, value results s) ∷ results) [] steps
 
 -- the rows of a term, by those of its sources
 abbrev pub term_rows : (Source → Rows) → TermTree → Rows
@@ -57,7 +58,10 @@ relations_of files = map (λ (f : File). f.1) files
 -- the relation of a step, where those before it have these
 abbrev pub step_relation : List File → List (ℕ × RelationState) → StepTree → RelationState
 step_relation files results s =
-    record { schema = s.schema; rows = term_rows (λ o. (found no_relation (relations_of files) results o).rows) s.term }
+    record {
+      schema = s.schema;
+      rows = term_rows (λ o. (found no_relation (relations_of files) results o).rows) s.term;
+    }
 
 -- the relation of each step with its number, the latest first
 abbrev pub step_relations : List File → List StepTree → List (ℕ × RelationState)
@@ -66,7 +70,9 @@ step_relations files steps = run (step_relation files) steps
 -- what the stores store, in their order
 abbrev pub stored_by : List File → CheckedTree → List File
 stored_by files c =
-    map (λ (s : StoreStep). (s.key, found no_relation (relations_of files) (step_relations files c.steps) s.source)) c.stores
+    map (λ (s : StoreStep).
+    (s.key, found no_relation (relations_of files) (step_relations files c.steps) s.source))
+    c.stores
 
 -- ---- needed steps
 
@@ -91,19 +97,22 @@ uses number s = list_any (is_result number) (sources_of s.term)
 
 -- whether one of these stores stores it, or one of these steps has it as a source
 abbrev pub is_used : ℕ → List StoreStep → List StepTree → Bool
-is_used number stores steps = list_any (λ (t : StoreStep). is_result number t.source) stores || list_any (uses number) steps
+is_used number stores steps =
+    list_any (λ (t : StoreStep). is_result number t.source) stores || list_any (uses number) steps
 
 -- the steps whose results are stored, or are sources of later ones that are needed
 abbrev pub needed_steps : List StoreStep → List StepTree → List StepTree
 needed_steps stores [] = []
 needed_steps stores (s ∷ rest) =
-    let later = needed_steps stores rest in if is_used s.statement stores later then s ∷ later else later
+    let later = needed_steps stores rest in
+    if is_used s.statement stores later then s ∷ later else later
 
 -- ---- faults
 
 -- whether some prefix that counts, of one atom at least and not of all, has too many candidates
 abbrev pub has_long_prefix : PrefixRule → Shape → List Rows → Bool
-has_long_prefix rule shape given = prefix_too_long rule (widths_of shape) (tests_of shape) (ties_of shape) given
+has_long_prefix rule shape given =
+    prefix_too_long rule (widths_of shape) (tests_of shape) (ties_of shape) given
 
 -- the fault of a join in a statement of this number, whose listed rows are of these kinds
 abbrev pub shape_fault : FaultRule → ℕ → Shape → Kinds → List Rows → Option RunFault
@@ -115,20 +124,26 @@ shape_fault rule number shape kinds given =
 abbrev pub term_fault : FaultRule → ℕ → (Source → Rows) → TermTree → Option RunFault
 term_fault rule number value (UnionAll s t) =
     if too_many (union_all (value s) (value t)) then Some (fault.TooManyRows number) else None
-term_fault rule number value (Join shape sources) = shape_fault rule number shape [] (map value sources)
-term_fault rule number value (Group shape sources kinds) = shape_fault rule number shape kinds (map value sources)
+term_fault rule number value (Join shape sources) =
+    shape_fault rule number shape [] (map value sources)
+term_fault rule number value (Group shape sources kinds) =
+    shape_fault rule number shape kinds (map value sources)
 term_fault rule number value _ = None
 
 -- the first fault of a needed one of the steps, where those before them have these results; which prefixes count is said by
 -- statement
-abbrev pub first_fault : (ℕ → FaultRule) → List File → List StoreStep → List (ℕ × RelationState) → List StepTree → Option RunFault
+abbrev pub first_fault : (ℕ → FaultRule) → List File → List StoreStep → List (ℕ × RelationState)
+    → List StepTree → Option RunFault
 first_fault rules files stores results [] = None
 first_fault rules files stores results (s ∷ rest) =
     let own =
     if is_used s.statement stores (needed_steps stores rest)
-    then term_fault (rules s.statement) s.statement (λ o. (found no_relation (relations_of files) results o).rows) s.term
+    then term_fault (rules s.statement) s.statement
+    (λ o. (found no_relation (relations_of files) results o).rows) s.term
     else None in
-    if is_some own then own else first_fault rules files stores ((s.statement, step_relation files results s) ∷ results) rest
+    if is_some own then own
+    else first_fault rules files stores
+    ((s.statement, step_relation files results s) ∷ results) rest
 
 -- the fault of the first needed step that has one
 abbrev pub checked_fault : (ℕ → FaultRule) → List File → CheckedTree → Option RunFault

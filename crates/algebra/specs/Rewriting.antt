@@ -32,9 +32,12 @@ pub record IsSameJoin (s t : Shape) : Type 0 where
   pub variables : s.variables ≡ t.variables
   pub arith : s.arith ≡ t.arith
   pub emits : s.emits ≡ t.emits
-  pub candidates : (tables : List Rows) → AreTables s.atoms tables → candidates_of s tables ≡ candidates_of t tables
-  pub kept : (j : ℕ) (tables : List Rows) → AreTables s.atoms tables → kept_of s j (slice_index_or tables j []) ≡ kept_of t j (slice_index_or tables j [])
-  pub prefixes : (i : ℕ) (tables : List Rows) → AreTables s.atoms tables → prefix_of s i tables ≡ prefix_of t i tables
+  pub candidates : (tables : List Rows) → AreTables s.atoms tables
+      → candidates_of s tables ≡ candidates_of t tables
+  pub kept : (j : ℕ) (tables : List Rows) → AreTables s.atoms tables
+      → kept_of s j (slice_index_or tables j []) ≡ kept_of t j (slice_index_or tables j [])
+  pub prefixes : (i : ℕ) (tables : List Rows) → AreTables s.atoms tables
+      → prefix_of s i tables ≡ prefix_of t i tables
 
 abbrev pub no_atom : AtomTree
 no_atom = record { kinds = []; keeps = [] }
@@ -42,7 +45,8 @@ no_atom = record { kinds = []; keeps = [] }
 -- each atom's keeps hold of exactly its kept rows
 abbrev pub KeepsAreKept : Shape → Type 0
 KeepsAreKept t =
-    (j : ℕ) (rows : Rows) → j < length t.atoms → HasKinds (slice_index_or t.atoms j no_atom).kinds rows
+    (j : ℕ) (rows : Rows) → j < length t.atoms
+    → HasKinds (slice_index_or t.atoms j no_atom).kinds rows
     → filter (all_hold (slice_index_or t.atoms j no_atom).keeps) rows ≡ kept_of t j rows
 
 pub record IsPushed (s t : Shape) : Type 0 where
@@ -52,7 +56,8 @@ pub record IsPushed (s t : Shape) : Type 0 where
 -- the same term, but for what is pushed into a join's keeps
 abbrev pub IsSameTerm : TermTree → TermTree → Type 0
 IsSameTerm (Join s sources) (Join t others) = IsPushed s t × (sources ≡ others)
-IsSameTerm (Group s sources kinds) (Group t others own) = IsPushed s t × (sources ≡ others) × (kinds ≡ own)
+IsSameTerm (Group s sources kinds) (Group t others own) =
+    IsPushed s t × (sources ≡ others) × (kinds ≡ own)
 IsSameTerm s t = s ≡ t
 
 pub record IsSameStep (s t : StepTree) : Type 0 where
@@ -62,7 +67,8 @@ pub record IsSameStep (s t : StepTree) : Type 0 where
 
 pub data AreSameSteps : List StepTree → List StepTree → Type 0 where
   no_step : AreSameSteps [] []
-  a_step : (s t : StepTree) (steps others : List StepTree) → IsSameStep s t → AreSameSteps steps others → AreSameSteps (s ∷ steps) (t ∷ others)
+  a_step : (s t : StepTree) (steps others : List StepTree) → IsSameStep s t
+      → AreSameSteps steps others → AreSameSteps (s ∷ steps) (t ∷ others)
 
 -- exactly the needed steps, each the same but for what is pushed, and all stores
 pub record IsRewritten (c d : CheckedTree) : Type 0 where
@@ -78,5 +84,7 @@ AreTyped files = All (λ (f : File). All (HasTypes f.1.schema) f.1.rows) files
 -- a rewritten script stores what the script stores, and has its fault
 abbrev pub RewrittenStoresTheSame : Type 0
 RewrittenStoresTheSame =
-    (files : List File) (c d : CheckedTree) → IsTrue (is_of files c) → AreTyped files → IsRewritten c d
-    → (stored_by files d ≡ stored_by files c) × ((rules : ℕ → FaultRule) → checked_fault rules files d ≡ checked_fault rules files c)
+    (files : List File) (c d : CheckedTree) → IsTrue (is_of files c) → AreTyped files
+    → IsRewritten c d
+    → (stored_by files d ≡ stored_by files c)
+    × ((rules : ℕ → FaultRule) → checked_fault rules files d ≡ checked_fault rules files c)

@@ -40,7 +40,8 @@ abbrev pub atom_tree_of : Atom → AtomTree
 atom_tree_of a = record { kinds = a.kinds; keeps = map scalar_tree_of a.keeps }
 
 -- the shape of these parts
-abbrev pub shape_of_parts : List Atom → List (List ℕ) → List code.Scalar → List code.Scalar → List code.Scalar → Shape
+abbrev pub shape_of_parts : List Atom → List (List ℕ) → List code.Scalar → List code.Scalar
+    → List code.Scalar → Shape
 shape_of_parts atoms variables plain arith emits = record {
   atoms = map atom_tree_of atoms;
   variables = variables;

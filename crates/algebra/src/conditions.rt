@@ -112,7 +112,8 @@ fn are_below(most: usize, columns: &[u32]) -> bool
 
 /// Whether columns are of one type.
 fn have_one_kind(kinds: &[ColType], columns: &[u32]) -> bool
-    ensures { result ≡ list_all (λ c. are_of kinds.now (kind_at kinds.now c) columns.now) columns.now }
+    ensures { result
+        ≡ list_all (λ c. are_of kinds.now (kind_at kinds.now c) columns.now) columns.now }
 {
     columns
         .iter()

@@ -57,8 +57,11 @@ impl Settings {
         local: JoinKind,
         reduce: bool,
     ) -> Option<Settings>
-        ensures numbers { IfSome result (λ s. (s.workers ≡ workers) × (s.capacity ≡ capacity) × (s.batch ≡ batch)) }
-        ensures choices { IfSome result (λ s. (s.seed ≡ seed) × (s.shuffle ≡ shuffle) × (s.local ≡ local) × (s.reduce ≡ reduce)) }
+        ensures numbers { IfSome result
+            (λ s. (s.workers ≡ workers) × (s.capacity ≡ capacity) × (s.batch ≡ batch)) }
+        ensures choices { IfSome result
+            (λ s. (s.seed ≡ seed) × (s.shuffle ≡ shuffle) × (s.local ≡ local)
+            × (s.reduce ≡ reduce)) }
         ensures within { IsSome result ↔ ((1 ≤ workers) × (workers ≤ most_workers)
             × (1 ≤ capacity) × (capacity ≤ most_capacity) × (1 ≤ batch) × (batch ≤ most_batch)) }
     {

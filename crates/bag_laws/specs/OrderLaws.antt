@@ -22,8 +22,10 @@ pub record JoinsIgnoreOrder : Type 0 where
 pub record OperatorsIgnoreOrder : Type 0 where
   pub union : (a b x y : Rows) → SameBag a b → SameBag x y → SameBag (union_all a x) (union_all b y)
   pub distinct : (a b : Rows) → SameBag a b → SameBag (distinct a) (distinct b)
-  pub difference : (a b x y : Rows) → SameBag a b → SameBag x y → SameBag (difference a x) (difference b y)
+  pub difference : (a b x y : Rows) → SameBag a b → SameBag x y
+      → SameBag (difference a x) (difference b y)
 
 -- groups are the same bag whatever the order of the rows
 abbrev pub GroupsIgnoreOrder : Type 0
-GroupsIgnoreOrder = (kinds : Kinds) (a b : Rows) → SameBag a b → SameBag (groups kinds a) (groups kinds b)
+GroupsIgnoreOrder =
+    (kinds : Kinds) (a b : Rows) → SameBag a b → SameBag (groups kinds a) (groups kinds b)

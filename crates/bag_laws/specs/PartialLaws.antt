@@ -21,7 +21,8 @@ AreGrouped kinds rows = All (λ row. length row ≡ length kinds) rows
 -- partial rows in any order, those of some lists one after another, are merged to the groups of the lists put together
 abbrev pub MergedAreGroups : Type 0
 MergedAreGroups =
-    (kinds : Kinds) (lists : List Rows) (partials : Rows) → All (AreGrouped kinds) lists → SameBag partials (flat_map (partial_rows kinds) lists)
+    (kinds : Kinds) (lists : List Rows) (partials : Rows) → All (AreGrouped kinds) lists
+    → SameBag partials (flat_map (partial_rows kinds) lists)
     → SameBag (merged kinds partials) (groups kinds (flat_map (λ rows. rows) lists))
 
 -- the key columns of the partial rows hold the keys, in order
@@ -34,13 +35,18 @@ PartialsKeepTheKey =
 -- where partial rows go by a test of their key, what has passed is merged to the groups whose key passes
 abbrev pub GroupsMeetByKey : Type 0
 GroupsMeetByKey =
-    (kinds : Kinds) (lists : List Rows) (partials : Rows) (test : Row → Bool) → All (AreGrouped kinds) lists
-    → SameBag partials (flat_map (λ rows. filter (λ row. test (key_of (partial_kinds kinds) row)) (partial_rows kinds rows)) lists)
-    → SameBag (merged kinds partials) (filter (λ row. test (key_of kinds row)) (groups kinds (flat_map (λ rows. rows) lists)))
+    (kinds : Kinds) (lists : List Rows) (partials : Rows) (test : Row → Bool)
+    → All (AreGrouped kinds) lists
+    → SameBag partials
+    (flat_map (λ rows. filter (λ row. test (key_of (partial_kinds kinds) row))
+    (partial_rows kinds rows)) lists)
+    → SameBag (merged kinds partials)
+    (filter (λ row. test (key_of kinds row)) (groups kinds (flat_map (λ rows. rows) lists)))
 
 -- a number is high * 2 ^ 62 + low, and low is from 0 and below 2 ^ 62
 abbrev pub SumsAreSplit : Type 0
-SumsAreSplit = (z : ℤ) → ((high z *ℤ pos (2 ^ 62)) +ℤ low z ≡ z) × ((n : ℕ) × (low z ≡ pos n) × (n < 2 ^ 62))
+SumsAreSplit = (z : ℤ)
+    → ((high z *ℤ pos (2 ^ 62)) +ℤ low z ≡ z) × ((n : ℕ) × (low z ≡ pos n) × (n < 2 ^ 62))
 
 -- sums never leave 64 bits in partial rows, where a whole sum may
 abbrev pub PartialsFit : Type 0

@@ -8,5 +8,6 @@ use Rattle.myrial_ast.specs.Combinations.{Rows}
 -- item by item, the same rows in another order
 pub data SameTables : List Rows → List Rows → Type 0 where
   no_table : SameTables [] []
-  a_table : (rows others : Rows) (tables rest : List Rows) → SameBag rows others → SameTables tables rest
+  a_table : (rows others : Rows) (tables rest : List Rows) → SameBag rows others
+      → SameTables tables rest
       → SameTables (rows ∷ tables) (others ∷ rest)

@@ -27,8 +27,10 @@ with_flag name app = with_rule app (flag_rule name)
 unfoldable pub command : App
 command =
     let run = with_option (codes "mode") (new_app (codes "myria")) in
-    let sized = with_option (codes "batch") (with_option (codes "capacity") (with_option (codes "workers") run)) in
-    let joined = with_option (codes "join") (with_option (codes "shuffle") (with_option (codes "seed") sized)) in
+    let sized = with_option (codes "batch")
+    (with_option (codes "capacity") (with_option (codes "workers") run)) in
+    let joined = with_option (codes "join")
+    (with_option (codes "shuffle") (with_option (codes "seed") sized)) in
     let printed = with_flag (codes "traffic") (with_flag (codes "plan") joined) in
     let reduced = with_flag (codes "reduce") printed in
     with_rule (with_option (codes "size") reduced) (word_rule (codes "script"))

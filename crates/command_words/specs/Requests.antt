@@ -47,7 +47,8 @@ abbrev pub count_given : Text → ℕ → ℕ → List Row → Option ℕ
 count_given name usual most rows = given name usual (number_within 1 most) rows
 
 abbrev pub is_flag_given : Text → List Row → Bool
-is_flag_given name rows = option_map_or (λ text. bytes_eq text (codes "true")) (first_of name rows) false
+is_flag_given name rows =
+    option_map_or (λ text. bytes_eq text (codes "true")) (first_of name rows) false
 
 abbrev pub mode_given : List Row → Option Mode
 mode_given = given (codes "mode") Run mode_of
@@ -76,7 +77,8 @@ size_given = count_given (codes "size") 1000 most_size
 -- none where one of them is none
 abbrev pub settings_given : List Row → Option AskedSettings
 settings_given rows =
-    option_and_then (λ workers. option_and_then (λ capacity. option_and_then (λ batch. option_and_then (λ seed.
+    option_and_then (λ workers.
+    option_and_then (λ capacity. option_and_then (λ batch. option_and_then (λ seed.
     option_and_then (λ shuffle. option_map (λ local. record {
       workers = workers;
       capacity = capacity;
@@ -85,10 +87,12 @@ settings_given rows =
       shuffle = shuffle;
       local = local;
       reduce = is_flag_given (codes "reduce") rows;
-    }) (join_given rows)) (shuffle_given rows)) (seed_given rows)) (batch_given rows)) (capacity_given rows)) (workers_given rows)
+    }) (join_given rows)) (shuffle_given rows)) (seed_given rows)) (batch_given rows))
+    (capacity_given rows)) (workers_given rows)
 
 -- what is asked for where each of its parts is told
-abbrev pub asked_from : Option Mode → Option AskedSettings → Option ℕ → Option (List ℕ) → Bool → Bool → Option Asked
+abbrev pub asked_from : Option Mode → Option AskedSettings → Option ℕ → Option (List ℕ) → Bool
+    → Bool → Option Asked
 asked_from mode settings size script plan traffic =
     option_and_then (λ m. option_and_then (λ s. option_and_then (λ n. option_map (λ t. record {
       mode = m;

@@ -24,7 +24,8 @@ lies_within least most number = not (nat_lt number least) && not (nat_lt most nu
 
 abbrev pub number_within : ℕ → ℕ → List ℕ → Option ℕ
 number_within least most text =
-    if is_numeral text && lies_within least most (digits_value 10 text) then Some (digits_value 10 text) else None
+    if is_numeral text && lies_within least most (digits_value 10 text)
+    then Some (digits_value 10 text) else None
 
 abbrev pub mode_of : List ℕ → Option Mode
 mode_of text =

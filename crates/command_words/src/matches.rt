@@ -36,7 +36,8 @@ pub fn is_flag_in(matches: &ArgMatches<'_>, name: &str) -> bool
 
 /// The name of the script.
 pub fn script_in<'a>(matches: &ArgMatches<'a>) -> Option<&'a str>
-    ensures { option_map (λ text. text.now) result ≡ first_of (codes "script") (rows_of (found_of matches.now)) }
+    ensures { option_map (λ text. text.now) result
+        ≡ first_of (codes "script") (rows_of (found_of matches.now)) }
 {
     matches.get_str("script")
 }
@@ -83,7 +84,8 @@ fn join_in(matches: &ArgMatches<'_>) -> Option<JoinKind>
 
 /// The settings of a run.
 pub fn settings_in(matches: &ArgMatches<'_>) -> Option<Settings>
-    ensures { option_map spec.asked_settings_of result ≡ spec.settings_given (rows_of (found_of matches.now)) }
+    ensures { option_map spec.asked_settings_of result
+        ≡ spec.settings_given (rows_of (found_of matches.now)) }
 {
     let workers = count_in(matches, "workers", 4, MOST_WORKERS)?;
     let capacity = count_in(matches, "capacity", 16, MOST_CAPACITY)?;

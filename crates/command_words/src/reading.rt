@@ -35,8 +35,10 @@ fn texts_of<'w>(alloc: Global, words: &'w [Text]) -> Result<Vec<&'w str>, Memory
 
 /// What the matches of the command ask for.
 fn request_in(alloc: Global, matches: &ArgMatches<'_>) -> Result<Request, WordsFault>
-    ensures ok { IfOk result (λ request. spec.asked_in (rows_of (found_of matches.now)) ≡ Some (spec.asked_of request)) }
-    ensures usage { result ≡ Err WordsFault.Usage → spec.asked_in (rows_of (found_of matches.now)) ≡ None }
+    ensures ok { IfOk result
+        (λ request. spec.asked_in (rows_of (found_of matches.now)) ≡ Some (spec.asked_of request)) }
+    ensures usage { result ≡ Err WordsFault.Usage
+        → spec.asked_in (rows_of (found_of matches.now)) ≡ None }
 {
     let Some(mode) = mode_in(matches) else {
         return Err(WordsFault::Usage);

@@ -62,7 +62,8 @@ fault_of s files c = checked_fault (λ number. faults_by s) files c
 
 -- the exchanges of the needed steps
 abbrev pub run_exchanges : Settings → List File → CheckedTree → List PlacedExchange
-run_exchanges s files c = map (λ (e : ℕ × PlacedExchange). e.1) (exchanges_of (usual_placing s) files c)
+run_exchanges s files c =
+    map (λ (e : ℕ × PlacedExchange). e.1) (exchanges_of (usual_placing s) files c)
 
 -- nothing is wrong with the script; each store holds what is placed, worker by worker; plan and traffic are those of the
 -- script, and the receipts show its exchanges

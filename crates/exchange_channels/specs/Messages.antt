@@ -35,7 +35,8 @@ batches_of messages = filter_map (λ message. message.batch) messages
 
 -- the batches of the messages, each with its sender, in order
 abbrev pub drained_of : List Message → List (ℕ × Batch)
-drained_of messages = filter_map (λ message. option_map (λ batch. (message.sender, batch)) message.batch) messages
+drained_of messages =
+    filter_map (λ message. option_map (λ batch. (message.sender, batch)) message.batch) messages
 
 -- how many rows a message has
 abbrev pub row_count : Option Batch → ℕ

@@ -16,8 +16,10 @@ pub record Place : Type 0 where
   pub key : Badge (Key Message)
 
 -- the place of a channel
-abbrev pub place_of : {Q M L A : Type 0} → Rows (Badge (Key Message)) (Doing Message View) Q M (Key Message) L A → Place
-place_of channel = record { table = channel.stamps.shared.table_id; key = channel.stamps.shared.key }
+abbrev pub place_of : {Q M L A : Type 0}
+    → Rows (Badge (Key Message)) (Doing Message View) Q M (Key Message) L A → Place
+place_of channel =
+    record { table = channel.stamps.shared.table_id; key = channel.stamps.shared.key }
 
 -- an end of a channel, and what its pass knows
 pub record PortState : Type 0 where

@@ -53,7 +53,8 @@ cells_of wiring = length wiring.places
 
 -- the outlet of a sender that has sent nothing
 abbrev pub new_outlet : WiringState → ℕ → OutletState
-new_outlet wiring sender = record { wiring = wiring; sender = sender; sent = replicate (cells_of wiring) [] }
+new_outlet wiring sender =
+    record { wiring = wiring; sender = sender; sent = replicate (cells_of wiring) [] }
 
 -- the outlets of so many senders, in order, which have sent nothing
 abbrev pub new_outlets : WiringState → ℕ → List OutletState
@@ -69,15 +70,18 @@ sent_to outlet cell = slice_index_or outlet.sent cell []
 
 -- the outlet once it sent a message to a cell
 abbrev pub with_sent_to : OutletState → ℕ → Message → OutletState
-with_sent_to outlet cell message = record outlet { sent = slice_set outlet.sent cell (sent_to outlet cell ++ message ∷ []) }
+with_sent_to outlet cell message =
+    record outlet { sent = slice_set outlet.sent cell (sent_to outlet cell ++ message ∷ []) }
 
 -- the outlet once it sent its end mark to each cell
 abbrev pub with_ends : OutletState → OutletState
-with_ends outlet = record outlet { sent = map (λ messages. messages ++ end_of outlet.sender ∷ []) outlet.sent }
+with_ends outlet =
+    record outlet { sent = map (λ messages. messages ++ end_of outlet.sender ∷ []) outlet.sent }
 
 -- the end mark of each sender is among the messages
 abbrev pub HasEachEnd : ℕ → List Message → Type 0
-HasEachEnd senders got = (s : ℕ) → s < senders → IsTrue (list_any is_end (of_sender sender_of s got))
+HasEachEnd senders got =
+    (s : ℕ) → s < senders → IsTrue (list_any is_end (of_sender sender_of s got))
 
 -- these are the ends of all outlets of the wiring, in order of their senders
 pub record AreOutletEnds (wiring : WiringState) (outs : List OutletState) : Type 0 where
@@ -113,12 +117,14 @@ AreIntakeEnds wiring ins = AreIntakes wiring (map untaken ins)
 abbrev pub receipt_of : WiringState → List OutletState → ReceiptState
 receipt_of wiring outs = record {
   capacity = wiring.capacity;
-  batches = map (λ cell. map (λ out. batches_of (sent_to out cell)) outs) (range_with_len 0 (cells_of wiring));
+  batches = map (λ cell. map (λ out. batches_of (sent_to out cell)) outs)
+      (range_with_len 0 (cells_of wiring));
 }
 
 -- what a cell took is, of each sender, what the sender sent there, in its order, and nothing else
 pub record IsDelivered (outs : List OutletState) (taken : IntakeState) : Type 0 where
-  pub all_taken : (s : ℕ) (d : OutletState) → s < length outs → of_sender sender_of s taken.got ≡ sent_to (slice_index_or outs s d) taken.cell
+  pub all_taken : (s : ℕ) (d : OutletState) → s < length outs
+      → of_sender sender_of s taken.got ≡ sent_to (slice_index_or outs s d) taken.cell
   pub no_stranger : All (λ message. message.sender < length outs) taken.got
 
 -- what all outlets sent to a cell, one sender's messages after another's
@@ -127,10 +133,12 @@ all_sent_to outs cell = flat_map (λ out. sent_to out cell) outs
 
 -- what a cell took is, in some order, what all outlets sent there
 abbrev pub TookAllSent : List OutletState → IntakeState → Type 0
-TookAllSent outs taken = IsDelivered outs taken → IsPermutation taken.got (all_sent_to outs taken.cell)
+TookAllSent outs taken =
+    IsDelivered outs taken → IsPermutation taken.got (all_sent_to outs taken.cell)
 
 -- a wiring was made of so many cells and senders and of this capacity: an outlet for each sender and an intake for each cell, in order
-pub record IsWired (keep : WiringState) (outlets : List OutletState) (intakes : List IntakeState) (cells senders capacity : ℕ) : Type 0 where
+pub record IsWired (keep : WiringState) (outlets : List OutletState) (intakes : List IntakeState)
+    (cells senders capacity : ℕ) : Type 0 where
   pub same_cells : cells_of keep ≡ cells
   pub same_senders : keep.senders ≡ senders
   pub same_capacity : keep.capacity ≡ capacity

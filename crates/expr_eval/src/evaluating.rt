@@ -61,9 +61,12 @@ fn at<R: RowView>(place: u32, row: &R) -> Lent<'_>
 
 /// The value of a scalar on a row, its string lent by the row or by the scalar.
 fn lent<'a, R: RowView>(scalar: &'a Scalar, row: &'a R) -> Result<Lent<'a>, Overflow>
-    ensures value { IfOk result (λ made. value_of_lent made ≡ exact_value (scalar_tree_of scalar.entry.now) (R.values row.entry.now)) }
+    ensures value { IfOk result
+        (λ made. value_of_lent made
+        ≡ exact_value (scalar_tree_of scalar.entry.now) (R.values row.entry.now)) }
     ensures fits { OnOk result (fits (scalar_tree_of scalar.entry.now) (R.values row.entry.now) ≡ true) }
-    ensures overflow { OnErr result (fits (scalar_tree_of scalar.entry.now) (R.values row.entry.now) ≡ false) }
+    ensures overflow { OnErr result
+        (fits (scalar_tree_of scalar.entry.now) (R.values row.entry.now) ≡ false) }
     ensures plain { OnErr result (is_plain (scalar_tree_of scalar.entry.now) ≡ false) }
 {
     match scalar {
@@ -96,7 +99,8 @@ pub fn holds<R: RowView>(scalar: &Scalar, row: &R) -> Result<bool, Overflow>
 /// The value of a scalar on a row. Memory is asked for where it is a string, and nowhere else.
 #[inline]
 pub fn eval<R: RowView>(alloc: Global, scalar: &Scalar, row: &R) -> Result<Value, EvalFault>
-    ensures value { IfOk result (λ value. value ≡ exact_value (scalar_tree_of scalar.now) (R.values row.now)) }
+    ensures value { IfOk result
+        (λ value. value ≡ exact_value (scalar_tree_of scalar.now) (R.values row.now)) }
     ensures fits { OnOk result (fits (scalar_tree_of scalar.now) (R.values row.now) ≡ true) }
     ensures fault { IfErr result (λ fault. IsFault fault (scalar_tree_of scalar.now) (R.values row.now)) }
 {

@@ -30,7 +30,8 @@ pub fn plain_hold<R: RowView>(scalars: &[Scalar], row: &R) -> bool
 /// Whether all of these hold on a row. Each is evaluated, also behind one that doesn't hold. It
 /// takes no memory.
 pub fn all_hold<R: RowView>(scalars: &[Scalar], row: &R) -> Result<bool, Overflow>
-    ensures value { IfOk result (λ truth. truth ≡ all_hold (map scalar_tree_of scalars.now) (R.values row.now)) }
+    ensures value { IfOk result
+        (λ truth. truth ≡ all_hold (map scalar_tree_of scalars.now) (R.values row.now)) }
     ensures fits { OnOk result (all_fit (map scalar_tree_of scalars.now) (R.values row.now) ≡ true) }
     ensures overflow { OnErr result (all_fit (map scalar_tree_of scalars.now) (R.values row.now) ≡ false) }
 {
@@ -101,7 +102,8 @@ pub fn emit<R: RowView>(
         ≡ into.old ++ emitted (map scalar_tree_of scalars.now) (R.values row.now) ∷ []) }
     ensures kept { OnErr result (into.new ≡ into.old) }
     ensures fits { OnOk result (all_fit (map scalar_tree_of scalars.now) (R.values row.now) ≡ true) }
-    ensures fault { IfErr result (λ fault. IsListFault fault (map scalar_tree_of scalars.now) (R.values row.now)) }
+    ensures fault { IfErr result
+        (λ fault. IsListFault fault (map scalar_tree_of scalars.now) (R.values row.now)) }
 {
     into.push_made(
         alloc,

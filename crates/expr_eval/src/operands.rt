@@ -46,7 +46,8 @@ fn product(left: i64, right: i64) -> Result<i64, Overflow>
 
 /// The negation of a value's number.
 pub fn minus<'a>(operand: Lent<'_>) -> Result<Lent<'a>, Overflow>
-    ensures value { IfOk result (λ made. value_of_lent made ≡ value.Int (neg_ℤ (number_of (value_of_lent operand.entry)))) }
+    ensures value { IfOk result
+        (λ made. value_of_lent made ≡ value.Int (neg_ℤ (number_of (value_of_lent operand.entry)))) }
     ensures fits { OnOk result (in_64_bits (neg_ℤ (number_of (value_of_lent operand.entry))) ≡ true) }
     ensures overflow { OnErr result (in_64_bits (neg_ℤ (number_of (value_of_lent operand.entry))) ≡ false) }
 {
@@ -56,9 +57,15 @@ pub fn minus<'a>(operand: Lent<'_>) -> Result<Lent<'a>, Overflow>
 
 /// What an operator makes of two values.
 pub fn applied<'a>(op: BinOp, left: Lent<'_>, right: Lent<'_>) -> Result<Lent<'a>, Overflow>
-    ensures value { IfOk result (λ made. value_of_lent made ≡ applied op (value_of_lent left.entry) (value_of_lent right.entry)) }
-    ensures fits { OnOk result (in_64_bits (number_of (applied op (value_of_lent left.entry) (value_of_lent right.entry))) ≡ true) }
-    ensures overflow { OnErr result (in_64_bits (number_of (applied op (value_of_lent left.entry) (value_of_lent right.entry))) ≡ false) }
+    ensures value { IfOk result
+        (λ made. value_of_lent made
+        ≡ applied op (value_of_lent left.entry) (value_of_lent right.entry)) }
+    ensures fits { OnOk result
+        (in_64_bits (number_of (applied op (value_of_lent left.entry) (value_of_lent right.entry)))
+        ≡ true) }
+    ensures overflow { OnErr result
+        (in_64_bits (number_of (applied op (value_of_lent left.entry) (value_of_lent right.entry)))
+        ≡ false) }
     ensures arithmetic { OnErr result (is_arithmetic op ≡ true) }
 {
     match op {

@@ -32,13 +32,16 @@ term_ends kind (UnionAll s t) = None ∷ []
 term_ends kind (Diff s t) = Some exchange.Diff ∷ []
 term_ends kind (Distinct s) = Some exchange.Distinct ∷ []
 term_ends kind (Join shape sources) = join_ends kind (length shape.atoms)
-term_ends kind (Group shape sources kinds) = join_ends kind (length shape.atoms) ++ Some exchange.Group ∷ []
+term_ends kind (Group shape sources kinds) =
+    join_ends kind (length shape.atoms) ++ Some exchange.Group ∷ []
 
 -- a stage of a step for each of these ends
 abbrev pub stages_at : ℕ → ℕ → List (Option Exchange) → List Stage
-stages_at statement step ends = map (λ end. record { statement = statement; step = step; exchange = end }) ends
+stages_at statement step ends =
+    map (λ end. record { statement = statement; step = step; exchange = end }) ends
 
 -- the stages of some steps, step by step
 abbrev pub stages_of : ShuffleKind → List StepTree → List Stage
 stages_of kind steps =
-    flat_map (λ (e : ℕ × StepTree). stages_at e.1.statement e.0 (term_ends kind e.1.term)) (enumerate_from 0 steps)
+    flat_map (λ (e : ℕ × StepTree). stages_at e.1.statement e.0 (term_ends kind e.1.term))
+    (enumerate_from 0 steps)

@@ -52,7 +52,8 @@ joined_sizes reduction.Cyclic shape given = kept_sizes shape (rows_of given)
 joined_sizes reduction.Reduced shape given = sizes_of (rows_of (reduced_items shape given))
 
 -- the numbers of rows, kept rows and joined rows of these items; no line tells what is joined of an item that is alone
-pub record AreSizes (reduction : Reduction) (shape : Shape) (given : List PlacedRelation) (sizes : JoinSizes) : Type 0 where
+pub record AreSizes (reduction : Reduction) (shape : Shape) (given : List PlacedRelation)
+    (sizes : JoinSizes) : Type 0 where
   pub rows : sizes_of (rows_of given) ≡ sizes.rows.now
   pub kept : kept_sizes shape (rows_of given) ≡ sizes.kept.now
   pub joined : 1 < length given → joined_sizes reduction shape given ≡ sizes.joined.now
@@ -62,7 +63,8 @@ pub record AreSizes (reduction : Reduction) (shape : Shape) (given : List Placed
 -- what settings ask for with so many joined rows of each atom: cells with the shares of least load, two atoms at a time, or
 -- broadcast
 abbrev pub chosen : ShuffleKind → ℕ → Shape → List ℕ → Shuffle
-chosen shuffle_kind.Hc workers shape joined = ByCells (best_shares (uses_of shape) joined (length shape.variables) workers)
+chosen shuffle_kind.Hc workers shape joined =
+    ByCells (best_shares (uses_of shape) joined (length shape.variables) workers)
 chosen shuffle_kind.Rs workers shape joined = ByKeys
 chosen shuffle_kind.Br workers shape joined = Broadcast
 
@@ -77,7 +79,8 @@ IsStaying joined choice.Keys = ⊤
 IsStaying joined (choice.Broadcast stays) = stays ≡ staying_of joined
 
 -- the choice is what settings ask for with so many joined rows of each atom
-pub record IsChosenFor (settings : Settings) (shape : Shape) (joined : List ℕ) (choice : ShuffleChoice) : Type 0 where
+pub record IsChosenFor (settings : Settings) (shape : Shape) (joined : List ℕ)
+    (choice : ShuffleChoice) : Type 0 where
   pub shuffle : shuffle_of choice ≡ chosen settings.shuffle settings.workers shape joined
   pub stays : IsStaying joined choice
 
@@ -86,6 +89,8 @@ pub record IsChosenFor (settings : Settings) (shape : Shape) (joined : List ℕ)
 pub record ChosenAreUsual : Type 0 where
   pub shuffle : (kind : ShuffleKind) (workers : ℕ) (shape : Shape) (items : List Rows)
       → chosen kind workers shape (kept_sizes shape items) ≡ usual_shuffle kind workers shape items
-  pub stays : (shape : Shape) (items : List Rows) → staying_of (kept_sizes shape items) ≡ staying_atom shape items
+  pub stays : (shape : Shape) (items : List Rows)
+      → staying_of (kept_sizes shape items) ≡ staying_atom shape items
   pub sizes : (reduce : Bool) (shape : Shape) (given : List PlacedRelation)
-      → joined_sizes (reduction_of reduce shape) shape given ≡ kept_sizes shape (rows_of (joined_items reduce shape given))
+      → joined_sizes (reduction_of reduce shape) shape given
+      ≡ kept_sizes shape (rows_of (joined_items reduce shape given))

@@ -42,12 +42,14 @@ distinct_exchanges s parts =
 
 -- each row of the left one that the right one doesn't have, once, at the home of all its columns
 abbrev pub diff_parts : Settings → List Rows → List Rows → List Rows
-diff_parts s left right = parts_by_row (usual_placing s) (difference (together left) (together right))
+diff_parts s left right =
+    parts_by_row (usual_placing s) (difference (together left) (together right))
 
 -- to which all rows of both go, in one exchange
 abbrev pub diff_exchanges : Settings → List Rows → List Rows → List PlacedExchange
 diff_exchanges s left right =
-    row_exchange (usual_placing s) exchange.Diff (placed_rows left ∷ placed_rows right ∷ []) (diff_parts s left right) ∷ []
+    row_exchange (usual_placing s) exchange.Diff (placed_rows left ∷ placed_rows right ∷ [])
+    (diff_parts s left right) ∷ []
 
 -- the groups of the rows that all workers listed, at the homes of their keys
 abbrev pub group_parts : Settings → Kinds → List Rows → List Rows
@@ -55,7 +57,8 @@ group_parts s kinds listed = parts_by_key (usual_placing s) kinds (groups kinds 
 
 -- to which the partial rows of what each worker listed go
 abbrev pub group_exchanges : Settings → Kinds → List Rows → List PlacedExchange
-group_exchanges s kinds listed = group_exchange (usual_placing s) kinds listed (group_parts s kinds listed) ∷ []
+group_exchanges s kinds listed =
+    group_exchange (usual_placing s) kinds listed (group_parts s kinds listed) ∷ []
 
 -- what the rows at each worker emit
 abbrev pub emitted_parts : List Scalar → List Rows → List Rows
@@ -63,7 +66,8 @@ emitted_parts emits parts = map (map (emitted emits)) parts
 
 -- at each worker the rows of both
 abbrev pub both_parts : List Rows → List Rows → List Rows
-both_parts left right = by_worker (length left) (λ w. slice_index_or left w [] ++ slice_index_or right w [])
+both_parts left right =
+    by_worker (length left) (λ w. slice_index_or left w [] ++ slice_index_or right w [])
 
 -- memory may be refused at any time
 abbrev pub IsRefused : Memory → Type 0
@@ -77,5 +81,6 @@ IsGroupFault kinds listed fault = Overflows fault (sums_fit kinds (together list
 -- time
 abbrev pub IsPickedFault : Kinds → List Scalar → List Rows → AggFault → Type 0
 IsPickedFault kinds picks parts agg.AggregateOverflow =
-    (sums_fit kinds (together (emitted_parts picks parts)) ≡ false) × (list_all (all_fit picks) (together parts) ≡ true)
+    (sums_fit kinds (together (emitted_parts picks parts)) ≡ false)
+    × (list_all (all_fit picks) (together parts) ≡ true)
 IsPickedFault kinds picks parts agg.Memory = ⊤

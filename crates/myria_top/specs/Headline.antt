@@ -56,7 +56,8 @@ pub record ExplainsRefusal (run : Run) (answer : Outcome) : Type 0 where
 abbrev pub Explains : Run → Outcome → Type 0
 Explains run (outcome.Done receipts) = OfText run (TookAll run.out)
 Explains run outcome.WriteFault = FaultsRose run.out × OfText run (TookPart run.out)
-Explains run outcome.Memory = TookNothing run.out ⊎ (WantsRose run.out × OfText run (TookPart run.out))
+Explains run outcome.Memory =
+    TookNothing run.out ⊎ (WantsRose run.out × OfText run (TookPart run.out))
 Explains run answer = ExplainsRefusal run answer
 
 -- the line on standard error is whole, or it stopped at a fault or a want of standard error itself

@@ -73,7 +73,8 @@ abbrev pub statement_line : ℕ → List ℕ → List ℕ
 statement_line statement words = line_with (of_statement statement words)
 
 -- words that are given in five pieces
-abbrev pub joined_words : Bor (List ℕ) × Bor (List ℕ) × Bor (List ℕ) × Bor (List ℕ) × Bor (List ℕ) → List ℕ
+abbrev pub joined_words : Bor (List ℕ) × Bor (List ℕ) × Bor (List ℕ) × Bor (List ℕ) × Bor (List ℕ)
+    → List ℕ
 joined_words words = words.0.now ++ words.1.now ++ words.2.now ++ words.3.now ++ words.4.now
 
 -- the line of a missing relation
@@ -92,14 +93,16 @@ message_of name outcome.ScriptTooLong = codes "script too long"
 message_of name outcome.ScriptNotText = codes "script is not UTF-8"
 message_of name (outcome.Lex line what) = on_line line (lexical_words what)
 message_of name (outcome.Syntax statement) = of_statement statement (codes "syntax error")
-message_of name (outcome.TooMany statement what) = of_statement statement (codes "too many " ++ many_words what)
+message_of name (outcome.TooMany statement what) =
+    of_statement statement (codes "too many " ++ many_words what)
 message_of name (outcome.Typing statement kind) = of_statement statement (kind_text kind)
 message_of name (outcome.NoRelation key) = codes "no relation " ++ key_words key
 message_of name (outcome.RelTooLong key) = of_relation key (codes "too long")
 message_of name (outcome.BadRelation key fault) = of_relation key (fault_text fault)
 message_of name (outcome.TooManyRows statement) = of_statement statement (codes "too many rows")
 message_of name (outcome.Overflow statement) = of_statement statement (codes "overflow")
-message_of name (outcome.AggregateOverflow statement) = of_statement statement (codes "aggregate overflow")
+message_of name (outcome.AggregateOverflow statement) =
+    of_statement statement (codes "aggregate overflow")
 message_of given (outcome.ReadFault name) = codes "cannot read " ++ name
 message_of name outcome.WriteFault = codes "cannot write"
 message_of name outcome.Memory = codes "out of memory"

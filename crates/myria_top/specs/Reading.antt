@@ -17,7 +17,8 @@ use Rattle.myria_top.specs.declared.outcomes.Outcome.TheVariants as outcome
 use Rattle.myria_top.specs.Verdicts.{Verdict, untold, refused, passes, IfTold}
 
 -- what a file comes to: refused where it is missing, and where it has more than `most` bytes, and else read
-abbrev pub file_verdict : {X : Type 0} → ℕ → Outcome → Outcome → (List ℕ → Verdict X) → Content → Verdict X
+abbrev pub file_verdict : {X : Type 0} → ℕ → Outcome → Outcome → (List ℕ → Verdict X) → Content
+    → Verdict X
 file_verdict most if_missing if_long read outside.untold = untold
 file_verdict most if_missing if_long read outside.missing = refused if_missing
 file_verdict most if_missing if_long read (outside.there bytes) =
@@ -26,7 +27,8 @@ file_verdict most if_missing if_long read (outside.there bytes) =
 -- a refusal of a fetch has its cause in a count that rose, and a name that is told to be there is not absent
 abbrev pub HasFetchCause : CallCounts → Content → ShelfFault → Type 0
 HasFetchCause counts content refusal.Failed = Rose counts.before.faults counts.after.faults
-HasFetchCause counts content refusal.Absent = Rose counts.before.misses counts.after.misses × MayBeMissing content
+HasFetchCause counts content refusal.Absent =
+    Rose counts.before.misses counts.after.misses × MayBeMissing content
 HasFetchCause counts content refusal.Memory = ⊤
 
 -- a refusal of the shelf has its cause in a count that rose, and what it names is one of these files
@@ -36,7 +38,8 @@ HasCause counts IsAsked (outcome.NoRelation key) =
     Rose counts.before.misses counts.after.misses × IsAsked (file_name_of key)
 HasCause counts IsAsked (outcome.RelTooLong key) = IsAsked (file_name_of key)
 HasCause counts IsAsked (outcome.BadRelation key fault) = IsAsked (file_name_of key)
-HasCause counts IsAsked (outcome.ReadFault name) = Rose counts.before.faults counts.after.faults × IsAsked name
+HasCause counts IsAsked (outcome.ReadFault name) =
+    Rose counts.before.faults counts.after.faults × IsAsked name
 HasCause counts IsAsked _ = ⊤
 
 -- the files come to such a step, where enough is told
@@ -59,7 +62,8 @@ AgreesBy Comes (Ok x) = Meets Comes (passes x)
 AgreesBy Comes (Err answer) = RefusesBy Comes answer
 
 -- a call that reads the files that IsAsked names came to what they come to, each refusal has its cause, and no count fell
-pub record ReadsBy {X : Type 0} (Comes : Verdict X → Type 0) (counts : CallCounts) (IsAsked : List ℕ → Type 0) (result : Result X Outcome) : Type 0 where
+pub record ReadsBy {X : Type 0} (Comes : Verdict X → Type 0) (counts : CallCounts)
+    (IsAsked : List ℕ → Type 0) (result : Result X Outcome) : Type 0 where
   pub agrees : AgreesBy Comes result
   pub cause : IfErr result (HasCause counts IsAsked)
   pub kept : HaveNotFallen counts
@@ -73,5 +77,6 @@ abbrev pub Agrees : {X : Type 0} → Verdict X → Result X Outcome → Type 0
 Agrees step = AgreesBy (λ s. s ≡ step)
 
 -- a call that reads the files that IsAsked names came to what this step comes to
-abbrev pub ReadsStep : {X : Type 0} → Verdict X → CallCounts → (List ℕ → Type 0) → Result X Outcome → Type 0
+abbrev pub ReadsStep : {X : Type 0} → Verdict X → CallCounts → (List ℕ → Type 0) → Result X Outcome
+    → Type 0
 ReadsStep step = ReadsBy (λ s. s ≡ step)

@@ -28,7 +28,8 @@ StoresAlone r = (r.mode ≡ mode.Run) × (r.plan ≡ false) × (r.traffic ≡ fa
 abbrev pub ReducingKeepsFaults : Type 0
 ReducingKeepsFaults =
     (reduce : Bool) (files : List File) (script : List StatementTree)
-    → run_fault (record { prefixes = Uncounted; reduce = reduce }) files script ≡ run_fault joins_alone files script
+    → run_fault (record { prefixes = Uncounted; reduce = reduce }) files script
+    ≡ run_fault joins_alone files script
 
 -- and the words and the files come to the same
 abbrev pub ReducingKeepsAnswers : Type 0

@@ -60,13 +60,15 @@ relation_of fetch bytes = relation_answer fetch.key (relation_read fetch.form by
 -- what the file of a relation comes to
 abbrev pub relation_verdict : Fetch → Content → Verdict RelationState
 relation_verdict fetch =
-    file_verdict most_relation_bytes (outcome.NoRelation fetch.key) (outcome.RelTooLong fetch.key) (relation_of fetch)
+    file_verdict most_relation_bytes (outcome.NoRelation fetch.key) (outcome.RelTooLong fetch.key)
+    (relation_of fetch)
 
 -- the files so far and, where they are good, one file more
 abbrev pub one_file_more : (List ℕ → Content) → Verdict (List File) → Fetch → Verdict (List File)
 one_file_more content files fetch =
     and_then files (λ so_far.
-    and_then (relation_verdict fetch (content (file_name_of fetch.key))) (λ table. passes (so_far ++ (fetch.key, table) ∷ [])))
+    and_then (relation_verdict fetch (content (file_name_of fetch.key)))
+    (λ table. passes (so_far ++ (fetch.key, table) ∷ [])))
 
 -- what these files come to, each wholly before the next
 abbrev pub files_verdict : (List ℕ → Content) → List Fetch → Verdict (List File)

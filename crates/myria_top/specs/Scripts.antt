@@ -24,9 +24,11 @@ fault_answer number (TooMany what) = outcome.TooMany number what
 -- what text that is short enough comes to: its first fault as tokens, that of its pieces, or a script
 pub data TextComesTo (bytes : List ℕ) : Verdict (List StatementTree) → Type 0 where
   not_text : (IsUtf8 bytes → ⊥) → TextComesTo bytes (refused outcome.ScriptNotText)
-  bad_token : (line : ℕ) (what : LexWhat) → HasFault bytes line what → TextComesTo bytes (refused (outcome.Lex line what))
+  bad_token : (line : ℕ) (what : LexWhat) → HasFault bytes line what
+      → TextComesTo bytes (refused (outcome.Lex line what))
   bad_piece : (tokens : List Token) (number : ℕ) (fault : PieceFault) → AreTokensOf bytes tokens
-      → IsFirstFault bytes tokens number fault → TextComesTo bytes (refused (fault_answer number fault))
+      → IsFirstFault bytes tokens number fault
+      → TextComesTo bytes (refused (fault_answer number fault))
   a_script : (tokens : List Token) (script : List StatementTree) → AreTokensOf bytes tokens
       → IsScript bytes tokens script → TextComesTo bytes (passes script)
 
@@ -34,8 +36,10 @@ pub data TextComesTo (bytes : List ℕ) : Verdict (List StatementTree) → Type 
 pub data ScriptComesTo : Content → Verdict (List StatementTree) → Type 0 where
   not_told : ScriptComesTo outside.untold untold
   no_script : ScriptComesTo outside.missing (refused outcome.NoScript)
-  too_long : (bytes : List ℕ) → most_script_bytes < length bytes → ScriptComesTo (outside.there bytes) (refused outcome.ScriptTooLong)
-  short : (bytes : List ℕ) (s : Verdict (List StatementTree)) → length bytes ≤ most_script_bytes → TextComesTo bytes s
+  too_long : (bytes : List ℕ) → most_script_bytes < length bytes
+      → ScriptComesTo (outside.there bytes) (refused outcome.ScriptTooLong)
+  short : (bytes : List ℕ) (s : Verdict (List StatementTree)) → length bytes ≤ most_script_bytes
+      → TextComesTo bytes s
       → ScriptComesTo (outside.there bytes) s
 
 -- what was read, with the trees of its statements

@@ -62,7 +62,8 @@ cell (Some agg.Max) (v ∷ values) = fold greater v values
 
 -- the row of a group with these rows
 abbrev pub group_row : Kinds → Rows → Row
-group_row kinds rows = map (λ p. cell p.1 (map (λ row. value_at row p.0) rows)) (enumerate_from 0 kinds)
+group_row kinds rows =
+    map (λ p. cell p.1 (map (λ row. value_at row p.0) rows)) (enumerate_from 0 kinds)
 
 -- a row for each group
 abbrev pub groups : Kinds → Rows → Rows
@@ -83,4 +84,5 @@ sum_fits _ v = true
 
 -- whether every sum of a group lies in 64 bits
 abbrev pub sums_fit : Kinds → Rows → Bool
-sums_fit kinds rows = list_all (λ row. list_all (λ p. sum_fits p.0 p.1) (zip kinds row)) (groups kinds rows)
+sums_fit kinds rows =
+    list_all (λ row. list_all (λ p. sum_fits p.0 p.1) (zip kinds row)) (groups kinds rows)

@@ -59,7 +59,8 @@ fits (Lit v) row = in_64_bits (number_of v)
 fits (At place) row = in_64_bits (number_of (value_at row place))
 fits (Not e) row = fits e row
 fits (Neg e) row = fits e row && in_64_bits (number_of (exact_value (Neg e) row))
-fits (Bin operator l r) row = fits l row && fits r row && in_64_bits (number_of (exact_value (Bin operator l r) row))
+fits (Bin operator l r) row =
+    fits l row && fits r row && in_64_bits (number_of (exact_value (Bin operator l r) row))
 
 -- whether an operator computes a number
 abbrev pub is_arithmetic : BinOp → Bool

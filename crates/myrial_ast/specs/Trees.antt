@@ -87,7 +87,8 @@ rel_tree_of (rel.Empty schema) = Empty schema
 rel_tree_of (rel.Distinct operand) = Distinct operand
 rel_tree_of (rel.UnionAll left right) = UnionAll left right
 rel_tree_of (rel.Diff left right) = Diff left right
-rel_tree_of (rel.From items condition emits) = From items (option_map tree_of condition) (map emit_tree_of emits)
+rel_tree_of (rel.From items condition emits) =
+    From items (option_map tree_of condition) (map emit_tree_of emits)
 
 -- the tree of a statement
 abbrev pub statement_tree_of : Stmt → StatementTree

@@ -192,7 +192,8 @@ impl EmitItem {
 
 /// The sources of the items, in order.
 fn sources_of(alloc: Global, items: &[FromItem]) -> Result<Vec<&Operand>, Memory>
-    ensures { IfOk result (λ found. map (λ o. o.now) found.items ≡ map (λ item. item.source) items.entry.now) }
+    ensures { IfOk result
+        (λ found. map (λ o. o.now) found.items ≡ map (λ item. item.source) items.entry.now) }
 {
     let mut sources = Vec::with_capacity(alloc, items.len())?;
     for item in items {
@@ -204,7 +205,8 @@ fn sources_of(alloc: Global, items: &[FromItem]) -> Result<Vec<&Operand>, Memory
 impl RelExpr {
     /// The operands, in order.
     pub fn operands(&self, alloc: Global) -> Result<Vec<&Operand>, Memory>
-        ensures { IfOk result (λ found. map (λ o. o.now) found.items ≡ operands_of (rel_tree_of self.entry.now)) }
+        ensures { IfOk result
+            (λ found. map (λ o. o.now) found.items ≡ operands_of (rel_tree_of self.entry.now)) }
     {
         match self {
             RelExpr::Empty(_) => Ok(Vec::new(alloc)),

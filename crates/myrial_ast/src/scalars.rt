@@ -43,7 +43,9 @@ impl Scalar {
 
     /// Two operands with an operator between them.
     pub fn binary(alloc: Global, op: BinOp, left: Scalar, right: Scalar) -> Result<Scalar, Memory>
-        ensures { IfOk result (λ made. scalar_tree_of made ≡ scalar.Bin op (scalar_tree_of left) (scalar_tree_of right)) }
+        ensures { IfOk result
+            (λ made. scalar_tree_of made
+            ≡ scalar.Bin op (scalar_tree_of left) (scalar_tree_of right)) }
     {
         let left = Box::new(alloc, left)?;
         Ok(Scalar::Bin(op, left, Box::new(alloc, right)?))

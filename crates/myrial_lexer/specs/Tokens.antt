@@ -51,7 +51,8 @@ run_len r text = prefix_len (goes_on r) text
 abbrev pub number : List ℕ → Front
 number text =
     let len = run_len run.Digits text in
-    if in_64_bits (pos (digits_value 10 (take len text))) then Piece kind.Int len else Fault NumberTooLarge
+    if in_64_bits (pos (digits_value 10 (take len text))) then Piece kind.Int len
+    else Fault NumberTooLarge
 
 -- from a quote up to the same quote on the same line
 abbrev pub string : List ℕ → Front
@@ -63,10 +64,14 @@ string text =
 -- the signs: a sign that begins with another one stands before it
 abbrev pub signs : List (List ℕ × Sign)
 signs =
-    (codes "==", Eq) ∷ (codes "=", Eq) ∷ (codes "!=", Ne) ∷ (codes "<>", Ne) ∷ (codes "<=", Le) ∷ (codes "<", Lt)
-    ∷ (codes ">=", Ge) ∷ (codes ">", Gt) ∷ (codes "+", Plus) ∷ (codes "-", Minus) ∷ (codes "*", Star)
-    ∷ (codes "(", OpenParen) ∷ (codes ")", CloseParen) ∷ (codes "[", OpenBracket) ∷ (codes "]", CloseBracket)
-    ∷ (codes ",", Comma) ∷ (codes ".", Dot) ∷ (codes ":", Colon) ∷ (codes ";", Semicolon) ∷ (codes "$", Dollar) ∷ []
+    (codes "==", Eq) ∷ (codes "=", Eq) ∷ (codes "!=", Ne) ∷ (codes "<>", Ne) ∷ (codes "<=", Le)
+    ∷ (codes "<", Lt)
+    ∷ (codes ">=", Ge) ∷ (codes ">", Gt) ∷ (codes "+", Plus) ∷ (codes "-", Minus)
+    ∷ (codes "*", Star)
+    ∷ (codes "(", OpenParen) ∷ (codes ")", CloseParen) ∷ (codes "[", OpenBracket)
+    ∷ (codes "]", CloseBracket)
+    ∷ (codes ",", Comma) ∷ (codes ".", Dot) ∷ (codes ":", Colon) ∷ (codes ";", Semicolon)
+    ∷ (codes "$", Dollar) ∷ []
 
 -- the sign as a piece of a text
 abbrev pub piece_of : Option (List ℕ × Sign) → Front
@@ -100,14 +105,16 @@ with_first token (Err fault) = Err fault
 -- what the front at a place gives, and then the text behind its bytes
 abbrev pub cut : ℕ → Front → (ℕ → Result (List Token) Break) → Result (List Token) Break
 cut place (Gap size) behind = behind size
-cut place (Piece k size) behind = with_first (record { kind = k; start = place; end = place + size }) (behind size)
+cut place (Piece k size) behind =
+    with_first (record { kind = k; start = place; end = place + size }) (behind size)
 cut place (Fault what) behind = Err (place, what)
 
 -- the tokens of a text that begins at a place, and whose first bytes, so many, belong to what stands before
 abbrev pub tokens_from : ℕ → ℕ → List ℕ → Result (List Token) Break
 tokens_from place passed [] = Ok []
 tokens_from place (suc passed) (b ∷ text) = tokens_from (place + 1) passed text
-tokens_from place zero (b ∷ text) = cut place (front_of (b ∷ text)) (λ size. tokens_from (place + 1) (size - 1) text)
+tokens_from place zero (b ∷ text) =
+    cut place (front_of (b ∷ text)) (λ size. tokens_from (place + 1) (size - 1) text)
 
 -- the tokens of a text in order, or its first fault
 abbrev pub tokens_of : List ℕ → Result (List Token) Break

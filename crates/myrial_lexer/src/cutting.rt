@@ -27,7 +27,8 @@ pub fn lex(alloc: Global, bytes: &[u8]) -> Result<Tokens, LexFault>
     // With `ok` and `at`, the other fault comes wherever the text is UTF-8 and has one.
     ensures ok { IfOk result (λ tokens. AreTokensOf bytes.now tokens) }
     ensures not_text { (result ≡ Err LexFault.NotText) ↔ (IsUtf8 bytes.now → ⊥) }
-    ensures at { (line : ℕ) (what : LexWhatSeen) → result ≡ Err (LexFault.At line what) → HasFault bytes.now line what }
+    ensures at { (line : ℕ) (what : LexWhatSeen) → result ≡ Err (LexFault.At line what)
+        → HasFault bytes.now line what }
 {
     let Ok(_) = str::from_utf8(bytes) else {
         return Err(LexFault::NotText);

@@ -25,15 +25,19 @@ module _ {X : Type 0} where
 
   -- what the latest assignment of this name assigned
   abbrev pub assigned_to : Environment X → Name → Option X
-  assigned_to env name = option_map (λ (p : Name × X). p.1) (find (λ (p : Name × X). same_name p.0 name) env.assigned)
+  assigned_to env name =
+      option_map (λ (p : Name × X). p.1) (find (λ (p : Name × X). same_name p.0 name) env.assigned)
 
   -- what the latest store of this key stored, or else its file
   abbrev pub kept_under : List (Key × X) → Environment X → Key → Option X
-  kept_under files env key = option_map (λ (p : Key × X). p.1) (find (λ (p : Key × X). same_key p.0 key) (env.stored ++ files))
+  kept_under files env key =
+      option_map (λ (p : Key × X). p.1)
+      (find (λ (p : Key × X). same_key p.0 key) (env.stored ++ files))
 
   -- the loaded file of this name, whatever was stored
   abbrev pub loaded_from : List (Key × X) → Name → Option X
-  loaded_from files name = option_map (λ (p : Key × X). p.1) (find (λ (p : Key × X). is_load_key name p.0) files)
+  loaded_from files name =
+      option_map (λ (p : Key × X). p.1) (find (λ (p : Key × X). is_load_key name p.0) files)
 
   -- what an operand stands for
   abbrev pub operand_of : List (Key × X) → Environment X → Operand → Option X

@@ -15,7 +15,8 @@ use Rattle.myrial_meaning.specs.Faults.{widths_of}
 -- the fault of a comprehension over these items, in a statement of this number
 abbrev pub fault_over : ℕ → List ItemRelation → Option Tree → List EmitTree → Option RunFault
 fault_over number sources condition emits =
-    option_and_then (λ (b : Resolved). comprehension_fault joins_alone number (widths_of sources) b.comprehension (tables_of sources))
+    option_and_then (λ (b : Resolved). comprehension_fault joins_alone number
+    (widths_of sources) b.comprehension (tables_of sources))
     (resolved (scope_of (items_of sources)) condition emits)
 
 -- the fault is the given one; memory may be refused at any time

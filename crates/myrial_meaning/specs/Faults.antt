@@ -25,10 +25,12 @@ abbrev pub widths_of : List ItemRelation → List ℕ
 widths_of sources = map (λ (s : ItemRelation). length s.table.schema) sources
 
 -- the fault of a relation expression: comprehensions have those above, and a `unionall` may have too many rows
-abbrev pub relation_fault : FaultRule → ℕ → List File → RelationEnvironment → RelTree → Option RunFault
+abbrev pub relation_fault : FaultRule → ℕ → List File → RelationEnvironment → RelTree
+    → Option RunFault
 relation_fault rule number files env (tree.From items condition emits) =
     option_and_then (λ sources.
-    option_and_then (λ (b : Resolved). comprehension_fault rule number (widths_of sources) b.comprehension (tables_of sources))
+    option_and_then (λ (b : Resolved). comprehension_fault rule number
+    (widths_of sources) b.comprehension (tables_of sources))
     (resolved (scope_of (items_of sources)) condition emits)) (each_or_none (item_relation files env) items)
 relation_fault rule number files env (tree.UnionAll o p) =
     option_and_then (λ (t : RelationState). if too_many t.rows then Some (fault.TooManyRows number) else None)
@@ -36,12 +38,14 @@ relation_fault rule number files env (tree.UnionAll o p) =
 relation_fault rule number files env _ = None
 
 -- the fault of a statement of this number
-abbrev pub statement_fault : FaultRule → ℕ → List File → RelationEnvironment → StatementTree → Option RunFault
+abbrev pub statement_fault : FaultRule → ℕ → List File → RelationEnvironment → StatementTree
+    → Option RunFault
 statement_fault rule number files env (tree.Assign name r) = relation_fault rule number files env r
 statement_fault rule number files env _ = None
 
 -- the first fault of a needed statement of the rest, whose first statement has this number
-abbrev pub fault_from : FaultRule → List File → ℕ → RelationEnvironment → List StatementTree → Option RunFault
+abbrev pub fault_from : FaultRule → List File → ℕ → RelationEnvironment → List StatementTree
+    → Option RunFault
 fault_from rule files number env [] = None
 fault_from rule files number env (s ∷ rest) =
     let own = if is_needed s rest then statement_fault rule number files env s else None in

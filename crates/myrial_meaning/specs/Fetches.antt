@@ -38,7 +38,8 @@ keys_needed stored (operand.Load name schema skip) = load_key name ∷ []
 abbrev pub needed_from : List Key → List StatementTree → List Key
 needed_from stored [] = []
 needed_from stored (tree.Store name key ∷ rest) = needed_from (stored ++ key ∷ []) rest
-needed_from stored (s ∷ rest) = flat_map (keys_needed stored) (operands_in s) ++ needed_from stored rest
+needed_from stored (s ∷ rest) =
+    flat_map (keys_needed stored) (operands_in s) ++ needed_from stored rest
 
 -- each key where it stands first
 abbrev pub each_once : List Key → List Key
@@ -65,7 +66,8 @@ loads_in s = flat_map loads_of (operands_in s)
 
 -- how the first of these loads of this key's file reads it, where one loads it
 abbrev pub form_among : List Load → Key → Option LoadForm
-form_among loads key = option_map (λ (l : Load). l.1) (find (λ (l : Load). is_load_key l.0 key) loads)
+form_among loads key =
+    option_map (λ (l : Load). l.1) (find (λ (l : Load). is_load_key l.0 key) loads)
 
 -- how the first load of this key's file reads it, where the script loads it
 abbrev pub form_in : List StatementTree → Key → Option LoadForm

@@ -38,9 +38,12 @@ assigns _ name = false
 -- the least set with every store and, for each name that a member uses, the statement that assigns it last before the member.
 -- A statement is told by the rest of the script, which follows it
 pub data IsNeeded : StatementTree → List StatementTree → Type 0 where
-  store : (name : Name) (key : Key) (rest : List StatementTree) → IsNeeded (tree.Store name key) rest
-  used : (name : Name) (r : RelTree) (rest between : List StatementTree) (member : StatementTree) (others : List StatementTree)
-      → rest ≡ between ++ member ∷ others → All (λ s. assigns s name ≡ false) between → uses member name ≡ true → IsNeeded member others
+  store : (name : Name) (key : Key) (rest : List StatementTree)
+      → IsNeeded (tree.Store name key) rest
+  used : (name : Name) (r : RelTree) (rest between : List StatementTree) (member : StatementTree)
+      (others : List StatementTree)
+      → rest ≡ between ++ member ∷ others → All (λ s. assigns s name ≡ false) between
+      → uses member name ≡ true → IsNeeded member others
       → IsNeeded (tree.Assign name r) rest
 
 -- whether a needed statement of the rest uses what the name stands for before it: a store of it does, an assignment that

@@ -21,7 +21,8 @@ pub record SameTable (t u : RelationState) : Type 0 where
 -- the same keys in the same order, each with one relation with its rows in another order
 pub data SameFiles : List File → List File → Type 0 where
   no_file : SameFiles [] []
-  a_file : (key : Key) (t u : RelationState) (files rest : List File) → SameTable t u → SameFiles files rest → SameFiles ((key, t) ∷ files) ((key, u) ∷ rest)
+  a_file : (key : Key) (t u : RelationState) (files rest : List File) → SameTable t u
+      → SameFiles files rest → SameFiles ((key, t) ∷ files) ((key, u) ∷ rest)
 
 -- item by item, alike
 pub data Alike {X : Type 0} (R : X → X → Type 0) : List X → List X → Type 0 where

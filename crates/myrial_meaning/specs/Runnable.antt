@@ -20,7 +20,9 @@ kinds_of_relation found = option_map_or (λ (t : RelationState). kinds_of_column
 
 -- whether two operands have columns of the same types
 abbrev pub have_same_kinds : List File → RelationEnvironment → Operand → Operand → Bool
-have_same_kinds files env o p = same_kinds (kinds_of_relation (operand_of files env o)) (kinds_of_relation (operand_of files env p))
+have_same_kinds files env o p =
+    same_kinds (kinds_of_relation (operand_of files env o))
+    (kinds_of_relation (operand_of files env p))
 
 -- whether the operands of a relation expression have columns of the same types, where they have to
 abbrev pub operands_fit : List File → RelationEnvironment → RelTree → Bool
@@ -31,13 +33,15 @@ operands_fit files env _ = true
 -- whether a statement stands for something
 abbrev pub is_defined : List File → RelationEnvironment → StatementTree → Bool
 is_defined files env tree.Nothing = true
-is_defined files env (tree.Assign name r) = is_some (relation_of files env r) && operands_fit files env r
+is_defined files env (tree.Assign name r) =
+    is_some (relation_of files env r) && operands_fit files env r
 is_defined files env (tree.Store name key) = is_some (assigned_to env name)
 
 -- whether each statement of the rest stands for something
 abbrev pub all_defined : List File → RelationEnvironment → List StatementTree → Bool
 all_defined files env [] = true
-all_defined files env (s ∷ rest) = is_defined files env s && all_defined files (after files env s) rest
+all_defined files env (s ∷ rest) =
+    is_defined files env s && all_defined files (after files env s) rest
 
 -- whether each statement of the script stands for something
 abbrev pub has_meaning : List File → List StatementTree → Bool

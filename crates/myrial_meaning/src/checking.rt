@@ -26,7 +26,9 @@ fn columns_over<'a>(
     emits: &EmitItems,
 ) -> Result<Option<Schema>, Memory>
     ensures { IfOk result (λ found. found
-        ≡ option_map (λ t. t.schema) (comprehension_over items.now (option_map tree_of condition.now) (map emit_tree_of emits.now))) }
+        ≡ option_map (λ t. t.schema)
+        (comprehension_over items.now (option_map tree_of condition.now)
+        (map emit_tree_of emits.now))) }
 {
     let schemas = schemas_of(alloc, items)?;
     let scope = Scope::of(alloc, &schemas)?;
@@ -82,7 +84,9 @@ impl<'a> Environment<'a> {
         files: &'a Files,
         operand: &Operand,
     ) -> Result<Option<Schema>, Memory>
-        ensures { IfOk result (λ found. found ≡ option_map (λ t. t.schema) (operand_of files.entry.now self.now operand.now)) }
+        ensures { IfOk result
+            (λ found. found ≡ option_map (λ t. t.schema)
+            (operand_of files.entry.now self.now operand.now)) }
     {
         match self.operand(files, operand) {
             Some(relation) => Ok(Some(relation.schema().copy(alloc)?)),
@@ -98,7 +102,9 @@ impl<'a> Environment<'a> {
         first: &Operand,
         second: &Operand,
     ) -> Result<Option<Schema>, Memory>
-        ensures { IfOk result (λ found. found ≡ columns_of_two (operand_of files.entry.now self.now first.now) (operand_of files.entry.now self.now second.now)) }
+        ensures { IfOk result
+            (λ found. found ≡ columns_of_two (operand_of files.entry.now self.now first.now)
+            (operand_of files.entry.now self.now second.now)) }
     {
         if self.operand(files, second).is_none() {
             return Ok(None);
@@ -113,7 +119,9 @@ impl<'a> Environment<'a> {
         files: &'a Files,
         relation: &RelExpr,
     ) -> Result<Option<Schema>, Memory>
-        ensures { IfOk result (λ found. found ≡ option_map (λ t. t.schema) (relation_of files.entry.now self.now (rel_tree_of relation.now))) }
+        ensures { IfOk result
+            (λ found. found ≡ option_map (λ t. t.schema)
+            (relation_of files.entry.now self.now (rel_tree_of relation.now))) }
     {
         match relation {
             RelExpr::Copy(operand) => self.columns_of_operand(alloc, files, operand),
@@ -148,8 +156,13 @@ impl<'a> Environment<'a> {
         files: &'a Files,
         statement: &'a Stmt,
     ) -> Result<bool, Memory>
-        ensures defined { IfOk result (λ is_so. is_so ≡ is_defined files.entry.now self.old (statement_tree_of statement.entry.now)) }
-        ensures declared { IfOk result (λ is_so. IsTrue is_so → self.new ≡ declared files.entry.now self.old (statement_tree_of statement.entry.now)) }
+        ensures defined { IfOk result
+            (λ is_so. is_so ≡ is_defined files.entry.now self.old
+            (statement_tree_of statement.entry.now)) }
+        ensures declared { IfOk result
+            (λ is_so. IsTrue is_so
+            → self.new ≡ declared files.entry.now self.old
+            (statement_tree_of statement.entry.now)) }
     {
         match statement {
             Stmt::Nothing => Ok(true),

@@ -42,7 +42,11 @@ impl<'a> Model for Environment<'a> {
 
     ghost use Rattle.myrial_meaning.specs.inner.Assignments.{assignment_of};
 
-    ghost view = { λ n. record { assigned = reverse (map assignment_of n.assigned.items); stored = reverse n.stored.items } };
+    ghost view = { λ n.
+        record {
+          assigned = reverse (map assignment_of n.assigned.items);
+          stored = reverse n.stored.items;
+        } };
 }
 
 impl<'a> Environment<'a> {
@@ -71,7 +75,8 @@ impl<'a> Environment<'a> {
 
     /// The relation that was stored under a key last.
     fn stored_under(&self, key: &Key) -> Option<&Relation>
-        ensures { option_copied result ≡ option_map (λ file. file.1) (find (λ file. same_key file.0 key.now) self.now.stored) }
+        ensures { option_copied result
+            ≡ option_map (λ file. file.1) (find (λ file. same_key file.0 key.now) self.now.stored) }
     {
         for i in (0..self.stored.len()).rev() {
             let file = &self.stored[i];
@@ -114,7 +119,8 @@ impl<'a> Environment<'a> {
         files: &'a Files,
         operand: &Operand,
     ) -> Result<Option<Held<'a>>, Memory>
-        ensures { IfOk result (λ held. option_map table_of held ≡ operand_of files.entry.now self.now operand.now) }
+        ensures { IfOk result
+            (λ held. option_map table_of held ≡ operand_of files.entry.now self.now operand.now) }
     {
         match operand {
             Operand::Named(name) => match self.assigned_to(name) {
@@ -170,7 +176,9 @@ impl<'a> Environment<'a> {
 
     /// Stores the relation of a name under a key, where it stands for one.
     pub fn store(&mut self, alloc: Global, name: &Text, key: &Key) -> Result<(), Memory>
-        ensures { OnOk result (self.new ≡ option_map_or (with_key self.old key.now) (assigned_to self.old name.now) self.old) }
+        ensures { OnOk result
+            (self.new ≡ option_map_or (with_key self.old key.now)
+            (assigned_to self.old name.now) self.old) }
     {
         let Some(held) = self.assigned_to(name) else {
             return Ok(());
@@ -197,7 +205,8 @@ impl<'a> Environment<'a> {
 
 /// The relation of the file of a key.
 fn file_under<'a>(files: &'a Files, key: &Key) -> Option<&'a Relation>
-    ensures { option_copied result ≡ option_map (λ file. file.1) (find (λ file. same_key file.0 key.now) files.entry.now) }
+    ensures { option_copied result
+        ≡ option_map (λ file. file.1) (find (λ file. same_key file.0 key.now) files.entry.now) }
 {
     for file in files.as_slice() {
         if file.0 == *key {
@@ -226,7 +235,8 @@ fn loaded_from<'a>(files: &'a Files, name: &Text) -> Option<&'a Relation>
 
 /// The relation of the file of a key, to be held under a name.
 fn lent_from<'a>(files: &'a Files, key: &Key) -> Option<Held<'a>>
-    ensures { option_map table_of result ≡ option_map (λ file. file.1) (find (λ file. same_key file.0 key.now) files.entry.now) }
+    ensures { option_map table_of result
+        ≡ option_map (λ file. file.1) (find (λ file. same_key file.0 key.now) files.entry.now) }
 {
     match file_under(files, key) {
         Some(relation) => Some(Held::Lent(relation)),

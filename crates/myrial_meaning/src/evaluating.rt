@@ -20,9 +20,14 @@ use std::alloc::Global;
 /// combination; a comprehension of n rows and m rows takes time in n * m.
 pub fn evaluate<'a>(alloc: Global, script: &'a Script, files: &'a Files) -> Result<Stored, RunFault>
     requires meaning { IsTrue (has_meaning files.now (trees_of script.now)) }
-    ensures stored { IfOk result (λ stored. stored ≡ map sorted_file (stored_relations files.entry.now (trees_of script.entry.now))) }
-    ensures no_fault { OnOk result (run_fault joins_alone files.entry.now (trees_of script.entry.now) ≡ None) }
-    ensures fault { IfErr result (λ fault. IsFault fault (run_fault joins_alone files.entry.now (trees_of script.entry.now))) }
+    ensures stored { IfOk result
+        (λ stored. stored
+        ≡ map sorted_file (stored_relations files.entry.now (trees_of script.entry.now))) }
+    ensures no_fault { OnOk result
+        (run_fault joins_alone files.entry.now (trees_of script.entry.now) ≡ None) }
+    ensures fault { IfErr result
+        (λ fault. IsFault fault
+        (run_fault joins_alone files.entry.now (trees_of script.entry.now))) }
 {
     let needed = needed_flags(alloc, script.as_slice())?;
     let mut names = Environment::new(alloc);

@@ -23,7 +23,11 @@ impl<'a> Model for ItemRelation<'a> {
 
     ghost Value = { ItemTable };
 
-    ghost view = { λ s. record { alias = s.alias.now; table = record { schema = s.schema.now; rows = s.rows.now } } };
+    ghost view = { λ s.
+        record {
+          alias = s.alias.now;
+          table = record { schema = s.schema.now; rows = s.rows.now };
+        } };
 
     ghost invariant = { λ s. All (HasTypes s.schema.now) s.rows.now };
 }

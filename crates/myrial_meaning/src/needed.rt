@@ -44,8 +44,10 @@ fn mentions(name: &Text, relation: &RelExpr) -> bool
 /// Whether the name's value before the statement is used from it on, as far as the statement alone
 /// tells; `None` where that hangs on those behind it.
 fn liveness_from(name: &Text, statement: &Stmt, needed: bool) -> Option<bool>
-    ensures { (rest : List StatementTree) → needed ≡ is_needed (statement_tree_of statement.now) rest
-        → is_live name.now (statement_tree_of statement.now ∷ rest) ≡ unwrap_or result (is_live name.now rest) }
+    ensures { (rest : List StatementTree)
+        → needed ≡ is_needed (statement_tree_of statement.now) rest
+        → is_live name.now (statement_tree_of statement.now ∷ rest)
+        ≡ unwrap_or result (is_live name.now rest) }
 {
     match statement {
         Stmt::Nothing => None,

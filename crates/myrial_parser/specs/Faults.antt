@@ -19,6 +19,8 @@ what_text what.Columns = codes "columns"
 
 -- why tokens are no script, in words
 abbrev pub fault_text : ParseFault → List ℕ
-fault_text (fault.Syntax statement) = codes "statement " ++ decimal statement ++ codes ": syntax error"
-fault_text (fault.TooMany statement what) = codes "statement " ++ decimal statement ++ codes ": too many " ++ what_text what
+fault_text (fault.Syntax statement) =
+    codes "statement " ++ decimal statement ++ codes ": syntax error"
+fault_text (fault.TooMany statement what) =
+    codes "statement " ++ decimal statement ++ codes ": too many " ++ what_text what
 fault_text fault.Memory = codes "out of memory"

@@ -22,12 +22,14 @@ module _ (operator : Terminal → Option BinOp) (Operand : List Terminal → Tre
   -- operands with operators between them, grouped from the left
   pub data Chain : List Terminal → Tree → Type 0 where
     alone : (ts : List Terminal) (a : Tree) → Operand ts a → Chain ts a
-    joined : (ts us : List Terminal) (x : Terminal) (op : BinOp) (a b : Tree) → Chain ts a → operator x ≡ Some op → Operand us b → Chain (ts ++ x ∷ us) (Bin op a b)
+    joined : (ts us : List Terminal) (x : Terminal) (op : BinOp) (a b : Tree) → Chain ts a
+        → operator x ≡ Some op → Operand us b → Chain (ts ++ x ∷ us) (Bin op a b)
 
   -- an operand, or two with an operator between them
   pub data Pair : List Terminal → Tree → Type 0 where
     single : (ts : List Terminal) (a : Tree) → Operand ts a → Pair ts a
-    compared : (ts us : List Terminal) (x : Terminal) (op : BinOp) (a b : Tree) → Operand ts a → operator x ≡ Some op → Operand us b → Pair (ts ++ x ∷ us) (Bin op a b)
+    compared : (ts us : List Terminal) (x : Terminal) (op : BinOp) (a b : Tree) → Operand ts a
+        → operator x ≡ Some op → Operand us b → Pair (ts ++ x ∷ us) (Bin op a b)
 
 module _ (symbol : Symbol) (node : Tree → Tree) (Operand : List Terminal → Tree → Type 0) where
   -- an operand behind none or more of a symbol, each of which has a node
@@ -39,7 +41,8 @@ module _ {A : Type 0} (Item : List Terminal → A → Type 0) where
   -- one or more items with commas between them
   pub data Separated : List Terminal → List A → Type 0 where
     last : (ts : List Terminal) (a : A) → Item ts a → Separated ts (a ∷ [])
-    more : (ts us : List Terminal) (a : A) (others : List A) → Item ts a → Separated us others → Separated (ts ++ Fixed Comma ∷ us) (a ∷ others)
+    more : (ts us : List Terminal) (a : A) (others : List A) → Item ts a → Separated us others
+        → Separated (ts ++ Fixed Comma ∷ us) (a ∷ others)
 
 -- whether a word is this one, in any case
 abbrev pub is_word : List ℕ → List ℕ → Bool

@@ -60,7 +60,8 @@ last_piece (token ∷ tokens) = record { tokens = token ∷ tokens; ended = fals
 abbrev pub pieces_of_parts : List (List Token) → List Piece
 pieces_of_parts [] = []
 pieces_of_parts (last ∷ []) = last_piece last
-pieces_of_parts (part ∷ next ∷ parts) = record { tokens = part; ended = true } ∷ pieces_of_parts (next ∷ parts)
+pieces_of_parts (part ∷ next ∷ parts) =
+    record { tokens = part; ended = true } ∷ pieces_of_parts (next ∷ parts)
 
 -- the pieces of a script
 abbrev pub pieces_of : List Token → List Piece
@@ -70,7 +71,9 @@ pieces_of tokens = pieces_of_parts (parts_of tokens)
 
 -- at some place too many parentheses are open
 abbrev pub NestsTooDeep : List Token → Type 0
-NestsTooDeep tokens = (n : ℕ) × (count_by (λ t. is_close t.kind) (take n tokens) + most_nesting < count_by (λ t. is_open t.kind) (take n tokens))
+NestsTooDeep tokens = (n : ℕ)
+    × (count_by (λ t. is_close t.kind) (take n tokens) + most_nesting
+    < count_by (λ t. is_open t.kind) (take n tokens))
 
 -- how many items a statement's comprehension has
 abbrev pub items_of : StatementTree → ℕ
@@ -115,8 +118,10 @@ module _ (text : List ℕ) (number : ℕ) (piece : Piece) where
     too_many_tokens : most_tokens < length piece.tokens → HasFault (TooMany Tokens)
     nests_too_deep : NestsTooDeep piece.tokens → HasFault (TooMany Nesting)
     no_statement : ((s : StatementTree) → IsStatement text piece s → ⊥) → HasFault Syntax
-    too_many_items : (s : StatementTree) → IsStatement text piece s → most_items < items_of s → HasFault (TooMany FromItems)
-    too_many_columns : (s : StatementTree) → IsStatement text piece s → most_columns < columns_of s → HasFault (TooMany Columns)
+    too_many_items : (s : StatementTree) → IsStatement text piece s → most_items < items_of s
+        → HasFault (TooMany FromItems)
+    too_many_columns : (s : StatementTree) → IsStatement text piece s → most_columns < columns_of s
+        → HasFault (TooMany Columns)
 
 -- the place of a fault among those of a piece
 abbrev pub rank : PieceFault → ℕ
@@ -143,8 +148,10 @@ pub record IsRead (text : List ℕ) (number : ℕ) (piece : Piece) (s : Statemen
 module _ (text : List ℕ) where
   pub data AreRead : ℕ → List Piece → List StatementTree → Type 0 where
     no_piece : (number : ℕ) → AreRead number [] []
-    a_piece : (number : ℕ) (piece : Piece) (s : StatementTree) (pieces : List Piece) (script : List StatementTree)
-        → IsRead text number piece s → AreRead (number + 1) pieces script → AreRead number (piece ∷ pieces) (s ∷ script)
+    a_piece : (number : ℕ) (piece : Piece) (s : StatementTree) (pieces : List Piece)
+        (script : List StatementTree)
+        → IsRead text number piece s → AreRead (number + 1) pieces script
+        → AreRead number (piece ∷ pieces) (s ∷ script)
 
 -- each piece of the text with these tokens is read as one of the statements, in order
 abbrev pub IsScript : List ℕ → List Token → List StatementTree → Type 0

@@ -37,15 +37,21 @@ seen (shown.Fixed s) = Fixed s
 -- the reserved words, which stand in any case
 abbrev pub reserved_words : List (List ℕ × Keyword)
 reserved_words =
-    (codes "from", keyword.From) ∷ (codes "where", keyword.Where) ∷ (codes "emit", keyword.Emit) ∷ (codes "as", keyword.As) ∷ (codes "and", keyword.And)
-    ∷ (codes "or", keyword.Or) ∷ (codes "not", keyword.Not) ∷ (codes "true", keyword.True) ∷ (codes "false", keyword.False) ∷ (codes "scan", keyword.Scan)
-    ∷ (codes "store", keyword.Store) ∷ (codes "empty", keyword.Empty) ∷ (codes "distinct", keyword.Distinct) ∷ (codes "unionall", keyword.UnionAll) ∷ (codes "diff", keyword.Diff)
-    ∷ (codes "count", keyword.Count) ∷ (codes "countall", keyword.CountAll) ∷ (codes "sum", keyword.Sum) ∷ (codes "min", keyword.Min) ∷ (codes "max", keyword.Max) ∷ []
+    (codes "from", keyword.From) ∷ (codes "where", keyword.Where) ∷ (codes "emit", keyword.Emit)
+    ∷ (codes "as", keyword.As) ∷ (codes "and", keyword.And)
+    ∷ (codes "or", keyword.Or) ∷ (codes "not", keyword.Not) ∷ (codes "true", keyword.True)
+    ∷ (codes "false", keyword.False) ∷ (codes "scan", keyword.Scan)
+    ∷ (codes "store", keyword.Store) ∷ (codes "empty", keyword.Empty)
+    ∷ (codes "distinct", keyword.Distinct) ∷ (codes "unionall", keyword.UnionAll)
+    ∷ (codes "diff", keyword.Diff)
+    ∷ (codes "count", keyword.Count) ∷ (codes "countall", keyword.CountAll)
+    ∷ (codes "sum", keyword.Sum) ∷ (codes "min", keyword.Min) ∷ (codes "max", keyword.Max) ∷ []
 
 -- the reserved word of a table that a word is, in any case
 abbrev pub lookup : List (List ℕ × Keyword) → List ℕ → Option Keyword
 lookup [] word = None
-lookup (row ∷ rows) word = if str_eq_ignore_ascii_case word row.0 then Some row.1 else lookup rows word
+lookup (row ∷ rows) word =
+    if str_eq_ignore_ascii_case word row.0 then Some row.1 else lookup rows word
 
 -- the reserved word that a word is, in any case
 unfoldable pub reserved : List ℕ → Option Keyword

@@ -226,7 +226,9 @@ impl Cursor<'_> {
     #[cycle(expression)]
     fn behind_minuses(&mut self, alloc: Global, depth: usize, count: usize) -> Result<Expr, Refusal>
         requires { count < 2 ^ 63 }
-        ensures { Parses tree_of (spec.signed_behind (spec.expression depth) (count + 1) (spec.first self.old) self.old) result self.new }
+        ensures { Parses tree_of
+            (spec.signed_behind (spec.expression depth) (count + 1) (spec.first self.old) self.old)
+            result self.new }
     {
         if let Some(Terminal::Number(number)) = self.peek() {
             self.skip();
@@ -279,7 +281,9 @@ impl Cursor<'_> {
     /// What stands behind the word of an aggregate, in parentheses.
     #[cycle(expression)]
     fn aggregate(&mut self, alloc: Global, depth: usize, word: Keyword) -> Result<Expr, Refusal>
-        ensures { Parses tree_of (spec.in_parens (spec.aggregated (spec.expression depth) word) self.old) result self.new }
+        ensures { Parses tree_of
+            (spec.in_parens (spec.aggregated (spec.expression depth) word) self.old) result
+            self.new }
     {
         self.expect(Symbol::Sign(Sign::OpenParen))?;
         let found = self.aggregated(alloc, depth, word)?;

@@ -19,7 +19,10 @@ pub fn a_piece_has_one_statement()
 /// The law that a script has one reading: one list of statements, or one first fault. It does
 /// nothing.
 pub fn a_script_has_one_reading()
-    ensures statements { (text : List ℕ) (tokens : List Token) (a b : List StatementTree) → IsScript text tokens a → IsScript text tokens b → a ≡ b }
-    ensures either { (text : List ℕ) (tokens : List Token) (a : List StatementTree) (n : ℕ) (f : PieceFault) → IsScript text tokens a → IsFirstFault text tokens n f → ⊥ }
-    ensures fault { (text : List ℕ) (tokens : List Token) (m n : ℕ) (f g : PieceFault) → IsFirstFault text tokens m f → IsFirstFault text tokens n g → (m ≡ n) × (f ≡ g) }
+    ensures statements { (text : List ℕ) (tokens : List Token) (a b : List StatementTree)
+        → IsScript text tokens a → IsScript text tokens b → a ≡ b }
+    ensures either { (text : List ℕ) (tokens : List Token) (a : List StatementTree) (n : ℕ)
+        (f : PieceFault) → IsScript text tokens a → IsFirstFault text tokens n f → ⊥ }
+    ensures fault { (text : List ℕ) (tokens : List Token) (m n : ℕ) (f g : PieceFault)
+        → IsFirstFault text tokens m f → IsFirstFault text tokens n g → (m ≡ n) × (f ≡ g) }
 {}

@@ -32,8 +32,11 @@ pub fn nests_too_deep(tokens: &[Token]) -> bool
 
 /// What a piece with this number and these tokens has too many of, before it is read.
 pub fn excess_of_tokens(number: u32, tokens: &[Token]) -> Option<What>
-    ensures some { (what : WhatSeen) → result ≡ Some what → (text : List ℕ) (ended : Bool) → IsFaulty text number (record { tokens = tokens.now; ended = ended }) (TooMany what) }
-    ensures none { result ≡ Nothing → (text : List ℕ) (ended : Bool) (fault : PieceFault) → rank fault < rank spec.Syntax → HasFault text number (record { tokens = tokens.now; ended = ended }) fault → ⊥ }
+    ensures some { (what : WhatSeen) → result ≡ Some what → (text : List ℕ) (ended : Bool)
+        → IsFaulty text number (record { tokens = tokens.now; ended = ended }) (TooMany what) }
+    ensures none { result ≡ Nothing → (text : List ℕ) (ended : Bool) (fault : PieceFault)
+        → rank fault < rank spec.Syntax
+        → HasFault text number (record { tokens = tokens.now; ended = ended }) fault → ⊥ }
 {
     if number > MOST_PIECES {
         Some(What::Statements)

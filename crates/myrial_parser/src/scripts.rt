@@ -46,9 +46,14 @@ fn short_piece(
     bytes: &[u8],
 ) -> Result<Stmt, ParseFault>
     requires cut { All (IsCut bytes.now) tokens.now }
-    requires within { (fault : PieceFault) → rank fault < rank Syntax → HasFault bytes.now number (record { tokens = tokens.now; ended = true }) fault → ⊥ }
-    ensures ok { IfOk result (λ made. IsRead bytes.now number (record { tokens = tokens.now; ended = true }) (statement_tree_of made)) }
-    ensures fault { (n : ℕ) (fault : PieceFault) → result ≡ Err (told n fault) → (n ≡ number) × IsFaulty bytes.now number (record { tokens = tokens.now; ended = true }) fault }
+    requires within { (fault : PieceFault) → rank fault < rank Syntax
+        → HasFault bytes.now number (record { tokens = tokens.now; ended = true }) fault → ⊥ }
+    ensures ok { IfOk result
+        (λ made. IsRead bytes.now number (record { tokens = tokens.now; ended = true })
+        (statement_tree_of made)) }
+    ensures fault { (n : ℕ) (fault : PieceFault) → result ≡ Err (told n fault)
+        → (n ≡ number) × IsFaulty bytes.now number
+        (record { tokens = tokens.now; ended = true }) fault }
 {
     a_piece_has_one_statement();
     match Cursor::new(tokens, bytes).statement(alloc) {
@@ -69,8 +74,12 @@ fn short_piece(
 /// The statement of a piece that a semicolon ends.
 fn piece(alloc: Global, number: u32, tokens: &[Token], bytes: &[u8]) -> Result<Stmt, ParseFault>
     requires { All (IsCut bytes.now) tokens.now }
-    ensures ok { IfOk result (λ made. IsRead bytes.now number (record { tokens = tokens.now; ended = true }) (statement_tree_of made)) }
-    ensures fault { (n : ℕ) (fault : PieceFault) → result ≡ Err (told n fault) → (n ≡ number) × IsFaulty bytes.now number (record { tokens = tokens.now; ended = true }) fault }
+    ensures ok { IfOk result
+        (λ made. IsRead bytes.now number (record { tokens = tokens.now; ended = true })
+        (statement_tree_of made)) }
+    ensures fault { (n : ℕ) (fault : PieceFault) → result ≡ Err (told n fault)
+        → (n ≡ number) × IsFaulty bytes.now number
+        (record { tokens = tokens.now; ended = true }) fault }
 {
     match excess_of_tokens(number, tokens) {
         Some(what) => Err(too_many(number, what)),
@@ -80,7 +89,9 @@ fn piece(alloc: Global, number: u32, tokens: &[Token], bytes: &[u8]) -> Result<S
 
 /// The fault of a piece that no semicolon ends.
 fn fault_of_last(number: u32, tokens: &[Token]) -> ParseFault
-    ensures { (text : List ℕ) → (fault : PieceFault) × (result ≡ told number fault) × IsFaulty text number (record { tokens = tokens.now; ended = false }) fault }
+    ensures { (text : List ℕ)
+        → (fault : PieceFault) × (result ≡ told number fault)
+        × IsFaulty text number (record { tokens = tokens.now; ended = false }) fault }
 {
     match excess_of_tokens(number, tokens) {
         Some(what) => too_many(number, what),
@@ -94,7 +105,8 @@ pub fn parse(alloc: Global, tokens: &Tokens, bytes: &[u8]) -> Result<Script, Par
     requires { AreTokensOf bytes.now tokens.now }
     // A script has one reading (`a_script_has_one_reading`), so with `ok` a fault comes wherever the script has one.
     ensures ok { IfOk result (λ script. IsScript bytes.now tokens.now (trees_of script)) }
-    ensures fault { (number : ℕ) (fault : PieceFault) → result ≡ Err (told number fault) → IsFirstFault bytes.now tokens.now number fault }
+    ensures fault { (number : ℕ) (fault : PieceFault) → result ≡ Err (told number fault)
+        → IsFirstFault bytes.now tokens.now number fault }
 {
     tokens_are_slices(bytes, tokens);
     let mut script = Script::new(alloc);

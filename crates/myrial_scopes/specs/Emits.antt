@@ -29,7 +29,12 @@ pub record Emit : Type 0 where
 -- the column at a place, under its own name
 abbrev pub emit_at : List ScopeColumn → ℕ → Emit
 emit_at scope place =
-    record { scalar = At place; aggregate = None; name = Some (column_at scope place).name; kind = (column_at scope place).kind }
+    record {
+      scalar = At place;
+      aggregate = None;
+      name = Some (column_at scope place).name;
+      kind = (column_at scope place).kind;
+    }
 
 -- the type of an aggregate of values of a type
 abbrev pub aggregate_kind : AggOp → ColType → ColType
@@ -45,7 +50,8 @@ aggregated scope op e =
 -- an expression without an aggregate; one that is only a column has that column's name
 abbrev pub emit_of_scalar : List ScopeColumn → Scalar → Emit
 emit_of_scalar scope (At place) = emit_at scope place
-emit_of_scalar scope e = record { scalar = e; aggregate = None; name = None; kind = kind_of scope e }
+emit_of_scalar scope e =
+    record { scalar = e; aggregate = None; name = None; kind = kind_of scope e }
 
 -- what an expression emits: `count(*)` counts rows, whatever stands in its column
 abbrev pub emit_of_tree : List ScopeColumn → Tree → Option Emit
@@ -55,18 +61,21 @@ emit_of_tree scope e = option_map (emit_of_scalar scope) (scalar_of scope e)
 
 -- under the name behind `as`, where there is one
 abbrev pub named : Option Name → Emit → Emit
-named (Some name) emit = record { scalar = emit.scalar; aggregate = emit.aggregate; name = Some name; kind = emit.kind }
+named (Some name) emit =
+    record { scalar = emit.scalar; aggregate = emit.aggregate; name = Some name; kind = emit.kind }
 named None emit = emit
 
 -- the columns of an emit item: all, those of an alias, or one
 abbrev pub emits_of_item : List ScopeColumn → EmitTree → Option (List Emit)
 emits_of_item scope tree.All = Some (map (emit_at scope) (range_with_len 0 (length scope)))
 emits_of_item scope (tree.AllOf alias) = Some (map (emit_at scope) (places_under scope alias))
-emits_of_item scope (tree.One e name) = option_map (λ emit. named name emit ∷ []) (emit_of_tree scope e)
+emits_of_item scope (tree.One e name) =
+    option_map (λ emit. named name emit ∷ []) (emit_of_tree scope e)
 
 -- the emitted columns, in order
 abbrev pub emits_of : List ScopeColumn → List EmitTree → Option (List Emit)
-emits_of scope items = option_map (flat_map (λ columns. columns)) (each_or_none (emits_of_item scope) items)
+emits_of scope items =
+    option_map (flat_map (λ columns. columns)) (each_or_none (emits_of_item scope) items)
 
 -- the name of a column without one, by its place in the output
 abbrev pub numbered_name : ℕ → Name
@@ -75,7 +84,9 @@ numbered_name place = codes "_COLUMN" ++ decimal place ++ codes "_"
 -- the names and types of the emitted columns
 abbrev pub schema_of : List Emit → List Column
 schema_of emits =
-    map (λ (p : ℕ × Emit). record { name = unwrap_or p.1.name (numbered_name p.0); kind = p.1.kind }) (enumerate_from 0 emits)
+    map (λ (p : ℕ × Emit).
+    record { name = unwrap_or p.1.name (numbered_name p.0); kind = p.1.kind })
+    (enumerate_from 0 emits)
 
 -- a comprehension with places for its references, and the schema of what it emits
 pub record Resolved : Type 0 where
@@ -101,4 +112,5 @@ conjuncts_of scope (Some condition) = option_map conjuncts (scalar_of scope cond
 -- the comprehension and its schema, if each reference means one column
 abbrev pub resolved : List ScopeColumn → Option Tree → List EmitTree → Option Resolved
 resolved scope condition emits =
-    option_and_then (λ joined. option_map (emitting joined) (emits_of scope emits)) (conjuncts_of scope condition)
+    option_and_then (λ joined. option_map (emitting joined) (emits_of scope emits))
+    (conjuncts_of scope condition)

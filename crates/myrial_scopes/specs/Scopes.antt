@@ -35,11 +35,13 @@ pub record ScopeColumn : Type 0 where
 
 -- a column in scope, that of an item of this number at a place of the item
 abbrev pub scoped : ℕ → Name → ℕ → Column → ScopeColumn
-scoped number alias place column = record { item = number; alias = alias; place = place; name = column.name; kind = column.kind }
+scoped number alias place column =
+    record { item = number; alias = alias; place = place; name = column.name; kind = column.kind }
 
 -- the columns of an item of this number
 abbrev pub columns_of : ℕ → ItemSchema → List ScopeColumn
-columns_of number item = map (λ (p : ℕ × Column). scoped number item.alias p.0 p.1) (enumerate_from 0 item.schema)
+columns_of number item =
+    map (λ (p : ℕ × Column). scoped number item.alias p.0 p.1) (enumerate_from 0 item.schema)
 
 -- the columns of all items, in the order of the combined row
 abbrev pub scope_of : List ItemSchema → List ScopeColumn
@@ -67,7 +69,8 @@ may_mean (ref.OfPlace alias given) place c = same_name c.alias alias && c.place 
 
 -- the places, from 0, of those that pass
 abbrev pub places_where : {X : Type 0} → (ℕ → X → Bool) → List X → List ℕ
-places_where {X} test xs = map (λ (p : ℕ × X). p.0) (filter (λ (p : ℕ × X). test p.0 p.1) (enumerate_from 0 xs))
+places_where {X} test xs =
+    map (λ (p : ℕ × X). p.0) (filter (λ (p : ℕ × X). test p.0 p.1) (enumerate_from 0 xs))
 
 -- the places that a reference may mean
 abbrev pub places_of : List ScopeColumn → ColRef → List ℕ
@@ -99,7 +102,9 @@ scalar_of scope (tree.AggAll op) = None
 
 -- the column at a place; past the end a nameless one
 abbrev pub column_at : List ScopeColumn → ℕ → ScopeColumn
-column_at scope place = slice_index_or scope place (record { item = 0; alias = []; place = 0; name = []; kind = kind.Int })
+column_at scope place =
+    slice_index_or scope place
+    (record { item = 0; alias = []; place = 0; name = []; kind = kind.Int })
 
 -- the type of an expression's values
 abbrev pub kind_of : List ScopeColumn → Scalar → ColType

@@ -41,7 +41,8 @@ fn numbered_name(alloc: Global, place: usize) -> Result<Text, Memory>
 impl EmittedColumn {
     /// The column's name and type, at a place in the output.
     fn column(&self, alloc: Global, place: usize) -> Result<Column, Memory>
-        ensures name { IfOk result (λ column. column.name ≡ unwrap_or (emit_of self.now).name (numbered_name place)) }
+        ensures name { IfOk result
+            (λ column. column.name ≡ unwrap_or (emit_of self.now).name (numbered_name place)) }
         ensures kind { IfOk result (λ column. column.kind ≡ (emit_of self.now).kind) }
     {
         let name = match &self.name {

@@ -12,7 +12,9 @@ use std::alloc::Global;
 
 /// Adds the parts that top-level `and` joins, in order.
 fn push_conjuncts(scalar: Scalar, into: &mut Scalars) -> Result<(), Memory>
-    ensures { OnOk result (map scalar_tree_of into.new ≡ map scalar_tree_of into.old ++ conjuncts (scalar_tree_of scalar)) }
+    ensures { OnOk result
+        (map scalar_tree_of into.new ≡ map scalar_tree_of into.old
+        ++ conjuncts (scalar_tree_of scalar)) }
 {
     match scalar {
         Scalar::Bin(BinOp::And, left, right) => {
@@ -36,7 +38,9 @@ impl Scope<'_> {
         alloc: Global,
         condition: &Option<Expr>,
     ) -> Result<Option<Scalars>, Memory>
-        ensures { IfOk result (λ found. option_map (map scalar_tree_of) found ≡ conjuncts_of self.now (option_map tree_of condition.now)) }
+        ensures { IfOk result
+            (λ found. option_map (map scalar_tree_of) found
+            ≡ conjuncts_of self.now (option_map tree_of condition.now)) }
     {
         let mut conjuncts = Scalars::new(alloc);
         if let Some(condition) = condition {

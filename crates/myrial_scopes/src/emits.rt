@@ -103,7 +103,8 @@ impl Scope<'_> {
     /// What an expression emits; `None` where a reference doesn't mean one column, or an aggregate
     /// stands inside of it.
     fn column_of(&self, alloc: Global, expression: &Expr) -> Result<Option<EmittedColumn>, Memory>
-        ensures { IfOk result (λ found. option_map emit_of found ≡ emit_of_tree self.now (tree_of expression.now)) }
+        ensures { IfOk result
+            (λ found. option_map emit_of found ≡ emit_of_tree self.now (tree_of expression.now)) }
     {
         match expression {
             Expr::Agg(op, None) => {
@@ -127,7 +128,8 @@ impl Scope<'_> {
         alloc: Global,
         alias: Option<&Text>,
     ) -> Result<Vec<EmittedColumn>, Memory>
-        ensures { IfOk result (λ made. map emit_of made.items ≡ emits_under self.now (option_copied alias.entry)) }
+        ensures { IfOk result
+            (λ made. map emit_of made.items ≡ emits_under self.now (option_copied alias.entry)) }
     {
         let mut columns = Vec::new(alloc);
         for place in 0..self.len() {
@@ -144,7 +146,9 @@ impl Scope<'_> {
         alloc: Global,
         item: &EmitItem,
     ) -> Result<Option<Vec<EmittedColumn>>, Memory>
-        ensures { IfOk result (λ found. option_map (λ v. map emit_of v.items) found ≡ emits_of_item self.now (emit_tree_of item.now)) }
+        ensures { IfOk result
+            (λ found. option_map (λ v. map emit_of v.items) found
+            ≡ emits_of_item self.now (emit_tree_of item.now)) }
     {
         match item {
             EmitItem::All => Ok(Some(self.columns_under(alloc, None)?)),
@@ -165,7 +169,9 @@ impl Scope<'_> {
         alloc: Global,
         items: &[EmitItem],
     ) -> Result<Option<Vec<EmittedColumn>>, Memory>
-        ensures { IfOk result (λ found. option_map (λ v. map emit_of v.items) found ≡ emits_of self.now (map emit_tree_of items.now)) }
+        ensures { IfOk result
+            (λ found. option_map (λ v. map emit_of v.items) found
+            ≡ emits_of self.now (map emit_tree_of items.now)) }
     {
         let mut all = Vec::new(alloc);
         for item in items {

@@ -15,7 +15,9 @@ impl Scope<'_> {
     /// The expression with places for its references; `None` where a reference doesn't mean one
     /// column, or an aggregate stands in it.
     pub fn scalar(&self, alloc: Global, expression: &Expr) -> Result<Option<Scalar>, Memory>
-        ensures { IfOk result (λ found. option_map scalar_tree_of found ≡ scalar_of self.now (tree_of expression.now)) }
+        ensures { IfOk result
+            (λ found. option_map scalar_tree_of found
+            ≡ scalar_of self.now (tree_of expression.now)) }
     {
         match expression {
             Expr::Lit(value) => Ok(Some(Scalar::Lit(value.copy(alloc)?))),

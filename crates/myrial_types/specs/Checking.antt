@@ -23,13 +23,16 @@ use Rattle.myrial_types.specs.Kinds.{first_kind}
 
 -- the name of a statement of this number stands for its result
 abbrev pub with_result : ℕ → Names → Name → Typed → Names
-with_result number names name t = with_name names name (record { source = source.Result number; schema = t.schema })
+with_result number names name t =
+    with_name names name (record { source = source.Result number; schema = t.schema })
 
 -- what names and keys stand for after a statement of this number
 abbrev pub names_after : List File → ℕ → Names → StatementTree → Names
 names_after files number names tree.Nothing = names
-names_after files number names (tree.Assign name r) = option_map_or (with_result number names name) (term_of files names r) names
-names_after files number names (tree.Store name key) = option_map_or (with_key names key) (assigned_to names name) names
+names_after files number names (tree.Assign name r) =
+    option_map_or (with_result number names name) (term_of files names r) names
+names_after files number names (tree.Store name key) =
+    option_map_or (with_key names key) (assigned_to names name) names
 
 -- the step of a statement that assigns
 abbrev pub step_of : ℕ → Typed → StepTree
@@ -43,18 +46,28 @@ store_of number key m = record { statement = number; key = key; source = m.sourc
 abbrev pub with_statement : List File → ℕ → Names → StatementTree → CheckedTree → CheckedTree
 with_statement files number names tree.Nothing rest = rest
 with_statement files number names (tree.Assign name r) rest =
-    record { steps = option_to_list (option_map (step_of number) (term_of files names r)) ++ rest.steps; stores = rest.stores }
+    record {
+      steps = option_to_list (option_map (step_of number) (term_of files names r))
+          ++ rest.steps;
+      stores = rest.stores;
+    }
 with_statement files number names (tree.Store name key) rest =
-    record { steps = rest.steps; stores = option_to_list (option_map (store_of number key) (assigned_to names name)) ++ rest.stores }
+    record {
+      steps = rest.steps;
+      stores = option_to_list (option_map (store_of number key) (assigned_to names name))
+          ++ rest.stores;
+    }
 
 -- a fault of a statement, or else the statement before the rest
-abbrev pub before : ℕ → Option TypeKind → (CheckedTree → CheckedTree) → Result CheckedTree TypeFault → Result CheckedTree TypeFault
+abbrev pub before : ℕ → Option TypeKind → (CheckedTree → CheckedTree) → Result CheckedTree TypeFault
+    → Result CheckedTree TypeFault
 before number (Some kind) put rest = Err (refusal.At number kind)
 before number None put (Ok rest) = Ok (put rest)
 before number None put (Err fault) = Err fault
 
 -- what statements come to, of which the first has this number, behind these loads, where names and keys stand for these
-abbrev pub checked_from : List File → ℕ → Names → List Load → List StatementTree → Result CheckedTree TypeFault
+abbrev pub checked_from : List File → ℕ → Names → List Load → List StatementTree
+    → Result CheckedTree TypeFault
 checked_from files number names earlier [] = Ok (record { steps = []; stores = [] })
 checked_from files number names earlier (s ∷ rest) =
     before number (first_kind files names earlier s) (with_statement files number names s)

@@ -21,5 +21,6 @@ kind_text kind.LoadConflict = codes "load conflict"
 
 -- the number of the statement, and what is wrong with it
 abbrev pub fault_text : TypeFault → List ℕ
-fault_text (fault.At statement kind) = codes "statement " ++ decimal statement ++ codes ": " ++ kind_text kind
+fault_text (fault.At statement kind) =
+    codes "statement " ++ decimal statement ++ codes ": " ++ kind_text kind
 fault_text fault.Memory = codes "out of memory"

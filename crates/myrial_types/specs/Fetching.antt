@@ -36,7 +36,8 @@ contradicts l m = same_name l.0 m.0 && not (same_form l.1 m.1)
 -- whether a load gives a file another form than an earlier one, be that before these or among them
 abbrev pub has_conflict : List Load → List Load → Bool
 has_conflict earlier [] = false
-has_conflict earlier (l ∷ loads) = list_any (contradicts l) earlier || has_conflict (earlier ++ l ∷ []) loads
+has_conflict earlier (l ∷ loads) =
+    list_any (contradicts l) earlier || has_conflict (earlier ++ l ∷ []) loads
 
 -- ---- the files of a script
 
@@ -47,7 +48,8 @@ has_form (Some form) relation = same_columns relation.schema form.schema
 
 -- whether a relation has 1 to 16 columns
 abbrev pub has_columns : RelationState → Bool
-has_columns relation = nat_lt 0 (length relation.schema) && nat_le (length relation.schema) most_columns
+has_columns relation =
+    nat_lt 0 (length relation.schema) && nat_le (length relation.schema) most_columns
 
 -- whether one of these fetches is of this key
 abbrev pub is_fetched : List Fetch → Key → Bool

@@ -65,7 +65,8 @@ of_one term a = option_map (λ (m : Meant). record { term = term m.source; schem
 
 abbrev pub of_two : (Source → Source → TermTree) → Option Meant → Option Meant → Option Typed
 of_two term a b =
-    option_and_then (λ (m : Meant). option_map (λ (o : Meant). record { term = term m.source o.source; schema = m.schema }) b) a
+    option_and_then (λ (m : Meant). option_map
+    (λ (o : Meant). record { term = term m.source o.source; schema = m.schema }) b) a
 
 -- an item of a comprehension: its alias, and what its operand stands for
 pub record MeantItem : Type 0 where
@@ -74,11 +75,13 @@ pub record MeantItem : Type 0 where
 
 -- an item, if its operand stands for something
 abbrev pub item_meant : List File → Names → FromItem → Option MeantItem
-item_meant files names item = option_map (λ m. record { alias = item.alias; meant = m }) (meant files names item.source)
+item_meant files names item =
+    option_map (λ m. record { alias = item.alias; meant = m }) (meant files names item.source)
 
 -- the aliases and columns of items, the types of their columns, and their sources
 abbrev pub schemas_of : List MeantItem → List ItemSchema
-schemas_of items = map (λ (i : MeantItem). record { alias = i.alias; schema = i.meant.schema }) items
+schemas_of items =
+    map (λ (i : MeantItem). record { alias = i.alias; schema = i.meant.schema }) items
 
 abbrev pub kinds_of_items : List MeantItem → List (List ColType)
 kinds_of_items items = map (λ (i : MeantItem). kinds_of_columns i.meant.schema) items
@@ -89,12 +92,17 @@ sources_of items = map (λ (i : MeantItem). i.meant.source) items
 -- the term of a comprehension over sources with columns of these types: rows are grouped where an aggregate is emitted
 abbrev pub join_term : List (List ColType) → List Source → Comprehension → TermTree
 join_term kinds sources c =
-    if has_aggregate c.aggregates then Group (shape_of kinds c) sources c.aggregates else Join (shape_of kinds c) sources
+    if has_aggregate c.aggregates then Group (shape_of kinds c) sources c.aggregates
+    else Join (shape_of kinds c) sources
 
 -- the term of a comprehension over these items, if each reference means one column
 abbrev pub comprehension_term : List MeantItem → Option Tree → List EmitTree → Option Typed
 comprehension_term items condition emits =
-    option_map (λ (r : Resolved). record { term = join_term (kinds_of_items items) (sources_of items) r.comprehension; schema = r.schema })
+    option_map (λ (r : Resolved).
+    record {
+      term = join_term (kinds_of_items items) (sources_of items) r.comprehension;
+      schema = r.schema;
+    })
     (resolved (scope_of (schemas_of items)) condition emits)
 
 -- the term of a relation expression, and its columns
@@ -102,7 +110,9 @@ abbrev pub term_of : List File → Names → RelTree → Option Typed
 term_of files names (tree.Copy o) = of_one Same (meant files names o)
 term_of files names (tree.Empty schema) = Some (record { term = Empty; schema = schema })
 term_of files names (tree.Distinct o) = of_one Distinct (meant files names o)
-term_of files names (tree.UnionAll o p) = of_two UnionAll (meant files names o) (meant files names p)
+term_of files names (tree.UnionAll o p) =
+    of_two UnionAll (meant files names o) (meant files names p)
 term_of files names (tree.Diff o p) = of_two Diff (meant files names o) (meant files names p)
 term_of files names (tree.From items condition emits) =
-    option_and_then (λ given. comprehension_term given condition emits) (each_or_none (item_meant files names) items)
+    option_and_then (λ given. comprehension_term given condition emits)
+    (each_or_none (item_meant files names) items)

@@ -67,7 +67,11 @@ impl<'a> Model for MeantItem<'a> {
 
     ghost Value = { Known };
 
-    ghost view = { λ i. record { alias = i.alias.now; meant = record { source = i.source; schema = i.schema.now } } };
+    ghost view = { λ i.
+        record {
+          alias = i.alias.now;
+          meant = record { source = i.source; schema = i.schema.now };
+        } };
 }
 
 impl<'a> MeantItem<'a> {

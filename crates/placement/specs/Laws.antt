@@ -62,7 +62,8 @@ IsSharing n shape Broadcast = ⊤
 -- each row of each list is as wide as its atom
 abbrev pub AreWide : List ℕ → List Rows → Type 0
 AreWide [] [] = ⊤
-AreWide (width ∷ widths) (rows ∷ tables) = All (λ row. length row ≡ width) rows × AreWide widths tables
+AreWide (width ∷ widths) (rows ∷ tables) =
+    All (λ row. length row ≡ width) rows × AreWide widths tables
 AreWide _ _ = ⊥
 
 -- the items that are joined: as many as are given, placed where those are, and with their candidates
@@ -75,19 +76,22 @@ pub record IsJoined (n : ℕ) (shape : Shape) (given items : List PlacedRelation
 -- there are workers, and no join has more cells than there are
 pub record IsPlacing (p : Placing) : Type 0 where
   pub some_worker : 1 ≤ p.workers
-  pub sharing : (number : ℕ) (shape : Shape) (given : List Rows) → IsSharing p.workers shape (p.shuffle number shape given)
+  pub sharing : (number : ℕ) (shape : Shape) (given : List Rows)
+      → IsSharing p.workers shape (p.shuffle number shape given)
 
 -- whatever a script stores is placed: all workers' rows together are its rows
 abbrev pub PartsHoldTheRows : Type 0
 PartsHoldTheRows =
-    (p : Placing) (files : List File) (c : CheckedTree) → IsPlacing p → IsTrue (is_of files c) → AreTyped files
+    (p : Placing) (files : List File) (c : CheckedTree) → IsPlacing p → IsTrue (is_of files c)
+    → AreTyped files
     → All (λ (stored : Key × PlacedRelation). IsPlaced p.workers stored.1) (placed_stores p files c)
 
 -- the relations that are placed are those that the script stores by its meaning
 abbrev pub PlacedAreStored : Type 0
 PlacedAreStored =
     (p : Placing) (files : List File) (c : CheckedTree)
-    → map (λ (stored : Key × PlacedRelation). (stored.0, stored.1.relation)) (placed_stores p files c) ≡ stored_by files c
+    → map (λ (stored : Key × PlacedRelation). (stored.0, stored.1.relation))
+    (placed_stores p files c) ≡ stored_by files c
 
 -- a variable has a column, and its columns are in range
 abbrev pub IsColumns : Shape → List ℕ → Type 0
@@ -104,14 +108,17 @@ pub record IsReady (n : ℕ) (shape : Shape) (given : List PlacedRelation) : Typ
 -- so are the items of a term's join, and a grouping has a kind for each emitted column
 abbrev pub HasReadyItems : ℕ → (Source → PlacedRelation) → TermTree → Type 0
 HasReadyItems n value (Join shape sources) = IsReady n shape (map value sources)
-HasReadyItems n value (Group shape sources kinds) = IsReady n shape (map value sources) × (length kinds ≡ length shape.emits)
+HasReadyItems n value (Group shape sources kinds) =
+    IsReady n shape (map value sources) × (length kinds ≡ length shape.emits)
 HasReadyItems n value _ = ⊤
 
 -- in a checked script each join's items are as the laws of joins ask, whatever steps come later
 abbrev pub JoinsAreReady : Type 0
 JoinsAreReady =
-    (p : Placing) (files : List File) (c : CheckedTree) → IsPlacing p → IsTrue (is_of files c) → AreTyped files
-    → All (λ (s : StepTree). HasReadyItems p.workers (placed_source p files (placed_steps p files c.steps)) s.term) c.steps
+    (p : Placing) (files : List File) (c : CheckedTree) → IsPlacing p → IsTrue (is_of files c)
+    → AreTyped files
+    → All (λ (s : StepTree). HasReadyItems p.workers
+    (placed_source p files (placed_steps p files c.steps)) s.term) c.steps
 
 -- by settings, no join has more cells than there are workers
 abbrev pub UsualIsPlacing : Type 0
@@ -176,7 +183,8 @@ pub record IsMatch (shape : Shape) (rows : List Row) : Type 0 where
 -- the rows of a candidate all go to a worker exactly where it is the meeting cell
 abbrev pub CandidatesMeetAtOneCell : Type 0
 CandidatesMeetAtOneCell =
-    (seed : ℕ) (shares : List ℕ) (shape : Shape) (rows : List Row) → IsMatch shape rows → 0 < length rows
+    (seed : ℕ) (shares : List ℕ) (shape : Shape) (rows : List Row) → IsMatch shape rows
+    → 0 < length rows
     → All (λ share. 1 ≤ share) shares → length shares ≡ length shape.variables → (w : ℕ)
     → ((j : ℕ) → j < length rows → is_destination seed shares shape w j (slice_index_or rows j []) ≡ true)
     ↔ (w ≡ meeting_cell seed shares shape (combined_row rows))
@@ -187,7 +195,9 @@ CellsListTheirCandidates =
     (seed : ℕ) (shares : List ℕ) (shape : Shape) (tables : List Rows) → 0 < length shape.atoms
     → All (IsColumns shape) shape.variables → AreWide (widths_of shape) tables
     → All (λ share. 1 ≤ share) shares → length shares ≡ length shape.variables → (w : ℕ)
-    → candidates_of shape (map (λ (e : ℕ × Rows). filter (is_destination seed shares shape w e.0) e.1) (enumerate_from 0 tables))
+    → candidates_of shape
+    (map (λ (e : ℕ × Rows). filter (is_destination seed shares shape w e.0) e.1)
+    (enumerate_from 0 tables))
     ≡ filter (λ row. meeting_cell seed shares shape row == w) (candidates_of shape tables)
 
 -- ---- what is sent is enough
@@ -195,8 +205,10 @@ CellsListTheirCandidates =
 -- the candidates of the kept rows are all candidates
 abbrev pub CandidatesAreKept : Type 0
 CandidatesAreKept =
-    (shape : Shape) (tables : List Rows) → AreWide (widths_of shape) tables → length tables ≡ length shape.atoms
-    → candidates_of shape (map (λ (e : ℕ × Rows). kept_of shape e.0 e.1) (enumerate_from 0 tables)) ≡ candidates_of shape tables
+    (shape : Shape) (tables : List Rows) → AreWide (widths_of shape) tables
+    → length tables ≡ length shape.atoms
+    → candidates_of shape (map (λ (e : ℕ × Rows). kept_of shape e.0 e.1) (enumerate_from 0 tables))
+    ≡ candidates_of shape tables
 
 -- whether the row's key in the step that joins atom i has its home at w: a row of a prefix, and a row of the atom
 abbrev pub prefix_is_at : ℕ → ℕ → Shape → ℕ → ℕ → Row → Bool
@@ -230,19 +242,22 @@ pub record IsSamePlaced (p q : PlacedRelation) : Type 0 where
 -- one after another
 pub data AreSamePlaced : List PlacedRelation → List PlacedRelation → Type 0 where
   none_placed : AreSamePlaced [] []
-  one_placed : (p q : PlacedRelation) (ps qs : List PlacedRelation) → IsSamePlaced p q → AreSamePlaced ps qs
+  one_placed : (p q : PlacedRelation) (ps qs : List PlacedRelation) → IsSamePlaced p q
+      → AreSamePlaced ps qs
       → AreSamePlaced (p ∷ ps) (q ∷ qs)
 
 -- the order of rows changes no worker's part of a join but in the order of its rows
 abbrev pub PartsAreBags : Type 0
 PartsAreBags =
-    (n seed : ℕ) (shuffle : Shuffle) (shape : Shape) (given others : List PlacedRelation) → AreSamePlaced given others
+    (n seed : ℕ) (shuffle : Shuffle) (shape : Shape) (given others : List PlacedRelation)
+    → AreSamePlaced given others
     → SameTables (join_parts n seed shuffle shape given) (join_parts n seed shuffle shape others)
 
 -- nor what is joined
 abbrev pub JoinedAreOfBags : Type 0
 JoinedAreOfBags =
-    (reduce : Bool) (shape : Shape) (given others : List PlacedRelation) → AreSamePlaced given others
+    (reduce : Bool) (shape : Shape) (given others : List PlacedRelation)
+    → AreSamePlaced given others
     → AreSamePlaced (joined_items reduce shape given) (joined_items reduce shape others)
 
 -- ---- what is sent is what is received
@@ -253,7 +268,8 @@ AreAmong n moves = All (λ (m : Move). (m.from < n) × (m.to < n)) moves
 
 -- over all workers as many rows are sent as received
 abbrev pub IsBalanced : ℕ → List Move → Type 0
-IsBalanced n moves = sum_by (sent moves) (range_with_len 0 n) ≡ sum_by (received moves) (range_with_len 0 n)
+IsBalanced n moves =
+    sum_by (sent moves) (range_with_len 0 n) ≡ sum_by (received moves) (range_with_len 0 n)
 
 -- any moves among n workers
 abbrev pub MovesBalance : Type 0
@@ -262,5 +278,7 @@ MovesBalance = (n : ℕ) (moves : List Move) → AreAmong n moves → IsBalanced
 -- in every exchange of a script rows go from workers to workers, and as many are sent as received
 abbrev pub ExchangesBalance : Type 0
 ExchangesBalance =
-    (p : Placing) (files : List File) (c : CheckedTree) → IsPlacing p → IsTrue (is_of files c) → AreTyped files
-    → All (λ (e : ℕ × PlacedExchange). AreAmong p.workers e.1.moves × IsBalanced p.workers e.1.moves) (exchanges_of p files c)
+    (p : Placing) (files : List File) (c : CheckedTree) → IsPlacing p → IsTrue (is_of files c)
+    → AreTyped files
+    → All (λ (e : ℕ × PlacedExchange). AreAmong p.workers e.1.moves
+    × IsBalanced p.workers e.1.moves) (exchanges_of p files c)

@@ -72,14 +72,16 @@ parts_by_home workers home rows = by_worker workers (λ w. filter (λ row. home 
 abbrev pub placed_file : ℕ → RelationState → PlacedRelation
 placed_file workers r = record {
   relation = r;
-  parts = by_worker workers (λ w. map (λ e. e.1) (filter (λ e. e.0 % workers == w) (enumerate_from 0 r.rows)));
+  parts = by_worker workers
+      (λ w. map (λ e. e.1) (filter (λ e. e.0 % workers == w) (enumerate_from 0 r.rows)));
 }
 
 -- ---- two at a time: the key of a step is the values of the variables that have columns on both sides
 
 -- the variables with columns in both spans, in order
 abbrev pub shared : Span → Span → Shape → List (List ℕ)
-shared left right shape = filter (λ v. list_any (lies_in left) v && list_any (lies_in right) v) shape.variables
+shared left right shape =
+    filter (λ v. list_any (lies_in left) v && list_any (lies_in right) v) shape.variables
 
 -- the value of each variable in its first column of the span; the row's columns stand where they do in the combined row
 abbrev pub values_in : Span → List (List ℕ) → Row → Row
@@ -132,7 +134,8 @@ reduced_items shape given =
 
 -- what is joined: the reduced rows where they are asked for and the shape is acyclic, and else all
 abbrev pub joined_items : Bool → Shape → List PlacedRelation → List PlacedRelation
-joined_items reduce shape given = if reduce && is_acyclic_shape shape then reduced_items shape given else given
+joined_items reduce shape given =
+    if reduce && is_acyclic_shape shape then reduced_items shape given else given
 
 -- the number of the last atom
 abbrev pub last_atom : Shape → ℕ
@@ -146,7 +149,8 @@ join_parts n seed (ByCells shares) shape given =
     (parts_by_home n (meeting_cell seed shares shape) (candidates_of shape (rows_of given)))
 join_parts n seed ByKeys shape given =
     map (listed_from shape.arith shape.emits)
-    (parts_by_home n (λ row. home_of seed (prefix_key shape (last_atom shape) row) n) (candidates_of shape (rows_of given)))
+    (parts_by_home n (λ row. home_of seed (prefix_key shape (last_atom shape) row) n)
+    (candidates_of shape (rows_of given)))
 join_parts n seed Broadcast shape given =
     let j = staying_atom shape (rows_of given) in
     map (λ own. listed_of shape (set (rows_of given) j own)) (slice_index_or given j (placed_nothing n)).parts
@@ -166,15 +170,19 @@ parts_by_row p rows = parts_by_home p.workers (λ row. home_of p.seed row p.work
 
 -- at each worker the groups whose key has its home there
 abbrev pub parts_by_key : Placing → Kinds → Rows → List Rows
-parts_by_key p kinds rows = parts_by_home p.workers (λ row. home_of p.seed (key_of kinds row) p.workers) rows
+parts_by_key p kinds rows =
+    parts_by_home p.workers (λ row. home_of p.seed (key_of kinds row) p.workers) rows
 
 -- the rows of a term at each worker, where `value` gives what its sources stand for
 abbrev pub term_parts : Placing → ℕ → (Source → PlacedRelation) → TermTree → List Rows
 term_parts p number value (Same s) = (value s).parts
 term_parts p number value Empty = by_worker p.workers (λ w. [])
-term_parts p number value (UnionAll s t) = by_worker p.workers (λ w. part (value s) w ++ part (value t) w)
-term_parts p number value (Diff s t) = parts_by_row p (term_rows (λ o. (value o).relation.rows) (Diff s t))
-term_parts p number value (Distinct s) = parts_by_row p (term_rows (λ o. (value o).relation.rows) (Distinct s))
+term_parts p number value (UnionAll s t) =
+    by_worker p.workers (λ w. part (value s) w ++ part (value t) w)
+term_parts p number value (Diff s t) =
+    parts_by_row p (term_rows (λ o. (value o).relation.rows) (Diff s t))
+term_parts p number value (Distinct s) =
+    parts_by_row p (term_rows (λ o. (value o).relation.rows) (Distinct s))
 term_parts p number value (Join shape sources) = listed_parts p number shape (map value sources)
 term_parts p number value (Group shape sources kinds) =
     parts_by_key p kinds (term_rows (λ o. (value o).relation.rows) (Group shape sources kinds))
@@ -192,7 +200,10 @@ placed_source p files results o = found (placed_nothing p.workers) (placed_files
 -- the relation of a step and its parts, where earlier steps have these results
 abbrev pub placed_step : Placing → List File → List (ℕ × PlacedRelation) → StepTree → PlacedRelation
 placed_step p files results s = record {
-  relation = record { schema = s.schema; rows = term_rows (λ o. (placed_source p files results o).relation.rows) s.term };
+  relation = record {
+    schema = s.schema;
+    rows = term_rows (λ o. (placed_source p files results o).relation.rows) s.term;
+  };
   parts = term_parts p s.statement (placed_source p files results) s.term;
 }
 

@@ -49,7 +49,8 @@ kept_sizes shape given = map (λ e. length (kept_of shape e.0 e.1)) (enumerate_f
 -- the variables with a column in atom j, as the bits of a number
 abbrev pub bits_of : Shape → ℕ → ℕ
 bits_of shape j =
-    sum_by (λ (e : ℕ × List ℕ). if list_any (lies_in (span_of_item (widths_of shape) j)) e.1 then 2 ^ e.0 else 0)
+    sum_by (λ (e : ℕ × List ℕ). if list_any (lies_in (span_of_item (widths_of shape) j)) e.1
+    then 2 ^ e.0 else 0)
     (enumerate_from 0 shape.variables)
 
 -- those of each atom
@@ -77,13 +78,15 @@ usual_placing s = record {
 -- for each item its number, its rows, its pushed tests and its kept rows
 abbrev pub item_notes : Shape → List Rows → List PlanNote
 item_notes shape given =
-    map (λ (e : ℕ × Rows). note.Item (suc e.0) (length e.1) (pushed_of shape e.0) (length (kept_of shape e.0 e.1)))
+    map (λ (e : ℕ × Rows). note.Item (suc e.0) (length e.1) (pushed_of shape e.0)
+    (length (kept_of shape e.0 e.1)))
     (enumerate_from 0 given)
 
 -- the columns of a variable, by items from 1 and places from 0
 abbrev pub places_of : Shape → List ℕ → List (ℕ × ℕ)
 places_of shape variable =
-    map (λ c. let j = item_of (widths_of shape) c in (suc j, c - (span_of_item (widths_of shape) j).from)) variable
+    map (λ c. let j = item_of (widths_of shape) c in
+    (suc j, c - (span_of_item (widths_of shape) j).from)) variable
 
 -- the share of variable i, where there are shares
 abbrev pub share_of : Shuffle → ℕ → Option ℕ
@@ -94,7 +97,8 @@ share_of Broadcast i = None
 -- for each variable its number, its columns and its share
 abbrev pub variable_notes : Shuffle → Shape → List PlanNote
 variable_notes shuffle shape =
-    map (λ (e : ℕ × List ℕ). note.Variable (suc e.0) (places_of shape e.1) (share_of shuffle e.0)) (enumerate_from 0 shape.variables)
+    map (λ (e : ℕ × List ℕ). note.Variable (suc e.0) (places_of shape e.1) (share_of shuffle e.0))
+    (enumerate_from 0 shape.variables)
 
 -- the shuffle: with cells and load, with nothing more, or with the item that stays
 abbrev pub shuffle_note : Shuffle → JoinKind → Shape → List Rows → PlanNote
@@ -108,7 +112,8 @@ shuffle_note Broadcast local shape given = note.Br local (suc (staying_atom shap
 abbrev pub reduce_notes : Bool → Shape → List Rows → List PlanNote
 reduce_notes false shape items = []
 reduce_notes true shape items =
-    (if is_acyclic_shape shape then note.Reduced (map (λ rows. length rows) items) else note.ReduceCyclic) ∷ []
+    (if is_acyclic_shape shape then note.Reduced (map (λ rows. length rows) items)
+    else note.ReduceCyclic) ∷ []
 
 -- the lines of a comprehension: of its items, and where there are several of what is joined, of its variables and its shuffle
 abbrev pub join_notes : Placing → JoinKind → ℕ → Shape → List PlacedRelation → List PlanNote
@@ -116,12 +121,14 @@ join_notes p local number shape (one ∷ []) = item_notes shape (rows_of (one �
 join_notes p local number shape given =
     let items = rows_of (joined_items p.reduce shape given) in
     let shuffle = p.shuffle number shape items in
-    item_notes shape (rows_of given) ++ reduce_notes p.reduce shape items ++ variable_notes shuffle shape
+    item_notes shape (rows_of given) ++ reduce_notes p.reduce shape items
+    ++ variable_notes shuffle shape
     ++ shuffle_note shuffle local shape items ∷ []
 
 -- how many emitted columns are keys, and how many aggregates
 abbrev pub group_note : Kinds → PlanNote
-group_note kinds = note.Group (length (filter (λ k. is_none k) kinds)) (length (filter (λ k. is_some k) kinds))
+group_note kinds =
+    note.Group (length (filter (λ k. is_none k) kinds)) (length (filter (λ k. is_some k) kinds))
 
 -- the word for a term
 abbrev pub plan_kind : TermTree → PlanKind
@@ -133,8 +140,10 @@ plan_kind (Distinct s) = plan.Distinct
 plan_kind _ = plan.From
 
 -- the lines below that of a step
-abbrev pub term_notes : Placing → JoinKind → ℕ → (Source → PlacedRelation) → TermTree → List PlanNote
-term_notes p local number value (Join shape sources) = join_notes p local number shape (map value sources)
+abbrev pub term_notes : Placing → JoinKind → ℕ → (Source → PlacedRelation) → TermTree
+    → List PlanNote
+term_notes p local number value (Join shape sources) =
+    join_notes p local number shape (map value sources)
 term_notes p local number value (Group shape sources kinds) =
     join_notes p local number shape (map value sources) ++ group_note kinds ∷ []
 term_notes p local number value _ = []
@@ -148,4 +157,5 @@ step_notes p local value s =
 -- the lines of the needed steps
 abbrev pub plan_of : Placing → JoinKind → List File → CheckedTree → List PlanNote
 plan_of p local files c =
-    flat_map (step_notes p local (placed_source p files (placed_steps p files c.steps))) (needed_steps c.stores c.steps)
+    flat_map (step_notes p local (placed_source p files (placed_steps p files c.steps)))
+    (needed_steps c.stores c.steps)

@@ -29,7 +29,8 @@ GoesOnce s = (row : Row) → IsTrue (all_different (s.goes_to row))
 
 -- the rows that lie at u and go to w
 abbrev pub sent_from : Sending → ℕ → ℕ → Rows
-sent_from s u w = filter (λ row. list_any (λ c. c == w) (s.goes_to row)) (slice_index_or s.parts u [])
+sent_from s u w =
+    filter (λ row. list_any (λ c. c == w) (s.goes_to row)) (slice_index_or s.parts u [])
 
 -- the rows that go to w, from wherever they lie
 abbrev pub sent_to : Sending → ℕ → Rows
@@ -39,8 +40,10 @@ sent_to s w = filter (λ row. list_any (λ c. c == w) (s.goes_to row)) (together
 -- that go to it
 abbrev pub RowsAreGivenOnce : Type 0
 RowsAreGivenOnce =
-    (sendings : List Sending) → All GoesOnce sendings → (atom : ℕ) → atom < length sendings → (w : ℕ)
-    → ((u : ℕ) → rows_between (moves_of sendings) atom u w ≡ sent_from (slice_index_or sendings atom no_sending) u w)
+    (sendings : List Sending) → All GoesOnce sendings → (atom : ℕ) → atom < length sendings
+    → (w : ℕ)
+    → ((u : ℕ) → rows_between (moves_of sendings) atom u w
+    ≡ sent_from (slice_index_or sendings atom no_sending) u w)
     × (rows_given (moves_of sendings) atom w ≡ sent_to (slice_index_or sendings atom no_sending) w)
 
 -- by cells, the candidates of what a worker is given are those whose meeting cell it is
@@ -48,7 +51,8 @@ abbrev pub CellsListWhatTheyAreGiven : Type 0
 CellsListWhatTheyAreGiven =
     (n seed : ℕ) (shares : List ℕ) (shape : Shape) (items : List PlacedRelation)
     → All (IsPlaced n) items → AreWide (widths_of shape) (rows_of items)
-    → length items ≡ length shape.atoms → 0 < length shape.atoms → All (IsColumns shape) shape.variables
+    → length items ≡ length shape.atoms → 0 < length shape.atoms
+    → All (IsColumns shape) shape.variables
     → All (λ share. 1 ≤ share) shares → length shares ≡ length shape.variables → (w : ℕ)
     → SameBag (candidates_of shape (all_given (moves_of (by_cells seed shares shape items)) (length items) w))
     (filter (λ row. meeting_cell seed shares shape row == w) (candidates_of shape (rows_of items)))
@@ -84,7 +88,8 @@ listed_at n seed (ByCells shares) shape items w =
 listed_at n seed ByKeys shape items w =
     let moves = moves_of (by_keys n seed shape items (last_atom shape)) in
     listed_from shape.arith shape.emits
-    (candidates (tests_of shape ++ map tie_test (ties_of shape)) (rows_given moves 0 w ∷ rows_given moves 1 w ∷ []))
+    (candidates (tests_of shape ++ map tie_test (ties_of shape))
+    (rows_given moves 0 w ∷ rows_given moves 1 w ∷ []))
 listed_at n seed Broadcast shape items w =
     let j = staying_atom shape (rows_of items) in
     let own = kept_of shape j (part (slice_index_or items j (placed_nothing n)) w) in
@@ -93,22 +98,26 @@ listed_at n seed Broadcast shape items w =
 -- what a worker lists of what it is given is its part of the join
 abbrev pub PartsAreListed : Type 0
 PartsAreListed =
-    (n seed : ℕ) (shuffle : Shuffle) (shape : Shape) (items : List PlacedRelation) → 1 ≤ n → IsSharing n shape shuffle
+    (n seed : ℕ) (shuffle : Shuffle) (shape : Shape) (items : List PlacedRelation) → 1 ≤ n
+    → IsSharing n shape shuffle
     → All (IsPlaced n) items → AreWide (widths_of shape) (rows_of items)
     → length items ≡ length shape.atoms → 2 ≤ length shape.atoms
     → All (IsColumns shape) shape.variables → (w : ℕ) → w < n
-    → SameBag (listed_at n seed shuffle shape items w) (slice_index_or (join_parts n seed shuffle shape items) w [])
+    → SameBag (listed_at n seed shuffle shape items w)
+    (slice_index_or (join_parts n seed shuffle shape items) w [])
 
 -- each row that a worker lists has a column for each kind
 abbrev pub ListedRowsAreGrouped : Type 0
 ListedRowsAreGrouped =
-    (p : Placing) (number : ℕ) (shape : Shape) (given : List PlacedRelation) (kinds : Kinds) → length kinds ≡ length shape.emits
+    (p : Placing) (number : ℕ) (shape : Shape) (given : List PlacedRelation) (kinds : Kinds)
+    → length kinds ≡ length shape.emits
     → All (AreGrouped kinds) (listed_parts p number shape given)
 
 -- the partial rows that a worker is given, merged, are the groups at home there
 abbrev pub GroupsAreMerged : Type 0
 GroupsAreMerged =
-    (p : Placing) (number : ℕ) (shape : Shape) (given : List PlacedRelation) (kinds : Kinds) → IsPlacing p
+    (p : Placing) (number : ℕ) (shape : Shape) (given : List PlacedRelation) (kinds : Kinds)
+    → IsPlacing p
     → All (IsPlaced p.workers) given → AreWide (widths_of shape) (rows_of given) → 1 ≤ length given
     → length kinds ≡ length shape.emits → (w : ℕ) → w < p.workers
     → let moves = moves_of (partial_sending p kinds (listed_parts p number shape given) ∷ []) in

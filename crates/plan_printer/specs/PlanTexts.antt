@@ -52,9 +52,11 @@ counts_text counts = flat_map (λ count. joined (codes " " ∷ decimal count ∷
 -- the line of a note
 abbrev pub plan_line : PlanNote → List ℕ
 plan_line (note.Statement number kind rows) =
-    joined (codes "-- plan " ∷ decimal number ∷ codes " " ∷ kind_word kind ∷ codes " rows " ∷ decimal rows ∷ codes "\n" ∷ [])
+    joined (codes "-- plan " ∷ decimal number ∷ codes " " ∷ kind_word kind ∷ codes " rows "
+    ∷ decimal rows ∷ codes "\n" ∷ [])
 plan_line (note.Item number rows pushed kept) =
-    joined (codes "-- item " ∷ decimal number ∷ codes " rows " ∷ decimal rows ∷ codes " pushed " ∷ decimal pushed
+    joined (codes "-- item " ∷ decimal number ∷ codes " rows " ∷ decimal rows ∷ codes " pushed "
+    ∷ decimal pushed
     ∷ codes " kept " ∷ decimal kept ∷ codes "\n" ∷ [])
 plan_line (note.Reduced counts) = joined (codes "-- reduce" ∷ counts_text counts ∷ codes "\n" ∷ [])
 plan_line note.ReduceCyclic = codes "-- reduce cyclic\n"
@@ -67,7 +69,8 @@ plan_line (note.Rs local) = joined (codes "-- shuffle rs join " ∷ join_word lo
 plan_line (note.Br local stays) =
     joined (codes "-- shuffle br join " ∷ join_word local ∷ codes " stays " ∷ decimal stays ∷ codes "\n" ∷ [])
 plan_line (note.Group keys aggregates) =
-    joined (codes "-- group keys " ∷ decimal keys ∷ codes " aggregates " ∷ decimal aggregates ∷ codes "\n" ∷ [])
+    joined (codes "-- group keys " ∷ decimal keys ∷ codes " aggregates " ∷ decimal aggregates
+    ∷ codes "\n" ∷ [])
 
 -- the lines of all notes, in order
 abbrev pub plan_text : List PlanNote → List ℕ

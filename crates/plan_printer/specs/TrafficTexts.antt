@@ -26,18 +26,22 @@ exchange_words exchange.Diff = codes "diff"
 
 -- the title of an exchange: the number of the statement, and what it was for
 abbrev pub title : ℕ → Exchange → List ℕ
-title statement kind = joined (codes "-- traffic " ∷ decimal statement ∷ codes " " ∷ exchange_words kind ∷ codes "\n" ∷ [])
+title statement kind =
+    joined (codes "-- traffic " ∷ decimal statement ∷ codes " " ∷ exchange_words kind ∷ codes "\n"
+    ∷ [])
 
 -- the line of a worker: its number, the rows that it received, and those that it listed
 abbrev pub worker_line : ℕ → ℕ → ℕ → List ℕ
 worker_line worker received listed =
-    joined (codes "-- worker " ∷ decimal worker ∷ codes " received " ∷ decimal received ∷ codes " listed " ∷ decimal listed
+    joined (codes "-- worker " ∷ decimal worker ∷ codes " received " ∷ decimal received
+    ∷ codes " listed " ∷ decimal listed
     ∷ codes "\n" ∷ [])
 
 -- a line for each worker, from 0
 abbrev pub workers_text : List ℕ → List ℕ → List ℕ
 workers_text received listed =
-    joined (map (λ w. worker_line w (slice_index_or received w 0) (slice_index_or listed w 0)) (range_with_len 0 (length received)))
+    joined (map (λ w. worker_line w (slice_index_or received w 0) (slice_index_or listed w 0))
+    (range_with_len 0 (length received)))
 
 -- the title of an exchange, and a line for each worker
 abbrev pub exchange_text : Traffic → List ℕ

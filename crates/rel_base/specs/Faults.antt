@@ -8,7 +8,10 @@ use Rattle.rel_base.specs.declared.faults.RunFault.TheVariants as fault
 
 -- the number of the statement, if there is one, and what is wrong
 abbrev pub fault_text : RunFault → List ℕ
-fault_text (fault.TooManyRows statement) = codes "statement " ++ decimal statement ++ codes ": too many rows"
-fault_text (fault.Overflow statement) = codes "statement " ++ decimal statement ++ codes ": overflow"
-fault_text (fault.AggregateOverflow statement) = codes "statement " ++ decimal statement ++ codes ": aggregate overflow"
+fault_text (fault.TooManyRows statement) =
+    codes "statement " ++ decimal statement ++ codes ": too many rows"
+fault_text (fault.Overflow statement) =
+    codes "statement " ++ decimal statement ++ codes ": overflow"
+fault_text (fault.AggregateOverflow statement) =
+    codes "statement " ++ decimal statement ++ codes ": aggregate overflow"
 fault_text fault.Memory = codes "out of memory"

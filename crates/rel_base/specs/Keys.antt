@@ -20,7 +20,8 @@ shelf_name_of k = key_text k ++ codes ".csv"
 
 -- whether two keys are one
 abbrev pub same_key : Key → Key → Bool
-same_key j k = pointwise nat_eq j.user k.user && pointwise nat_eq j.program k.program && pointwise nat_eq j.name k.name
+same_key j k = pointwise nat_eq j.user k.user && pointwise nat_eq j.program k.program
+    && pointwise nat_eq j.name k.name
 
 -- a relation under its key
 abbrev pub File : Type 0

@@ -35,9 +35,12 @@ then_Equal _ e = e
 
 -- values that tie are equal
 pub value_order-IsAntisymmetric : IsAntisymmetric value_order
-value_order-IsAntisymmetric (variant.Int a) (variant.Int b) e = ap variant.Int (int_cmp-IsAntisymmetric a b (then_Equal _ e))
-value_order-IsAntisymmetric (variant.Str a) (variant.Str b) e = ap variant.Str (slice_cmp-IsAntisymmetric nat_cmp-IsAntisymmetric a b (then_Equal _ e))
-value_order-IsAntisymmetric (variant.Bool a) (variant.Bool b) e = ap variant.Bool (bool_cmp-IsAntisymmetric a b e)
+value_order-IsAntisymmetric (variant.Int a) (variant.Int b) e =
+    ap variant.Int (int_cmp-IsAntisymmetric a b (then_Equal _ e))
+value_order-IsAntisymmetric (variant.Str a) (variant.Str b) e =
+    ap variant.Str (slice_cmp-IsAntisymmetric nat_cmp-IsAntisymmetric a b (then_Equal _ e))
+value_order-IsAntisymmetric (variant.Bool a) (variant.Bool b) e =
+    ap variant.Bool (bool_cmp-IsAntisymmetric a b e)
 value_order-IsAntisymmetric (variant.Int a) (variant.Str b) e = cc
 value_order-IsAntisymmetric (variant.Int a) (variant.Bool b) e = cc
 value_order-IsAntisymmetric (variant.Str a) (variant.Int b) e = cc

@@ -362,7 +362,8 @@ type NumberedRow<'a> = (u8, i64, &'a [Value], u32);
 fn numbered_rows(alloc: Global, rows: &Rows) -> Result<Vec<NumberedRow<'_>>, Memory>
     ensures rows { IfOk result (λ made. map (λ e. e.2.now) made.items ≡ rows.now) }
     ensures few { IfOk result (λ made. length made.items < 2 ^ 32) }
-    ensures numbered { IfOk result (λ made. All (λ e. items_at rows.now (e.3 ∷ []) ≡ e.2.now ∷ []) made.items) }
+    ensures numbered { IfOk result
+        (λ made. All (λ e. items_at rows.now (e.3 ∷ []) ≡ e.2.now ∷ []) made.items) }
     ensures leading { IfOk result (λ made. All (λ e. BeginsWith e.2.now e.0 e.1) made.items) }
 {
     let mut numbered = Vec::with_capacity(alloc, rows.len() as usize)?;

@@ -42,7 +42,9 @@ impl Model for SharedRows {
 
     ghost view = { λ s. joined s.stretches.items };
 
-    ghost invariant = { λ s. (s.len ≡ length (joined s.stretches.items)) × AreStarts s.stretches.items s.starts.items × All (λ rows. 0 < length rows) s.stretches.items };
+    ghost invariant = { λ s. (s.len ≡ length (joined s.stretches.items))
+        × AreStarts s.stretches.items s.starts.items
+        × All (λ rows. 0 < length rows) s.stretches.items };
 }
 
 impl SharedRows {
@@ -222,7 +224,8 @@ fn stretch_of(stretches: &[Stretch], starts: &[u32], i: u32) -> usize
     requires low { i < length (joined stretches.now) }
     ensures inside { result < length stretches.now }
     ensures begins { slice_index_or starts.now result 0 ≤ i }
-    ensures ends { i < slice_index_or starts.now result 0 + length (slice_index_or stretches.now result []) }
+    ensures ends { i < slice_index_or starts.now result 0
+        + length (slice_index_or stretches.now result []) }
 {
     let mut low = 0;
     let mut high = stretches.len();

@@ -59,7 +59,8 @@ impl Model for Stretch {
 
     ghost view = { λ s. items_at s.block (places_of s.selection) };
 
-    ghost invariant = { λ s. All (λ p. p < length s.block) (places_of s.selection) × (length (places_of s.selection) < 2 ^ 32) };
+    ghost invariant = { λ s. All (λ p. p < length s.block) (places_of s.selection)
+        × (length (places_of s.selection) < 2 ^ 32) };
 }
 
 impl Stretch {

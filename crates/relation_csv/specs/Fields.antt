@@ -45,9 +45,11 @@ bool_of_field field =
 
 -- the value of this type that a field writes; the fault names its record and its column; every field writes a string
 abbrev pub value_of_field : ℕ → ℕ → ColType → List ℕ → Result Value RelFault
-value_of_field nth column kind.Int field = ok_or (option_map variant.Int (int_of_field field)) (fault.BadInt nth column)
+value_of_field nth column kind.Int field =
+    ok_or (option_map variant.Int (int_of_field field)) (fault.BadInt nth column)
 value_of_field nth column kind.Str field = Ok (variant.Str field)
-value_of_field nth column kind.Bool field = ok_or (option_map variant.Bool (bool_of_field field)) (fault.BadBool nth column)
+value_of_field nth column kind.Bool field =
+    ok_or (option_map variant.Bool (bool_of_field field)) (fault.BadBool nth column)
 
 -- whether a byte parts a column's name from its type
 abbrev pub is_colon : ℕ → Bool
@@ -71,6 +73,7 @@ column_of name t = record { name = name; kind = t }
 abbrev pub column_of_field : ℕ → List ℕ → Result Column RelFault
 column_of_field number field =
     if list_any is_colon field
-    then ok_or (option_map (column_of (before_last is_colon field)) (type_of_name (after_last is_colon field)))
+    then ok_or (option_map (column_of (before_last is_colon field))
+    (type_of_name (after_last is_colon field)))
     (fault.BadHeader number)
     else Ok (column_of field kind.Str)

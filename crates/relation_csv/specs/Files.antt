@@ -54,12 +54,14 @@ abbrev pub rows_of_records : List Column → List Record → Result (List (List 
 rows_of_records schema records = each_numbered (row_of_record schema) 1 records
 
 -- the relation of these columns and rows
-abbrev pub relation_of_rows : List Column → Result (List (List Value)) RelFault → Result RelationState RelFault
+abbrev pub relation_of_rows : List Column → Result (List (List Value)) RelFault
+    → Result RelationState RelFault
 relation_of_rows schema (Ok rows) = Ok (record { schema = schema; rows = rows })
 relation_of_rows schema (Err why) = Err why
 
 -- the relation of these columns, whose rows are those of the records
-abbrev pub relation_under : List Record → Result (List Column) RelFault → Result RelationState RelFault
+abbrev pub relation_under : List Record → Result (List Column) RelFault
+    → Result RelationState RelFault
 relation_under records (Ok schema) = relation_of_rows schema (rows_of_records schema records)
 relation_under records (Err why) = Err why
 

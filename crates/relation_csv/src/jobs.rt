@@ -106,7 +106,8 @@ fn read_ranges<R: Threads + Sync>(
 ) -> Result<Vec<Result<Option<Rows>, Memory>>, Memory>
     ensures len { IfOk result (λ parts. length parts.items ≡ length ranges.entry.items) }
     ensures each { IfOk result (λ parts. (i : ℕ) (d : _) (e : _) → i < length ranges.entry.items
-        → ReadsRange schema.now (slice_index_or ranges.entry.items i d).now (slice_index_or parts.items i e)) }
+        → ReadsRange schema.now (slice_index_or ranges.entry.items i d).now
+        (slice_index_or parts.items i e)) }
 {
     let parts = map_vec(
         rt,

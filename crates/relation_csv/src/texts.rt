@@ -111,7 +111,8 @@ fn push_fields<F: Field>(fields: &[F], into: &mut Vec<u8>) -> Result<(), Memory>
 /// Ends the record that began at `before`; one that shows nothing gets two quotes.
 fn end_record(before: usize, into: &mut Vec<u8>) -> Result<(), Memory>
     ensures ok { OnOk result (into.new.items
-        ≡ into.old.items ++ ((if length into.old.items == before then codes "\"\"" else []) ++ codes "\n")) }
+        ≡ into.old.items
+        ++ ((if length into.old.items == before then codes "\"\"" else []) ++ codes "\n")) }
     ensures err { OnErr result (Extends into.old.items into.new.items) }
 {
     if into.len() == before {

@@ -18,7 +18,8 @@ use Rattle.placement.specs.Plans.{usual_placing, term_notes}
 use Rattle.run_laws.specs.SameExchanges.{AreSameExchanges}
 
 -- what these sources stand for is the same, but for the order of rows
-abbrev pub AreSameValues : (Source → PlacedRelation) → (Source → PlacedRelation) → List Source → Type 0
+abbrev pub AreSameValues : (Source → PlacedRelation) → (Source → PlacedRelation) → List Source
+    → Type 0
 AreSameValues v w sources = All (λ o. IsSamePlaced (v o) (w o)) sources
 
 -- the rows of a source
@@ -31,10 +32,14 @@ pub record IsSameRun (s : Settings) (number : ℕ) (v w : Source → PlacedRelat
   pub parts : SameTables (term_parts (usual_placing s) number v t) (term_parts (usual_placing s) number w t)
   pub exchanges : AreSameExchanges s.workers (term_exchanges (usual_placing s) number v t)
       (term_exchanges (usual_placing s) number w t)
-  pub fault : (rule : FaultRule) → term_fault rule number (rows_in v) t ≡ term_fault rule number (rows_in w) t
-  pub notes : (local : JoinKind) → term_notes (usual_placing s) local number v t ≡ term_notes (usual_placing s) local number w t
+  pub fault : (rule : FaultRule)
+      → term_fault rule number (rows_in v) t ≡ term_fault rule number (rows_in w) t
+  pub notes : (local : JoinKind)
+      → term_notes (usual_placing s) local number v t
+      ≡ term_notes (usual_placing s) local number w t
 
 abbrev pub TermsAreOfBags : Type 0
 TermsAreOfBags =
-    (s : Settings) (number : ℕ) (v w : Source → PlacedRelation) (t : TermTree) → AreSameValues v w (sources_of t)
+    (s : Settings) (number : ℕ) (v w : Source → PlacedRelation) (t : TermTree)
+    → AreSameValues v w (sources_of t)
     → IsSameRun s number v w t

@@ -38,7 +38,8 @@ use Rattle.run_laws.specs.Scripts.{HasTypedSources}
 
 -- what is held for a source, as a placed relation: all workers' rows together, whatever their columns are named
 abbrev pub held_at : (Source → List Rows) → Source → PlacedRelation
-held_at parts o = record { relation = record { schema = []; rows = together (parts o) }; parts = parts o }
+held_at parts o =
+    record { relation = record { schema = []; rows = together (parts o) }; parts = parts o }
 
 -- for a file its rows are held, dealt to the workers
 abbrev pub AreDealt : Placing → List File → (Source → List Rows) → Type 0
@@ -55,7 +56,8 @@ IsHeldStep p files c parts s =
 abbrev pub HasWideParts : ℕ → (Source → List Rows) → TermTree → Type 0
 HasWideParts width parts (Join shape sources) = ⊤
 HasWideParts width parts (Group shape sources kinds) = ⊤
-HasWideParts width parts t = All (λ o. All (All (λ (row : Row). length row ≡ width)) (parts o)) (sources_of t)
+HasWideParts width parts t =
+    All (λ o. All (All (λ (row : Row). length row ≡ width)) (parts o)) (sources_of t)
 
 -- what is held for a step's sources is what they mean, in any order at each worker; it is placed, of the types and as wide as the
 -- term asks, and ready to be joined
@@ -70,24 +72,29 @@ pub record IsReadyStep (p : Placing) (files : List File) (c : CheckedTree) (part
 -- a needed step is ready once those before it are held
 abbrev pub StepsAreReady : Type 0
 StepsAreReady =
-    (p : Placing) (files : List File) (c : CheckedTree) → IsPlacing p → IsTrue (is_of files c) → AreTyped files
+    (p : Placing) (files : List File) (c : CheckedTree) → IsPlacing p → IsTrue (is_of files c)
+    → AreTyped files
     → (parts : Source → List Rows) → AreDealt p files parts
-    → (i : ℕ) (a : StepTree) → i < length (needed c) → All (IsHeldStep p files c parts) (take i (needed c))
+    → (i : ℕ) (a : StepTree) → i < length (needed c)
+    → All (IsHeldStep p files c parts) (take i (needed c))
     → IsReadyStep p files c parts (slice_index_or (needed c) i a)
 
 -- the bags that the result of a step means, and the lines of the plan for it: its own, with the number of these rows, and those
 -- below it, by what is held
-pub record IsHeldResult (s : Settings) (files : List File) (c : CheckedTree) (parts : Source → List Rows) (x : StepTree)
+pub record IsHeldResult (s : Settings) (files : List File) (c : CheckedTree)
+    (parts : Source → List Rows) (x : StepTree)
     (made : List Rows) : Type 0 where
   pub rows : SameTables (meant (usual_placing s) files c (source.Result x.statement)).parts made
-  pub lines : (local : JoinKind) → step_notes (usual_placing s) local (meant (usual_placing s) files c) x
+  pub lines : (local : JoinKind)
+      → step_notes (usual_placing s) local (meant (usual_placing s) files c) x
       ≡ note.Statement x.statement (plan_kind x.term) (length (together made))
       ∷ term_notes (usual_placing s) local x.statement (held_at parts) x.term
 
 -- where the sources of a needed step are held, the bags of its term over what they mean are such a result
 abbrev pub ResultsAreHeld : Type 0
 ResultsAreHeld =
-    (s : Settings) (files : List File) (c : CheckedTree) → 1 ≤ s.workers → IsTrue (is_of files c) → AreTyped files
+    (s : Settings) (files : List File) (c : CheckedTree) → 1 ≤ s.workers → IsTrue (is_of files c)
+    → AreTyped files
     → (parts : Source → List Rows) (i : ℕ) (a : StepTree) → i < length (needed c)
     → let x = slice_index_or (needed c) i a in
     let value = meant (usual_placing s) files c in
@@ -104,10 +111,12 @@ parts_in dealt results o = found [] dealt results o
 -- a source is among them
 abbrev pub IsIn : List (List Rows) → List (ℕ × List Rows) → Source → Type 0
 IsIn dealt results (source.File place) = place < length dealt
-IsIn dealt results (source.Result number) = IsSome (find (λ (r : ℕ × List Rows). r.0 == number) results)
+IsIn dealt results (source.Result number) =
+    IsSome (find (λ (r : ℕ × List Rows). r.0 == number) results)
 
 -- the files are held, dealt to the workers, and so are the bags that these steps mean, each by its number
-pub record AreHeld (p : Placing) (files : List File) (c : CheckedTree) (steps : List StepTree) (dealt : List (List Rows))
+pub record AreHeld (p : Placing) (files : List File) (c : CheckedTree) (steps : List StepTree)
+    (dealt : List (List Rows))
     (results : List (ℕ × List Rows)) : Type 0 where
   pub files_dealt : dealt ≡ map (λ (f : File). (placed_file p.workers f.1).parts) files
   pub numbers : map (λ (r : ℕ × List Rows). r.0) results ≡ numbers_of steps
@@ -116,8 +125,10 @@ pub record AreHeld (p : Placing) (files : List File) (c : CheckedTree) (steps : 
 -- where those before a needed step are held, its sources are there, and it is ready
 abbrev pub HeldAreReady : Type 0
 HeldAreReady =
-    (p : Placing) (files : List File) (c : CheckedTree) → IsPlacing p → IsTrue (is_of files c) → AreTyped files
-    → (dealt : List (List Rows)) (results : List (ℕ × List Rows)) (i : ℕ) (a : StepTree) → i < length (needed c)
+    (p : Placing) (files : List File) (c : CheckedTree) → IsPlacing p → IsTrue (is_of files c)
+    → AreTyped files
+    → (dealt : List (List Rows)) (results : List (ℕ × List Rows)) (i : ℕ) (a : StepTree)
+    → i < length (needed c)
     → AreHeld p files c (take i (needed c)) dealt results
     → let x = slice_index_or (needed c) i a in
     All (IsIn dealt results) (sources_of x.term) × IsReadyStep p files c (parts_in dealt results) x
@@ -126,7 +137,8 @@ HeldAreReady =
 abbrev pub OneMoreIsHeld : Type 0
 OneMoreIsHeld =
     (p : Placing) (files : List File) (c : CheckedTree) → IsTrue (is_of files c)
-    → (dealt : List (List Rows)) (results : List (ℕ × List Rows)) (i : ℕ) (a : StepTree) → i < length (needed c)
+    → (dealt : List (List Rows)) (results : List (ℕ × List Rows)) (i : ℕ) (a : StepTree)
+    → i < length (needed c)
     → AreHeld p files c (take i (needed c)) dealt results
     → let x = slice_index_or (needed c) i a in
     (made : List Rows) → SameTables (meant p files c (source.Result x.statement)).parts made
@@ -141,5 +153,6 @@ pub record IsHeldStore (p : Placing) (files : List File) (c : CheckedTree) (deal
 abbrev pub StoresAreHeld : Type 0
 StoresAreHeld =
     (p : Placing) (files : List File) (c : CheckedTree) → IsTrue (is_of files c)
-    → (dealt : List (List Rows)) (results : List (ℕ × List Rows)) → AreHeld p files c (needed c) dealt results
+    → (dealt : List (List Rows)) (results : List (ℕ × List Rows))
+    → AreHeld p files c (needed c) dealt results
     → All (IsHeldStore p files c dealt results) c.stores

@@ -57,4 +57,5 @@ pub record IsKept (files : List File) (c d : CheckedTree) : Type 0 where
   pub known : All (λ (t : StoreStep). IsKnown files d.steps t.source) d.stores
 
 abbrev pub RewrittenAreKept : Type 0
-RewrittenAreKept = (files : List File) (c d : CheckedTree) → IsTrue (is_of files c) → IsRewritten c d → IsKept files c d
+RewrittenAreKept = (files : List File) (c d : CheckedTree) → IsTrue (is_of files c)
+    → IsRewritten c d → IsKept files c d

@@ -41,4 +41,5 @@ MovedAreOfSameExchanges =
 abbrev pub CountsAreOfSameExchanges : Type 0
 CountsAreOfSameExchanges =
     (n : ℕ) (es fs : List PlacedExchange) → AreSameExchanges n es fs → (w : ℕ) → w < n
-    → (all_sent es w ≡ all_sent fs w) × (all_received es w ≡ all_received fs w) × (all_listed es w ≡ all_listed fs w)
+    → (all_sent es w ≡ all_sent fs w) × (all_received es w ≡ all_received fs w)
+    × (all_listed es w ≡ all_listed fs w)

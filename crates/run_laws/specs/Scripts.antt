@@ -43,7 +43,8 @@ use Rattle.run_laws.specs.Rewritten.{needed}
 -- ---- what a script stores, plans and moves
 
 -- the exchanges of a step, each with its number, by what its sources stand for
-abbrev pub step_exchanges : Placing → (Source → PlacedRelation) → StepTree → List (ℕ × PlacedExchange)
+abbrev pub step_exchanges : Placing → (Source → PlacedRelation) → StepTree
+    → List (ℕ × PlacedExchange)
 step_exchanges p value s = map (λ e. (s.statement, e)) (term_exchanges p s.statement value s.term)
 
 -- a store with what its source stands for, and with the relation alone
@@ -55,7 +56,8 @@ stored_file p files c t = (t.key, (meant p files c t.source).relation)
 
 -- plan and exchanges are those of the needed steps, and a store is what its source stands for
 pub record IsOfSteps (p : Placing) (files : List File) (c : CheckedTree) : Type 0 where
-  pub plan : (local : JoinKind) → plan_of p local files c ≡ flat_map (step_notes p local (meant p files c)) (needed c)
+  pub plan : (local : JoinKind)
+      → plan_of p local files c ≡ flat_map (step_notes p local (meant p files c)) (needed c)
   pub exchanges : exchanges_of p files c ≡ flat_map (step_exchanges p (meant p files c)) (needed c)
   pub placed : placed_stores p files c ≡ map (placed_store p files c) c.stores
   pub stored : stored_by files c ≡ map (stored_file p files c) c.stores
@@ -66,13 +68,15 @@ ScriptsAreOfSteps = (p : Placing) (files : List File) (c : CheckedTree) → IsOf
 -- a file stands for its rows, dealt to the workers
 abbrev pub FilesAreMeant : Type 0
 FilesAreMeant =
-    (p : Placing) (files : List File) (c : CheckedTree) (place : ℕ) (f : File) → place < length files
+    (p : Placing) (files : List File) (c : CheckedTree) (place : ℕ) (f : File)
+    → place < length files
     → meant p files c (source.File place) ≡ placed_file p.workers (slice_index_or files place f).1
 
 -- a statement's result is that of the step that is found by its number
 abbrev pub ResultsAreFound : Type 0
 ResultsAreFound =
-    (p : Placing) (files : List File) (c : CheckedTree) → IsTrue (is_of files c) → (number : ℕ) (s : StepTree)
+    (p : Placing) (files : List File) (c : CheckedTree) → IsTrue (is_of files c)
+    → (number : ℕ) (s : StepTree)
     → find (λ (t : StepTree). t.statement == number) c.steps ≡ Some s
     → meant p files c (source.Result number) ≡ result_of p (meant p files c) s
 
@@ -83,15 +87,19 @@ abbrev pub IsSound : Placing → (ℕ → FaultRule) → List File → CheckedTr
 IsSound p rules files c s = step_fault rules (rows_meant p files c) s ≡ None
 
 -- the fault of a script is that of a needed step before which nothing is wrong, and where nothing is wrong there is none
-pub record HasFirstFault (p : Placing) (rules : ℕ → FaultRule) (files : List File) (c : CheckedTree) : Type 0 where
-  pub first : (i : ℕ) (a : StepTree) → i < length (needed c) → All (IsSound p rules files c) (take i (needed c))
-      → (fault : RunFault) → step_fault rules (rows_meant p files c) (slice_index_or (needed c) i a) ≡ Some fault
+pub record HasFirstFault (p : Placing) (rules : ℕ → FaultRule) (files : List File)
+    (c : CheckedTree) : Type 0 where
+  pub first : (i : ℕ) (a : StepTree) → i < length (needed c)
+      → All (IsSound p rules files c) (take i (needed c))
+      → (fault : RunFault)
+      → step_fault rules (rows_meant p files c) (slice_index_or (needed c) i a) ≡ Some fault
       → checked_fault rules files c ≡ Some fault
   pub none : All (IsSound p rules files c) (needed c) → checked_fault rules files c ≡ None
 
 abbrev pub FaultsAreFirst : Type 0
 FaultsAreFirst =
-    (p : Placing) (files : List File) (c : CheckedTree) → IsTrue (is_of files c) → (rules : ℕ → FaultRule)
+    (p : Placing) (files : List File) (c : CheckedTree) → IsTrue (is_of files c)
+    → (rules : ℕ → FaultRule)
     → HasFirstFault p rules files c
 
 -- ---- what a step comes to
@@ -102,8 +110,10 @@ AreRowsOf schema value o = All (HasTypes schema) (value o).relation.rows
 
 -- the items of a join have the types of its atoms, and the operands of any other term those of the result
 abbrev pub HasTypedSources : List Column → (Source → PlacedRelation) → TermTree → Type 0
-HasTypedSources schema value (Join shape sources) = AreTables shape.atoms (rows_of (map value sources))
-HasTypedSources schema value (Group shape sources kinds) = AreTables shape.atoms (rows_of (map value sources))
+HasTypedSources schema value (Join shape sources) =
+    AreTables shape.atoms (rows_of (map value sources))
+HasTypedSources schema value (Group shape sources kinds) =
+    AreTables shape.atoms (rows_of (map value sources))
 HasTypedSources schema value t = All (AreRowsOf schema value) (sources_of t)
 
 -- a step's result is its term over what its sources stand for; these are placed, of the types that the term asks for, and ready
@@ -116,7 +126,8 @@ pub record IsMeantStep (p : Placing) (files : List File) (c : CheckedTree) (s : 
 
 abbrev pub NeededAreMeant : Type 0
 NeededAreMeant =
-    (p : Placing) (files : List File) (c : CheckedTree) → IsPlacing p → IsTrue (is_of files c) → AreTyped files
+    (p : Placing) (files : List File) (c : CheckedTree) → IsPlacing p → IsTrue (is_of files c)
+    → AreTyped files
     → All (IsMeantStep p files c) (needed c)
 
 -- ---- rows that are known as bags
@@ -131,14 +142,17 @@ pub record IsHeldOf (n : ℕ) (q : PlacedRelation) (parts : List Rows) : Type 0 
 -- lists with the same bags at each worker as what a source stands for
 abbrev pub HeldAreMeant : Type 0
 HeldAreMeant =
-    (p : Placing) (files : List File) (c : CheckedTree) → IsPlacing p → IsTrue (is_of files c) → AreTyped files
-    → (o : Source) (parts : List Rows) → SameTables (meant p files c o).parts parts → IsHeldOf p.workers (meant p files c o) parts
+    (p : Placing) (files : List File) (c : CheckedTree) → IsPlacing p → IsTrue (is_of files c)
+    → AreTyped files
+    → (o : Source) (parts : List Rows) → SameTables (meant p files c o).parts parts
+    → IsHeldOf p.workers (meant p files c o) parts
 
 -- over other rows that are the same bags at each worker the sources of a term are as the term asks
 abbrev pub ReadyAreOfBags : Type 0
 ReadyAreOfBags =
     (n : ℕ) (schema : List Column) (v w : Source → PlacedRelation) (t : TermTree)
-    → All (λ o. IsPlaced n (w o)) (sources_of t) → All (λ o. IsSamePlaced (v o) (w o)) (sources_of t)
+    → All (λ o. IsPlaced n (w o)) (sources_of t)
+    → All (λ o. IsSamePlaced (v o) (w o)) (sources_of t)
     → HasReadyItems n v t → HasTypedSources schema v t
     → HasReadyItems n w t × HasTypedSources schema w t
 

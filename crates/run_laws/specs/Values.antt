@@ -42,7 +42,8 @@ result_of p value s = record {
 abbrev pub StepsAreMeant : Type 0
 StepsAreMeant =
     (p : Placing) (files : List File) (c : CheckedTree) → IsTrue (is_of files c)
-    → All (λ (s : StepTree). meant p files c (source.Result s.statement) ≡ result_of p (meant p files c) s) c.steps
+    → All (λ (s : StepTree). meant p files c (source.Result s.statement)
+    ≡ result_of p (meant p files c) s) c.steps
 
 -- the first of some faults
 abbrev pub first_of : List (Option RunFault) → Option RunFault
@@ -57,14 +58,16 @@ step_fault rules rows s = term_fault (rules s.statement) s.statement rows s.term
 -- the fault of a script is the first one of its needed steps
 abbrev pub FaultsAreOfSteps : Type 0
 FaultsAreOfSteps =
-    (p : Placing) (files : List File) (c : CheckedTree) → IsTrue (is_of files c) → (rules : ℕ → FaultRule)
+    (p : Placing) (files : List File) (c : CheckedTree) → IsTrue (is_of files c)
+    → (rules : ℕ → FaultRule)
     → checked_fault rules files c
     ≡ first_of (map (step_fault rules (rows_meant p files c)) (needed_steps c.stores c.steps))
 
 -- a file at its place, or the result of one of these steps
 abbrev pub IsKnown : List File → List StepTree → Source → Type 0
 IsKnown files steps (source.File place) = place < length files
-IsKnown files steps (source.Result number) = Contains (map (λ (s : StepTree). s.statement) steps) number
+IsKnown files steps (source.Result number) =
+    Contains (map (λ (s : StepTree). s.statement) steps) number
 
 -- the sources of a needed step are files and needed steps before it
 abbrev pub NeededAreOverNeeded : Type 0
@@ -88,5 +91,6 @@ pub record IsMeant (n : ℕ) (p : PlacedRelation) : Type 0 where
 -- whatever is known stands for rows of its columns' types, with a list for each worker
 abbrev pub MeantArePlaced : Type 0
 MeantArePlaced =
-    (p : Placing) (files : List File) (c : CheckedTree) → IsPlacing p → IsTrue (is_of files c) → AreTyped files
+    (p : Placing) (files : List File) (c : CheckedTree) → IsPlacing p → IsTrue (is_of files c)
+    → AreTyped files
     → (o : Source) → IsKnown files c.steps o → IsMeant p.workers (meant p files c o)

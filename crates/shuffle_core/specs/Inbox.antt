@@ -25,11 +25,19 @@ module _ {P : Type 0} where
 
   -- an inbox of which nothing was asked so far
   abbrev pub new_inbox : ℕ → ℕ → InboxState P
-  new_inbox senders capacity = record { senders = senders; capacity = capacity; sent = replicate senders []; queue = []; got = [] }
+  new_inbox senders capacity =
+      record {
+        senders = senders;
+        capacity = capacity;
+        sent = replicate senders [];
+        queue = [];
+        got = [];
+      }
 
   -- the inbox once the post in front was taken: it stands at the back of what was got
   abbrev pub with_taken : InboxState P → InboxState P
-  with_taken inbox = record inbox { queue = drop 1 inbox.queue; got = inbox.got ++ take 1 inbox.queue }
+  with_taken inbox =
+      record inbox { queue = drop 1 inbox.queue; got = inbox.got ++ take 1 inbox.queue }
 
   module _ (sender : P → ℕ) where
     -- the posts of one sender, in order
@@ -55,7 +63,8 @@ module _ {P : Type 0} where
 
       -- the end mark of each sender was got
       abbrev pub HasEachEnd : InboxState P → Type 0
-      HasEachEnd inbox = (s : ℕ) → s < inbox.senders → IsTrue (list_any ends (of_sender s inbox.got))
+      HasEachEnd inbox =
+          (s : ℕ) → s < inbox.senders → IsTrue (list_any ends (of_sender s inbox.got))
 
       -- what every inbox keeps, whatever was sent and taken
       pub record IsInbox (inbox : InboxState P) : Type 0 where
@@ -68,4 +77,5 @@ module _ {P : Type 0} where
         -- of each sender, the posts that were got, followed by those that wait, are what it sent, in order
         pub in_order : (s : ℕ) → of_sender s (inbox.got ++ inbox.queue) ≡ sent_by inbox s
         -- a sender sent nothing behind its end mark
-        pub end_is_last : (s : ℕ) → AllPairs (λ earlier later. ends earlier ≡ false) (sent_by inbox s)
+        pub end_is_last : (s : ℕ)
+            → AllPairs (λ earlier later. ends earlier ≡ false) (sent_by inbox s)

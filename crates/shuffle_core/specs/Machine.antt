@@ -65,7 +65,8 @@ inbox_of_log senders capacity posts taken = record {
 
 -- the senders of whom an end mark is among the posts
 abbrev pub ended_of : ℕ → List Post → List Bool
-ended_of senders posts = map (λ s. list_any is_end (inbox.of_sender sender_of s posts)) (range_with_len 0 senders)
+ended_of senders posts =
+    map (λ s. list_any is_end (inbox.of_sender sender_of s posts)) (range_with_len 0 senders)
 
 -- what the code keeps of an inbox: the posts that were taken are some of those that were sent, it is noted of each
 -- sender whether it has ended, and the whole is an inbox

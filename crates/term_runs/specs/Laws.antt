@@ -32,11 +32,13 @@ module _ {T : Type 0} (totals : T → Totals) (tag : T → ℕ) where
   -- taps stay even where nothing is done, where they do in each of two steps, in an exchange and where rows are listed
   pub record FairnessIsKept : Type 0 where
     pub none : (taps : List T) → AreFair totals tag taps taps
-    pub joined : (before middle after : List T) → AreFair totals tag before middle → AreFair totals tag middle after
+    pub joined : (before middle after : List T) → AreFair totals tag before middle
+        → AreFair totals tag middle after
         → AreFair totals tag before after
     pub told : (n : ℕ) (sent got : List ℕ) (before after : List T) → 2 * n ≤ length before
         → IsTold totals tag n sent got before after → AreFair totals tag before after
-    pub listed : (parts : List Rows) (before after : List T) → IsListedAt totals tag parts before after
+    pub listed : (parts : List Rows) (before after : List T)
+        → IsListedAt totals tag parts before after
         → AreFair totals tag before after
     pub counted : (n : ℕ) (sent got listed : List ℕ) (before after : List T) → 2 * n ≤ length before
         → AreCounted totals tag n sent got listed before after → AreFair totals tag before after
@@ -44,29 +46,39 @@ module _ {T : Type 0} (totals : T → Totals) (tag : T → ℕ) where
   -- what the taps are told of an exchange and then of listed rows is what it moves, and so is what they are told of the joins of
   -- some exchanges
   pub record ToldIsMoved : Type 0 where
-    pub told : (n : ℕ) (e : PlacedExchange) (sent_by got_by : List ℕ) (parts : List Rows) (before middle after : List T)
-        → IsTold totals tag n sent_by got_by before middle → IsListedAt totals tag parts middle after → length parts ≡ n
-        → sent_by ≡ by_worker n (sent e.moves) → got_by ≡ by_worker n (received e.moves) → e.listed ≡ row_counts parts
+    pub told : (n : ℕ) (e : PlacedExchange) (sent_by got_by : List ℕ) (parts : List Rows)
+        (before middle after : List T)
+        → IsTold totals tag n sent_by got_by before middle
+        → IsListedAt totals tag parts middle after → length parts ≡ n
+        → sent_by ≡ by_worker n (sent e.moves) → got_by ≡ by_worker n (received e.moves)
+        → e.listed ≡ row_counts parts
         → AreMoved totals tag n (e ∷ []) before after
-    pub counted : (n : ℕ) (es : List PlacedExchange) (sent_by got_by listed_by : List ℕ) (before after : List T)
+    pub counted : (n : ℕ) (es : List PlacedExchange) (sent_by got_by listed_by : List ℕ)
+        (before after : List T)
         → AreCounted totals tag n sent_by got_by listed_by before after
-        → sent_by ≡ by_worker n (all_sent es) → got_by ≡ by_worker n (all_received es) → listed_by ≡ by_worker n (all_listed es)
+        → sent_by ≡ by_worker n (all_sent es) → got_by ≡ by_worker n (all_received es)
+        → listed_by ≡ by_worker n (all_listed es)
         → AreMoved totals tag n es before after
 
   -- where the taps rose by exchanges, sums of second taps that were read before have risen; and the numbers that are read off since
   -- one exchange are those of its note
   pub record NotesTellMoves : Type 0 where
     pub risen : (n : ℕ) (es : List PlacedExchange) (before after : List T) (since : List Totals)
-        → AreSeconds totals n before since → AreMoved totals tag n es before after → HaveRisen totals since after
-    pub note : (n number : ℕ) (e : PlacedExchange) (before after : List T) (since : List Totals) (note : Traffic)
+        → AreSeconds totals n before since → AreMoved totals tag n es before after
+        → HaveRisen totals since after
+    pub note : (n number : ℕ) (e : PlacedExchange) (before after : List T) (since : List Totals)
+        (note : Traffic)
         → 2 * n ≤ length before → length e.listed ≡ n → AreMoved totals tag n (e ∷ []) before after
-        → AreSeconds totals n before since → IsNoteSince totals number e.kind since after note → note ≡ traffic_note n (number, e)
+        → AreSeconds totals n before since → IsNoteSince totals number e.kind since after note
+        → note ≡ traffic_note n (number, e)
 
 -- receipts, and runs, one after another
 pub record RunsAreJoined : Type 0 where
   pub receipts : (size : Size) (moves others : List (List Move)) (receipts more : List ReceiptState)
-      → AreShown size moves receipts → AreShown size others more → AreShown size (moves ++ others) (receipts ++ more)
-  pub runs : (s : Settings) (number : ℕ) (middle expected : List Rows) (es fs : List PlacedExchange) (first second made : Moved)
+      → AreShown size moves receipts → AreShown size others more
+      → AreShown size (moves ++ others) (receipts ++ more)
+  pub runs : (s : Settings) (number : ℕ) (middle expected : List Rows) (es fs : List PlacedExchange)
+      (first second made : Moved)
       → IsMoved s number middle es first → IsMoved s number expected fs second
       → made.parts ≡ second.parts → made.traffic ≡ first.traffic ++ second.traffic
       → made.receipts ≡ first.receipts ++ second.receipts

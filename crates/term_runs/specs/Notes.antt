@@ -23,7 +23,8 @@ module _ {T : Type 0} (totals : T → Totals) where
         → (slice_index_or since w e).listed ≤ (totals (slice_index_or taps (2 * w + 1) d)).listed
 
   -- so many rows each worker received and listed since
-  pub record IsNoteSince (statement : ℕ) (exchange : Exchange) (since : List Totals) (taps : List T) (note : Traffic) : Type 0
+  pub record IsNoteSince (statement : ℕ) (exchange : Exchange) (since : List Totals) (taps : List T)
+      (note : Traffic) : Type 0
     where
       pub statement_is : note.statement ≡ statement
       pub exchange_is : note.exchange ≡ exchange

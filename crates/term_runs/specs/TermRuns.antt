@@ -46,7 +46,8 @@ shown_moves e = of e.kind
 pub data AreShown (size : Size) : List (List Move) → List ReceiptState → Type 0 where
   no_receipt : AreShown size [] []
   a_receipt : (moves : List Move) (receipt : ReceiptState) (rest : List (List Move))
-      (others : List ReceiptState) → Shows SameBag most_items size moves receipt → AreShown size rest others
+      (others : List ReceiptState) → Shows SameBag most_items size moves receipt
+      → AreShown size rest others
       → AreShown size (moves ∷ rest) (receipt ∷ others)
 
 -- ---- taps

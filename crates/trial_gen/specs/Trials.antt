@@ -40,7 +40,8 @@ number_of bound t = t / 2 ^ 33 % bound
 -- the row of the numbers of the two states behind a state
 abbrev pub row_behind : ℕ → ℕ → List Value
 row_behind bound t =
-    value.Int (pos (number_of bound (next_state t))) ∷ value.Int (pos (number_of bound (next_state (next_state t)))) ∷ []
+    value.Int (pos (number_of bound (next_state t)))
+    ∷ value.Int (pos (number_of bound (next_state (next_state t)))) ∷ []
 
 -- row i of relation j of size n, from 0: it stands behind two states for each row before it, and its numbers are at most an
 -- eighth of the size
@@ -53,7 +54,8 @@ trial_rows n j = map (trial_row n j) (range_with_len 0 n)
 
 -- two columns of numbers, `a` and `b`
 abbrev pub trial_columns : List Column
-trial_columns = record { name = codes "a"; kind = kind.Int } ∷ record { name = codes "b"; kind = kind.Int } ∷ []
+trial_columns = record { name = codes "a"; kind = kind.Int }
+    ∷ record { name = codes "b"; kind = kind.Int } ∷ []
 
 -- the key of a name that stands by itself
 abbrev pub trial_key : List ℕ → Key
@@ -65,4 +67,5 @@ trial_file n j name = (trial_key name, record { schema = trial_columns; rows = t
 
 -- the three relations of size n
 abbrev pub trial_files : ℕ → List File
-trial_files n = trial_file n 1 (codes "E1") ∷ trial_file n 2 (codes "E2") ∷ trial_file n 3 (codes "E3") ∷ []
+trial_files n = trial_file n 1 (codes "E1") ∷ trial_file n 2 (codes "E2")
+    ∷ trial_file n 3 (codes "E3") ∷ []

@@ -21,4 +21,5 @@ merged_cells place kinds rows = whole_sums kinds (cells place (partial_kinds kin
 -- the sum whose two columns stand from a place on
 abbrev pub whole_sum : Rows → ℕ → ℤ
 whole_sum rows place =
-    (number_of (cell (Some agg.Sum) (column rows place)) *ℤ pos (2 ^ 62)) +ℤ number_of (cell (Some agg.Sum) (column rows (place + 1)))
+    (number_of (cell (Some agg.Sum) (column rows place)) *ℤ pos (2 ^ 62))
+    +ℤ number_of (cell (Some agg.Sum) (column rows (place + 1)))

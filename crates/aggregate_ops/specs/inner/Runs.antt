@@ -15,7 +15,8 @@ pub record IsRun (rows : Rows) (count : ℕ) : Type 0 where
   pub some : 0 < count
   pub within : count ≤ length rows
   pub same : (k : ℕ) → k < count → slice_index_or rows k [] ≡ slice_index_or rows 0 []
-  pub next : count < length rows → same_row (slice_index_or rows 0 []) (slice_index_or rows count []) ≡ false
+  pub next : count < length rows
+      → same_row (slice_index_or rows 0 []) (slice_index_or rows count []) ≡ false
 
 -- so many rows at the front come before this row, and the next, if there is one, doesn't
 pub record IsBelow (rows : Rows) (row : Row) (count : ℕ) : Type 0 where

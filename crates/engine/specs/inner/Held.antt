@@ -29,10 +29,12 @@ abbrev pub IsHeld : Held → Source → Type 0
 IsHeld held = IsIn held.files held.results.items
 
 -- each result that a store or one of these steps uses is found among some results as it is among all
-abbrev pub UsedAreHeld : List StoreStep → List StepTree → List (ℕ × List Rows) → List (ℕ × List Rows) → Type 0
+abbrev pub UsedAreHeld : List StoreStep → List StepTree → List (ℕ × List Rows)
+    → List (ℕ × List Rows) → Type 0
 UsedAreHeld stores steps every some =
     (number : ℕ) → IsTrue (is_used number stores steps)
-    → find (λ (r : ℕ × List Rows). r.0 == number) some ≡ find (λ (r : ℕ × List Rows). r.0 == number) every
+    → find (λ (r : ℕ × List Rows). r.0 == number) some
+    ≡ find (λ (r : ℕ × List Rows). r.0 == number) every
 
 -- what a source stands for, where its rows lie
 abbrev pub value_held : Held → Source → PlacedRelation

@@ -52,14 +52,16 @@ pub record IsStepDone {T : Type 0} (s : Settings) (t : StepTree) (stores : List 
   pub results : UsedAreHeld stores later (held.results.items ++ (t.statement, made) ∷ [])
       after_held.results.items
   pub parts : SameTables (term_parts (usual_placing s) t.statement (value_held held) t.term) made
-  pub plan : after_noted.plan ≡ noted.plan ++ note.Statement t.statement (plan_kind t.term) (length (together made))
+  pub plan : after_noted.plan ≡ noted.plan
+      ++ note.Statement t.statement (plan_kind t.term) (length (together made))
       ∷ term_notes (usual_placing s) s.local t.statement (value_held held) t.term
   pub traffic : after_noted.traffic ≡ noted.traffic
       ++ map (λ (e : PlacedExchange). traffic_note s.workers (t.statement, e)) (held_exchanges s held t)
   pub noted_receipts : after_noted.receipts ≡ noted.receipts ++ receipts
   pub shown : AreShown (size_of s) (flat_map shown_moves (held_exchanges s held t)) receipts
   pub moved : AreMoved totals tag s.workers (held_exchanges s held t) before after
-  pub sound : term_fault (faults_by s) t.statement (λ o. (value_held held o).relation.rows) t.term ≡ None
+  pub sound : term_fault (faults_by s) t.statement (λ o. (value_held held o).relation.rows) t.term
+      ≡ None
 
 -- what running a step over what is held does
 pub record IsStep {T : Type 0} (s : Settings) (t : StepTree) (stores : List StoreStep)
@@ -75,22 +77,26 @@ pub record IsStep {T : Type 0} (s : Settings) (t : StepTree) (stores : List Stor
 -- ---- the steps so far
 
 -- the exchanges of some steps of a script, each with the number of its statement, and without
-abbrev pub numbered_exchanges : Settings → List File → CheckedTree → List StepTree → List (ℕ × PlacedExchange)
+abbrev pub numbered_exchanges : Settings → List File → CheckedTree → List StepTree
+    → List (ℕ × PlacedExchange)
 numbered_exchanges s files c steps =
     flat_map (step_exchanges (usual_placing s) (meant (usual_placing s) files c)) steps
 
 abbrev pub bare_exchanges : Settings → List File → CheckedTree → List StepTree → List PlacedExchange
-bare_exchanges s files c steps = map (λ (e : ℕ × PlacedExchange). e.1) (numbered_exchanges s files c steps)
+bare_exchanges s files c steps =
+    map (λ (e : ℕ × PlacedExchange). e.1) (numbered_exchanges s files c steps)
 
 -- some steps have run and others are left: the rows of each result that is still used lie where they are placed, as bags; the
 -- plan, the traffic and the receipts are those of the steps that have run, the taps rose by their exchanges, and nothing is wrong
 -- with them
-pub record AreRun {T : Type 0} (s : Settings) (files : List File) (c : CheckedTree) (steps left : List StepTree)
+pub record AreRun {T : Type 0} (s : Settings) (files : List File) (c : CheckedTree)
+    (steps left : List StepTree)
     (held : Held) (noted : Noted) (totals : T → Totals) (tag : T → ℕ) (before after : List T) : Type 0 where
   pub every : List (ℕ × List Rows)
   pub made_as_meant : AreHeld (usual_placing s) files c steps held.files every
   pub used : UsedAreHeld c.stores left every held.results.items
-  pub plan : noted.plan ≡ flat_map (step_notes (usual_placing s) s.local (meant (usual_placing s) files c)) steps
+  pub plan : noted.plan
+      ≡ flat_map (step_notes (usual_placing s) s.local (meant (usual_placing s) files c)) steps
   pub traffic : noted.traffic ≡ map (traffic_note s.workers) (numbered_exchanges s files c steps)
   pub receipts : AreShown (size_of s) (flat_map shown_moves (bare_exchanges s files c steps)) noted.receipts
   pub moved : AreMoved totals tag s.workers (bare_exchanges s files c steps) before after
@@ -100,8 +106,10 @@ pub record AreRun {T : Type 0} (s : Settings) (files : List File) (c : CheckedTr
 
 -- the columns of what a source stands for
 abbrev pub schema_at : List File → CheckedTree → Source → List Column
-schema_at files c o = (found no_relation (relations_of files) (step_relations files c.steps) o).schema
+schema_at files c o =
+    (found no_relation (relations_of files) (step_relations files c.steps) o).schema
 
 -- what is stored of what is held
 abbrev pub held_store : List File → CheckedTree → Held → StoreStep → SpreadStore
-held_store files c held t = record { key = t.key; schema = schema_at files c t.source; parts = parts_held held t.source }
+held_store files c held t =
+    record { key = t.key; schema = schema_at files c t.source; parts = parts_held held t.source }

@@ -27,7 +27,8 @@ IsUnionFault statement rows fault.Memory = ⊤
 IsUnionFault statement rows other = (most_rows < rows) × (other ≡ fault.TooManyRows statement)
 
 -- what running a term does, where its sources stand for these rows
-abbrev pub IsStepRun : {T : Type 0} → Settings → ℕ → (Source → PlacedRelation) → TermTree → (T → Totals) → (T → ℕ) → List T
+abbrev pub IsStepRun : {T : Type 0} → Settings → ℕ → (Source → PlacedRelation) → TermTree
+    → (T → Totals) → (T → ℕ) → List T
     → List T → Result Moved RunFault → Type 0
 IsStepRun s number value t totals tag before after answer =
     let p = usual_placing s in

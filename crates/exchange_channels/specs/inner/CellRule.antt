@@ -14,7 +14,17 @@ use Rattle.exchange_channels.specs.Messages.{sender_of, is_end}
 
 -- a pass that was given away: it may do nothing
 abbrev pub idle_view : View
-idle_view = record { keeps = false; sends = false; takes = false; capacity = 0; sender = 0; senders = 0; sent = []; got = []; returned = [] }
+idle_view = record {
+  keeps = false;
+  sends = false;
+  takes = false;
+  capacity = 0;
+  sender = 0;
+  senders = 0;
+  sent = [];
+  got = [];
+  returned = [];
+}
 
 -- the first pass: it keeps and takes, and no sender was made
 abbrev pub first_view : View
@@ -34,7 +44,8 @@ with_next_sender v = record v { senders = v.senders + 1 }
 
 -- the pass of a sender that has sent so much
 abbrev pub sender_view : ℕ → ℕ → List Message → View
-sender_view capacity sender sent = record idle_view { sends = true; capacity = capacity; sender = sender; sent = sent }
+sender_view capacity sender sent =
+    record idle_view { sends = true; capacity = capacity; sender = sender; sent = sent }
 
 -- the pass of the sender that the keeper makes next: it has sent nothing
 abbrev pub next_sender_view : View → View
@@ -77,7 +88,8 @@ module _ (inbox : InboxState Message) (seat : ℕ → ℕ) where
     pub same_senders : v.senders ≡ inbox.senders
     pub seats_to_come : (s : ℕ) → inbox.senders ≤ s → seat s ≡ 0
     pub seats_returned : (s : ℕ) → s < length v.returned → seat s ≡ 0
-    pub same_returned : (s : ℕ) → s < length v.returned → slice_index_or v.returned s [] ≡ sent_by inbox s
+    pub same_returned : (s : ℕ) → s < length v.returned
+        → slice_index_or v.returned s [] ≡ sent_by inbox s
     pub returned_made : length v.returned ≤ inbox.senders
 
   -- a pass fits in each of its parts
@@ -95,7 +107,8 @@ pub record IsInboxOf (items : List Message) (views : List View) : Type 0 where
   pub keeper : ℕ
   pub is_inbox : IsInbox sender_of is_end inbox
   pub waits : inbox.queue ≡ items
-  pub fits : (pass : ℕ) (v : View) → get_elem? views pass ≡ some v → Fits inbox seat reader keeper pass v
+  pub fits : (pass : ℕ) (v : View) → get_elem? views pass ≡ some v
+      → Fits inbox seat reader keeper pass v
 
 -- the sender that has sent one more message
 abbrev pub with_sent : View → Message → View
@@ -115,7 +128,14 @@ Takes v message w = w ≡ with_taken v message
 
 -- the inbox that a keeper knows to which every pass came back
 abbrev pub whole_inbox : View → List Message → InboxState Message
-whole_inbox v items = record { senders = v.senders; capacity = v.capacity; sent = v.returned; queue = items; got = v.got }
+whole_inbox v items =
+    record {
+      senders = v.senders;
+      capacity = v.capacity;
+      sent = v.returned;
+      queue = items;
+      got = v.got;
+    }
 
 -- what the keeper knows, with what waits, is an inbox
 abbrev pub IsWholeInbox : View → List Message → Type 0

@@ -11,7 +11,8 @@ use Rattle.exchange_channels.specs.inner.Keeps.{keeper_with_returned, keeper_wit
 use Rattle.exchange_channels.specs.inner.Outlets.{places_of}
 
 -- these are the ends of all outlets and of all intakes at these keepers, in order, and none came back
-pub record AreEndsOf (cells : List PortState) (outs : List OutletState) (ins : List IntakeState) : Type 0 where
+pub record AreEndsOf (cells : List PortState) (outs : List OutletState)
+    (ins : List IntakeState) : Type 0 where
   pub none : All (λ cell. cell.knows.returned ≡ []) cells
   pub senders : All (λ cell. cell.knows.senders ≡ length outs) cells
   pub outs_places : All (λ out. out.wiring.places ≡ places_of cells) outs
@@ -32,17 +33,20 @@ pub record AreNextPorts (cells ports : List PortState) : Type 0 where
 -- each keeper has back the end of a sender at its channel
 abbrev pub HavePortsBack : List PortState → List PortState → List PortState → Type 0
 HavePortsBack ports old new = (k : ℕ) (d e : PortState) → k < length old
-    → slice_index_or new k d ≡ keeper_with_returned (slice_index_or old k d) (slice_index_or ports k e).knows.sent
+    → slice_index_or new k d
+    ≡ keeper_with_returned (slice_index_or old k d) (slice_index_or ports k e).knows.sent
 
 -- each keeper has back what every outlet sent to its cell
 abbrev pub HaveOutletsBack : List OutletState → List PortState → List PortState → Type 0
 HaveOutletsBack outs old new = (k : ℕ) (d : PortState) → k < length old
-    → slice_index_or new k d ≡ keeper_with_all (slice_index_or old k d) (map (λ out. sent_to out k) outs)
+    → slice_index_or new k d
+    ≡ keeper_with_all (slice_index_or old k d) (map (λ out. sent_to out k) outs)
 
 -- each keeper has back the intake of its cell
 abbrev pub HaveIntakesBack : List IntakeState → List PortState → List PortState → Type 0
 HaveIntakesBack ins old new = (k : ℕ) (d : PortState) (e : IntakeState) → k < length old
-    → slice_index_or new k d ≡ keeper_with_receiver (slice_index_or old k d) (slice_index_or ins k e).got
+    → slice_index_or new k d
+    ≡ keeper_with_receiver (slice_index_or old k d) (slice_index_or ins k e).got
 
 -- each keeper knows what every outlet sent to its cell
 abbrev pub KnowAllSent : List OutletState → List PortState → Type 0

@@ -14,7 +14,8 @@ use Rattle.exchange_channels.specs.inner.CellRule.{with_taken}
 
 -- the intake of a cell whose end is this port
 abbrev pub intake_of : ℕ → ℕ → PortState → IntakeState
-intake_of senders cell port = record { place = port.place; senders = senders; cell = cell; got = port.knows.got }
+intake_of senders cell port =
+    record { place = port.place; senders = senders; cell = cell; got = port.knows.got }
 
 -- an intake has taken nothing, and noted no end mark
 pub record IsIntake (senders : ℕ) (port : PortState) (ended : List Bool) : Type 0 where
@@ -29,7 +30,8 @@ pub record TakingState : Type 0 where
 
 -- an end mark is noted only where it was taken, and the batches that were kept are all that were taken
 pub record IsTaking (t : TakingState) : Type 0 where
-  pub ends_taken : (s : ℕ) → s < length t.ended → slice_index_or t.ended s false ≡ true → list_any is_end (of_sender sender_of s t.port.knows.got) ≡ true
+  pub ends_taken : (s : ℕ) → s < length t.ended → slice_index_or t.ended s false ≡ true
+      → list_any is_end (of_sender sender_of s t.port.knows.got) ≡ true
   pub all_kept : IfOk t.drained (λ drained. drained ≡ drained_of t.port.knows.got)
 
 -- the sums of a tap once it was told the rows of a batch; an end mark tells it nothing

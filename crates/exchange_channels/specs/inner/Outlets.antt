@@ -13,7 +13,8 @@ places_of ports = map (λ port. port.place) ports
 
 -- the wiring of cells whose channels these ends are at
 abbrev pub wiring_of : List PortState → ℕ → ℕ → WiringState
-wiring_of ports senders capacity = record { places = places_of ports; senders = senders; capacity = capacity }
+wiring_of ports senders capacity =
+    record { places = places_of ports; senders = senders; capacity = capacity }
 
 -- the outlet of a sender whose end at each cell is one of these ports
 abbrev pub outlet_of : ℕ → ℕ → ℕ → List PortState → OutletState

@@ -36,7 +36,8 @@ place_in (width ∷ widths) c =
 
 -- the columns of a variable, by items from 1 and places from 0
 abbrev pub places_in : List ℕ → List ℕ → List (ℕ × ℕ)
-places_in widths variable = map (λ c. let place = place_in widths c in (place.0 + 1, place.1)) variable
+places_in widths variable =
+    map (λ c. let place = place_in widths c in (place.0 + 1, place.1)) variable
 
 -- no more than these are counted: there are at most eight atoms and eight variables, and fewer than
 -- 2^32 tests or columns of each

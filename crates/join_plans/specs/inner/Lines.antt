@@ -52,8 +52,10 @@ choice_line choice.Keys local shape joined = note.Rs local
 choice_line (choice.Broadcast stays) local shape joined = note.Br local (suc stays)
 
 -- the lines of a join: of its items, and where there are several of what is joined, of its variables and its shuffle
-abbrev pub join_lines : ShuffleChoice → JoinKind → Shape → Reduction → List ℕ → List ℕ → List ℕ → List PlanNote
+abbrev pub join_lines : ShuffleChoice → JoinKind → Shape → Reduction → List ℕ → List ℕ → List ℕ
+    → List PlanNote
 join_lines choice local shape reduction (one ∷ []) kept joined = item_lines shape (one ∷ []) kept
 join_lines choice local shape reduction rows kept joined =
-    item_lines shape rows kept ++ reduce_lines reduction joined ++ variable_notes (shuffle_of choice) shape
+    item_lines shape rows kept ++ reduce_lines reduction joined
+    ++ variable_notes (shuffle_of choice) shape
     ++ choice_line choice local shape joined ∷ []

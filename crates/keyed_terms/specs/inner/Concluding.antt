@@ -9,7 +9,8 @@ use Rattle.term_runs.specs.declared.moved.Moved.{Moved}
 use Rattle.term_runs.specs.Notes.{IsNoteSince}
 
 -- these rows and receipts, and one note, of what was told since
-pub record IsConcluded {T : Type 0} (totals : T → Totals) (statement : ℕ) (exchange : Exchange) (since : List Totals)
+pub record IsConcluded {T : Type 0} (totals : T → Totals) (statement : ℕ) (exchange : Exchange)
+    (since : List Totals)
     (made : List Rows) (receipts : List ReceiptState) (taps : List T) (run : Moved) : Type 0 where
   pub parts_are : run.parts ≡ made
   pub receipts_are : run.receipts ≡ receipts

@@ -36,16 +36,19 @@ pub record AreFormed (kinds : Kinds) (n : ℕ) (listed partials : List Rows) : T
 
 -- the fault of one of them, or memory was refused
 abbrev pub IsFaultOf : List (Result Rows AggFault) → AggFault → Type 0
-IsFaultOf all wrong = ((w : ℕ) × (w < length all) × ((d : Result Rows AggFault) → slice_index_or all w d ≡ Err wrong))
+IsFaultOf all wrong =
+    ((w : ℕ) × (w < length all) × ((d : Result Rows AggFault) → slice_index_or all w d ≡ Err wrong))
     ⊎ (wrong ≡ fault.Memory)
 
 -- what forming partial rows of what a worker's own rows emit answers
-pub record IsPicked (kinds : Kinds) (picks : List Scalar) (own : Rows) (answer : Result Rows Memory) : Type 0 where
+pub record IsPicked (kinds : Kinds) (picks : List Scalar) (own : Rows)
+    (answer : Result Rows Memory) : Type 0 where
   pub rows : IfOk answer (SameBag (partial_rows kinds (map (emitted picks) own)))
   pub fits : OnOk answer (list_all (all_fit picks) own ≡ true)
   pub few : length own < 2 ^ 32
 
 -- what merging partial rows answers
 abbrev pub IsMerged : Kinds → Rows → Result Rows AggFault → Type 0
-IsMerged kinds partials (Ok made) = SameBag (merged kinds partials) made × (merged_fits kinds partials ≡ true)
+IsMerged kinds partials (Ok made) =
+    SameBag (merged kinds partials) made × (merged_fits kinds partials ≡ true)
 IsMerged kinds partials (Err wrong) = Overflows wrong (merged_fits kinds partials)

@@ -17,7 +17,8 @@ use Rattle.keyed_terms.specs.inner.Making.{AreMadeBy}
 
 -- the exchange of both, after which no rows are listed yet
 abbrev pub unlisted_exchange : Settings → List Rows → List Rows → PlacedExchange
-unlisted_exchange s left right = row_exchange (usual_placing s) exchange.Diff (placed_rows left ∷ placed_rows right ∷ []) []
+unlisted_exchange s left right =
+    row_exchange (usual_placing s) exchange.Diff (placed_rows left ∷ placed_rows right ∷ []) []
 
 -- the rows that have their home at a worker
 abbrev pub at_home : Settings → List Rows → ℕ → Rows
@@ -33,7 +34,8 @@ pub record HaveMet {T : Type 0} (s : Settings) (left right : List Rows) (totals 
 
 -- what bringing them together does, whatever it answers
 pub record IsMeeting {T : Type 0} (s : Settings) (left right : List Rows) (totals : T → Totals) (tag : T → ℕ)
-    (before after : List T) (answer : Result (List Rows × List Rows × List ReceiptState) Memory) : Type 0 where
+    (before after : List T)
+    (answer : Result (List Rows × List Rows × List ReceiptState) Memory) : Type 0 where
   pub fair : AreFair totals tag before after
   pub unlisted : All (λ t. IsLow (totals t)) after
   pub ok : IfOk answer (λ made. HaveMet s left right totals tag before after made.0 made.1 made.2)

@@ -20,15 +20,19 @@ bare t = record { schema = t.schema; rows = [] }
 
 -- the columns of the first of two relations, if there are both
 abbrev pub columns_of_two : Option RelationState → Option RelationState → Option (List Column)
-columns_of_two a b = option_and_then (λ (t : RelationState). option_map (λ (u : RelationState). t.schema) b) a
+columns_of_two a b =
+    option_and_then (λ (t : RelationState). option_map (λ (u : RelationState). t.schema) b) a
 
 -- the environment after a statement, with the columns alone
 abbrev pub declared : List File → RelationEnvironment → StatementTree → RelationEnvironment
 declared files env tree.Nothing = env
-declared files env (tree.Assign name r) = option_map_or (λ (t : RelationState). with_name env name (bare t)) (relation_of files env r) env
-declared files env (tree.Store name key) = option_map_or (λ (t : RelationState). with_key env key (bare t)) (assigned_to env name) env
+declared files env (tree.Assign name r) =
+    option_map_or (λ (t : RelationState). with_name env name (bare t)) (relation_of files env r) env
+declared files env (tree.Store name key) =
+    option_map_or (λ (t : RelationState). with_key env key (bare t)) (assigned_to env name) env
 
 -- whether each statement of the rest stands for something, told from columns alone
 abbrev pub all_declared : List File → RelationEnvironment → List StatementTree → Bool
 all_declared files env [] = true
-all_declared files env (s ∷ rest) = is_defined files env s && all_declared files (declared files env s) rest
+all_declared files env (s ∷ rest) =
+    is_defined files env s && all_declared files (declared files env s) rest

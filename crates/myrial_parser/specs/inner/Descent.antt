@@ -159,7 +159,8 @@ module _ (sign : Terminal → Option BinOp) (operand : Parser Tree) where
 
   abbrev pub pair_by : Tree → Option BinOp → Parser Tree
   pair_by left None i = Some (left, i)
-  pair_by left (Some op) i = operand (drop 1 i) >>= λ right rest. Some (tree.Bin op left right, rest)
+  pair_by left (Some op) i =
+      operand (drop 1 i) >>= λ right rest. Some (tree.Bin op left right, rest)
 
   -- an operand, or two with an operator between them
   abbrev pub pair : Parser Tree
@@ -169,7 +170,8 @@ module _ (symbol : Symbol) (node : Tree → Tree) (operand : Parser Tree) where
   -- an operand behind none or more of a symbol
   abbrev pub prefixed : Parser Tree
   prefixed [] = operand []
-  prefixed (x ∷ i) = if is_symbol symbol (Some x) then (prefixed i >>= λ a rest. Some (node a, rest)) else operand (x ∷ i)
+  prefixed (x ∷ i) = if is_symbol symbol (Some x)
+      then (prefixed i >>= λ a rest. Some (node a, rest)) else operand (x ∷ i)
 
 -- how many of a symbol are ahead, and the terminals behind them
 abbrev pub count_ahead : Symbol → Input → ℕ
@@ -178,14 +180,16 @@ count_ahead symbol (x ∷ i) = if is_symbol symbol (Some x) then suc (count_ahea
 
 -- what is read between an opening and a closing parenthesis
 abbrev pub in_parens : {A : Type 0} → Parser A → Parser A
-in_parens inside i = expect s.OpenParen i >>= λ _ rest. inside rest >>= λ a end. expect s.CloseParen end >>= λ _ behind. Some (a, behind)
+in_parens inside i = expect s.OpenParen i >>= λ _ rest. inside rest >>= λ a end.
+    expect s.CloseParen end >>= λ _ behind. Some (a, behind)
 
 -- ---- expressions
 
 -- a column of an alias
 abbrev pub column_of : Name → Parser ColRef
 column_of alias i =
-    if sees s.Dollar i then (number (drop 1 i) >>= λ place rest. Some (column.OfPlace alias place, rest))
+    if sees s.Dollar i
+    then (number (drop 1 i) >>= λ place rest. Some (column.OfPlace alias place, rest))
     else (name i >>= λ n rest. Some (column.OfName alias n, rest))
 
 -- a column by what stands behind its first name
@@ -209,7 +213,8 @@ module _ (inner : Parser Tree) where
   -- what stands in the parentheses of an aggregate
   abbrev pub aggregated : Keyword → Parser Tree
   aggregated keyword.CountAll i = Some (tree.AggAll agg.CountAll, i)
-  aggregated keyword.Count i = if sees s.Star i then Some (tree.AggAll agg.CountAll, drop 1 i) else aggregate agg.Count i
+  aggregated keyword.Count i =
+      if sees s.Star i then Some (tree.AggAll agg.CountAll, drop 1 i) else aggregate agg.Count i
   aggregated keyword.Sum i = aggregate agg.Sum i
   aggregated keyword.Min i = aggregate agg.Min i
   aggregated keyword.Max i = aggregate agg.Max i
@@ -220,8 +225,10 @@ module _ (inner : Parser Tree) where
   fixed_by (Word keyword.True) i = Some (tree.Lit (value.Bool true), i)
   fixed_by (Word keyword.False) i = Some (tree.Lit (value.Bool false), i)
   fixed_by (Word word) i = in_parens (aggregated word) i
-  fixed_by (Sign sign.Dollar) i = number i >>= λ place rest. Some (tree.Col (column.ByPlace place), rest)
-  fixed_by (Sign sign.OpenParen) i = inner i >>= λ a rest. expect s.CloseParen rest >>= λ _ end. Some (a, end)
+  fixed_by (Sign sign.Dollar) i =
+      number i >>= λ place rest. Some (tree.Col (column.ByPlace place), rest)
+  fixed_by (Sign sign.OpenParen) i =
+      inner i >>= λ a rest. expect s.CloseParen rest >>= λ _ end. Some (a, end)
   fixed_by (Sign _) i = None
 
   abbrev pub primary_by : Option Terminal → Parser Tree
@@ -241,13 +248,16 @@ module _ (inner : Parser Tree) where
 
   unfoldable pub signed : Parser Tree
   signed [] = primary []
-  signed (x ∷ i) = if is_symbol s.Minus (Some x) then behind_minus (first i) (drop 1 i) (signed i) else primary (x ∷ i)
+  signed (x ∷ i) = if is_symbol s.Minus (Some x) then behind_minus (first i) (drop 1 i) (signed i)
+      else primary (x ∷ i)
 
   -- what is read behind so many minus signs, by the terminal that is ahead
   abbrev pub signed_behind : ℕ → Option Terminal → Parser Tree
   signed_behind zero next i = primary i
-  signed_behind (suc count) (Some (t.Number n)) i = Some (wrapped tree.Neg count (negative n), drop 1 i)
-  signed_behind (suc count) next i = primary i >>= λ a rest. Some (wrapped tree.Neg (suc count) a, rest)
+  signed_behind (suc count) (Some (t.Number n)) i =
+      Some (wrapped tree.Neg count (negative n), drop 1 i)
+  signed_behind (suc count) next i =
+      primary i >>= λ a rest. Some (wrapped tree.Neg (suc count) a, rest)
 
   unfoldable pub product : Parser Tree
   product = chain product_sign signed
@@ -292,7 +302,9 @@ module _ {A : Type 0} (item : Parser A) where
   abbrev pub separated_from : ℕ → Parser (List A)
   separated_from zero i = None
   separated_from (suc turns) i = item i >>= λ a rest.
-      if sees s.Comma rest then (separated_from turns (drop 1 rest) >>= λ others end. Some (a ∷ others, end)) else Some (a ∷ [], rest)
+      if sees s.Comma rest
+      then (separated_from turns (drop 1 rest) >>= λ others end. Some (a ∷ others, end))
+      else Some (a ∷ [], rest)
 
   -- one or more items with commas between them
   abbrev pub separated : Parser (List A)
@@ -303,7 +315,9 @@ module _ {A : Type 0} (item : Parser A) where
 -- a key behind its first two names, a program where no third one follows
 abbrev pub key_behind_two : Name → Name → Parser Key
 key_behind_two first second i =
-    if sees s.Colon i then (name (drop 1 i) >>= λ third rest. Some (record { user = first; program = second; name = third }, rest))
+    if sees s.Colon i
+    then (name (drop 1 i) >>= λ third rest.
+    Some (record { user = first; program = second; name = third }, rest))
     else Some (record { user = codes "public"; program = first; name = second }, i)
 
 -- a key behind its first name
@@ -328,7 +342,8 @@ abbrev pub kind : Parser ColType
 kind i = kind_by (first i) (drop 1 i)
 
 unfoldable pub column_definition : Parser Column
-column_definition i = name i >>= λ n rest. expect s.Colon rest >>= λ _ behind. kind behind >>= λ k end. Some (record { name = n; kind = k }, end)
+column_definition i = name i >>= λ n rest. expect s.Colon rest >>= λ _ behind.
+    kind behind >>= λ k end. Some (record { name = n; kind = k }, end)
 
 -- whether this word, which isn't reserved, is ahead
 abbrev pub is_word_of : List ℕ → Option Terminal → Bool
@@ -352,13 +367,17 @@ quoted i = quoted_by (first i) (drop 1 i)
 
 -- how many records are passed over
 unfoldable pub skip : Parser ℕ
-skip i = if sees s.Comma i then (word (codes "skip") (drop 1 i) >>= λ _ rest. expect s.Eq rest >>= λ _ rest. number rest) else Some (0, i)
+skip i = if sees s.Comma i
+    then (word (codes "skip") (drop 1 i) >>= λ _ rest. expect s.Eq rest >>= λ _ rest. number rest)
+    else Some (0, i)
 
 unfoldable pub form : Parser LoadForm
-form i = called (codes "schema") (separated column_definition) i >>= λ columns rest. skip rest >>= λ n end. Some (record { schema = columns; skip = n }, end)
+form i = called (codes "schema") (separated column_definition) i >>= λ columns rest.
+    skip rest >>= λ n end. Some (record { schema = columns; skip = n }, end)
 
 unfoldable pub load : Parser Load
-load i = quoted i >>= λ file rest. expect s.Comma rest >>= λ _ rest. called (codes "csv") form rest >>= λ f end. Some (record { file = file; form = f }, end)
+load i = quoted i >>= λ file rest. expect s.Comma rest >>= λ _ rest.
+    called (codes "csv") form rest >>= λ f end. Some (record { file = file; form = f }, end)
 
 -- whether the word `load` is ahead, and a parenthesis behind it; elsewhere it is a name
 abbrev pub sees_load : Input → Bool
@@ -371,25 +390,30 @@ source i =
     else (name i >>= λ n rest. Some (Named n, rest)))
 
 unfoldable pub two_sources : Parser (Operand × Operand)
-two_sources i = source i >>= λ left rest. expect s.Comma rest >>= λ _ behind. source behind >>= λ right end. Some ((left, right), end)
+two_sources i = source i >>= λ left rest. expect s.Comma rest >>= λ _ behind.
+    source behind >>= λ right end. Some ((left, right), end)
 
 -- a name behind `as`, where there is one
 abbrev pub name_behind_as : Parser (Option Name)
-name_behind_as i = if sees s.As i then (name (drop 1 i) >>= λ n rest. Some (Some n, rest)) else Some (None, i)
+name_behind_as i =
+    if sees s.As i then (name (drop 1 i) >>= λ n rest. Some (Some n, rest)) else Some (None, i)
 
 unfoldable pub item : Parser FromItem
-item i = source i >>= λ o rest. name_behind_as rest >>= λ alias end. Some (record { source = o; alias = unwrap_or alias (own_name o) }, end)
+item i = source i >>= λ o rest. name_behind_as rest >>= λ alias end.
+    Some (record { source = o; alias = unwrap_or alias (own_name o) }, end)
 
 -- an expression that nests no deeper than there are terminals ahead
 unfoldable pub whole_expression : Parser Tree
 whole_expression i = expression (length i + 1) i
 
 unfoldable pub condition : Parser (Option Tree)
-condition i = if sees s.Where i then (whole_expression (drop 1 i) >>= λ a rest. Some (Some a, rest)) else Some (None, i)
+condition i = if sees s.Where i then (whole_expression (drop 1 i) >>= λ a rest. Some (Some a, rest))
+    else Some (None, i)
 
 -- an expression that is emitted, with a name where one is given
 unfoldable pub emitted : Parser EmitTree
-emitted i = whole_expression i >>= λ a rest. name_behind_as rest >>= λ n end. Some (tree.One a n, end)
+emitted i = whole_expression i >>= λ a rest. name_behind_as rest >>= λ n end.
+    Some (tree.One a n, end)
 
 -- the alias of an item all of whose columns are emitted
 unfoldable pub emitted_alias : Parser EmitTree
@@ -402,16 +426,19 @@ emit i =
 
 -- what a comprehension in brackets emits, up to the closing bracket
 unfoldable pub bracketed_emits : Parser (List EmitTree)
-bracketed_emits i = expect s.Emit i >>= λ _ rest. separated emit rest >>= λ all rest. expect s.CloseBracket rest >>= λ _ end. Some (all, end)
+bracketed_emits i = expect s.Emit i >>= λ _ rest. separated emit rest >>= λ all rest.
+    expect s.CloseBracket rest >>= λ _ end. Some (all, end)
 
 unfoldable pub comprehension : Parser RelTree
 comprehension i =
-    expect s.From i >>= λ _ rest. separated item rest >>= λ from rest. condition rest >>= λ where_ rest. bracketed_emits rest >>= λ all end.
+    expect s.From i >>= λ _ rest. separated item rest >>= λ from rest.
+    condition rest >>= λ where_ rest. bracketed_emits rest >>= λ all end.
     Some (tree.From from where_ all, end)
 
 -- what stands in the parentheses of a word
 unfoldable pub argument : Keyword → Parser RelTree
-argument keyword.Empty i = separated column_definition i >>= λ columns rest. Some (tree.Empty columns, rest)
+argument keyword.Empty i =
+    separated column_definition i >>= λ columns rest. Some (tree.Empty columns, rest)
 argument keyword.Distinct i = source i >>= λ o rest. Some (tree.Distinct o, rest)
 argument keyword.UnionAll i = two_sources i >>= λ p rest. Some (tree.UnionAll p.0 p.1, rest)
 argument keyword.Diff i = two_sources i >>= λ p rest. Some (tree.Diff p.0 p.1, rest)
@@ -422,7 +449,9 @@ copied i = source i >>= λ o rest. Some (tree.Copy o, rest)
 
 -- a comprehension behind the word `select`
 unfoldable pub selection : Parser RelTree
-selection i = separated emit i >>= λ all rest. expect s.From rest >>= λ _ rest. separated item rest >>= λ from rest. condition rest >>= λ where_ end. Some (tree.From from where_ all, end)
+selection i = separated emit i >>= λ all rest. expect s.From rest >>= λ _ rest.
+    separated item rest >>= λ from rest. condition rest >>= λ where_ end.
+    Some (tree.From from where_ all, end)
 
 -- whether the word `select` is ahead, and something behind it; alone it is a name
 unfoldable pub sees_select : Input → Bool
@@ -445,12 +474,14 @@ relation i = relation_by (symbol_ahead i) i
 -- ---- statements
 
 unfoldable pub assignment : Parser StatementTree
-assignment i = name i >>= λ n rest. expect s.Eq rest >>= λ _ behind. relation behind >>= λ r end. Some (tree.Assign n r, end)
+assignment i = name i >>= λ n rest. expect s.Eq rest >>= λ _ behind. relation behind >>= λ r end.
+    Some (tree.Assign n r, end)
 
 -- what stands behind `store`
 unfoldable pub store : Parser StatementTree
 store i =
-    expect s.OpenParen i >>= λ _ rest. name rest >>= λ n rest. expect s.Comma rest >>= λ _ rest. key rest >>= λ k rest.
+    expect s.OpenParen i >>= λ _ rest. name rest >>= λ n rest. expect s.Comma rest >>= λ _ rest.
+    key rest >>= λ k rest.
     expect s.CloseParen rest >>= λ _ end. Some (tree.Store n k, end)
 
 -- a statement that isn't empty

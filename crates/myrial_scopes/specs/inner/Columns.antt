@@ -15,7 +15,8 @@ is_emitted (Some alias) c = same_name c.alias alias
 
 -- the columns of the items with this alias, or of all, among the first n of the scope
 abbrev pub emits_first : List ScopeColumn → Option Name → ℕ → List Emit
-emits_first scope alias n = map (emit_at scope) (places_where (λ place c. is_emitted alias c) (take n scope))
+emits_first scope alias n =
+    map (emit_at scope) (places_where (λ place c. is_emitted alias c) (take n scope))
 
 -- the columns of the items with this alias, or of all
 abbrev pub emits_under : List ScopeColumn → Option Name → List Emit

@@ -21,7 +21,8 @@ class_by leaders column =
 -- whether no smaller column has its leader
 abbrev pub is_first_by : List ℕ → ℕ → Bool
 is_first_by leaders column =
-    not (list_any (λ d. nat_lt d column && slice_index leaders d == slice_index leaders column) (range_with_len 0 (length leaders)))
+    not (list_any (λ d. nat_lt d column && slice_index leaders d == slice_index leaders column)
+    (range_with_len 0 (length leaders)))
 
 -- the class of a column, where the column is the first of its class and the class is a join variable
 abbrev pub variables_at : List ℕ → List ℕ → ℕ → List (List ℕ)

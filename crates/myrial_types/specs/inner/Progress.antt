@@ -36,7 +36,12 @@ pub record Progress : Type 0 where
 
 -- what the code knows
 abbrev pub known_of : code.Progress → Progress
-known_of p = record { names = p.names; loads = p.loads.items; steps = map step_tree_of p.steps; stores = p.stores }
+known_of p = record {
+  names = p.names;
+  loads = p.loads.items;
+  steps = map step_tree_of p.steps;
+  stores = p.stores;
+}
 
 -- before the first statement
 abbrev pub nothing_known : Progress
@@ -45,7 +50,12 @@ nothing_known = record { names = nothing_yet; loads = []; steps = []; stores = [
 -- a step more, whose statement has this number and assigns to this name
 abbrev pub with_step : ℕ → Progress → Name → Typed → Progress
 with_step number p name t =
-    record { names = with_result number p.names name t; loads = p.loads; steps = p.steps ++ step_of number t ∷ []; stores = p.stores }
+    record {
+      names = with_result number p.names name t;
+      loads = p.loads;
+      steps = p.steps ++ step_of number t ∷ [];
+      stores = p.stores;
+    }
 
 -- a store more, whose statement has this number and stores what this name stands for
 abbrev pub with_store : ℕ → Progress → Name → Key → Progress
@@ -58,11 +68,13 @@ with_store number p name key = record {
 
 -- the steps and the stores of a statement of this number
 abbrev pub steps_in : List File → ℕ → Names → StatementTree → List StepTree
-steps_in files number names (tree.Assign name r) = option_to_list (option_map (step_of number) (term_of files names r))
+steps_in files number names (tree.Assign name r) =
+    option_to_list (option_map (step_of number) (term_of files names r))
 steps_in files number names _ = []
 
 abbrev pub stores_in : ℕ → Names → StatementTree → List StoreStep
-stores_in number names (tree.Store name key) = option_to_list (option_map (store_of number key) (assigned_to names name))
+stores_in number names (tree.Store name key) =
+    option_to_list (option_map (store_of number key) (assigned_to names name))
 stores_in number names _ = []
 
 -- behind a statement of this number

@@ -15,7 +15,13 @@ use Rattle.myrial_types.specs.Kinds.{is_unknown_behind, meanings_of, references_
 
 -- nothing is wrong
 abbrev pub no_faults : Faults
-no_faults = record { relation = false; column = false; ambiguous = false; mismatch = false; misplaced = false }
+no_faults = record {
+  relation = false;
+  column = false;
+  ambiguous = false;
+  mismatch = false;
+  misplaced = false;
+}
 
 -- what is wrong with one of two parts
 abbrev pub either_faults : Faults → Faults → Faults

@@ -28,7 +28,8 @@ bare_atoms kinds = map (λ own. record { kinds = own; keeps = [] }) kinds
 -- the first kind of a comprehension over these items, its limits among them
 abbrev pub items_kind : List MeantItem → Option Tree → List EmitTree → Option TypeKind
 items_kind items condition emits =
-    option_or (comprehension_kind (schemas_of items) condition emits) (limit_kind (comprehension_term items condition emits))
+    option_or (comprehension_kind (schemas_of items) condition emits)
+    (limit_kind (comprehension_term items condition emits))
 
 -- a relation expression of one operand, and of two
 abbrev pub one_operand : Bool → Operand → RelTree

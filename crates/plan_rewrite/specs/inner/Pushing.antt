@@ -42,11 +42,13 @@ ties_within span variables = flat_map (λ v. ties_in (filter (lies_in span) v)) 
 
 -- what is said of the columns of a span alone: the tests that read them and no others, and that those of a variable are equal
 abbrev pub own_tests : List Scalar → List (List ℕ) → Span → List Scalar
-own_tests tests variables span = filter (reads_within span) tests ++ map tie_test (ties_within span variables)
+own_tests tests variables span =
+    filter (reads_within span) tests ++ map tie_test (ties_within span variables)
 
 -- the atom of a span, which keeps what is said of its columns alone
 abbrev pub pushed_atom : List Scalar → List (List ℕ) → Span → AtomTree → AtomTree
-pushed_atom tests variables span a = record { kinds = a.kinds; keeps = map (lowered span.from) (own_tests tests variables span) }
+pushed_atom tests variables span a =
+    record { kinds = a.kinds; keeps = map (lowered span.from) (own_tests tests variables span) }
 
 -- the atoms, of which the first begins at a column, each with its own keeps
 abbrev pub pushed_from : List Scalar → List (List ℕ) → ℕ → List AtomTree → List AtomTree

@@ -23,7 +23,8 @@ record_from fields text = next_record default_config state.StartField fields [] 
 
 -- the first record of a text that has a byte begins with a field
 abbrev pub IsLine : List ℕ → Type 0
-IsLine text = 0 < length text → next_record default_config state.StartRecord [] [] text ≡ record_from [] text
+IsLine text = 0 < length text
+    → next_record default_config state.StartRecord [] [] text ≡ record_from [] text
 
 -- the record of which these fields were read: its other fields follow, or it ends
 abbrev pub record_on : Record → Bool → List ℕ → Option Read
@@ -50,9 +51,11 @@ BeginsWithInt text number more rest =
 -- the text begins with the fields of a record, which writes this row
 abbrev pub BeginsWithRow : List Column → ℕ → List ℕ → List Value → List ℕ → Type 0
 BeginsWithRow schema nth text row rest =
-    (fields : Record) × (record_from [] text ≡ record_on fields false rest) × (row_of_record schema nth fields ≡ Ok row)
+    (fields : Record) × (record_from [] text ≡ record_on fields false rest)
+    × (row_of_record schema nth fields ≡ Ok row)
 
 -- the text begins with the fields of the record behind those of these rows, and its row is added at their end
 abbrev pub AddsRow : List Column → List ℕ → List (List Value) → List (List Value) → List ℕ → Type 0
 AddsRow schema text rows more rest =
-    (row : List Value) × (more ≡ rows ++ row ∷ []) × BeginsWithRow schema (length rows + 1) text row rest
+    (row : List Value) × (more ≡ rows ++ row ∷ [])
+    × BeginsWithRow schema (length rows + 1) text row rest

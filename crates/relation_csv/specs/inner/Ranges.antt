@@ -52,7 +52,8 @@ abbrev pub found_part : List (List Value) → Result (Option (List (List Value))
 found_part rows = Ok (Some rows)
 
 -- each part was found, and they are the rows, one after another
-pub record ArePutTogether (parts : List (Result (Option (List (List Value))) Memory)) (rows : List (List Value)) : Type 0 where
+pub record ArePutTogether (parts : List (Result (Option (List (List Value))) Memory))
+    (rows : List (List Value)) : Type 0 where
   pub found : List (List (List Value))
   pub all : parts ≡ map found_part found
   pub whole : rows ≡ joined found

@@ -49,7 +49,8 @@ pub record IsNumber (found : List Occurrence) (s : List ℕ) (n : ℕ) : Type 0 
 
 -- the number of each occurrence is its place among them
 abbrev pub AreNumbered : List Occurrence → Type 0
-AreNumbered found = (k : ℕ) (d : Occurrence) → k < length found → (slice_index_or found k d).place ≡ k
+AreNumbered found =
+    (k : ℕ) (d : Occurrence) → k < length found → (slice_index_or found k d).place ≡ k
 
 -- the string has this number; the occurrences are still there, and a new one is of this string
 pub record AddsString (old new : List Occurrence) (s : List ℕ) (n : ℕ) : Type 0 where
@@ -77,7 +78,8 @@ pub record IsGathered (values : List Value) (words places : List ℕ) (found : L
   pub long : length words ≡ length values
   pub plain : (strings : List (List ℕ)) (p : ℕ) → p < length values
       → strings_of_value (value_at values p) ≡ []
-      → HasWord strings (value_at values p) × (slice_index words p ≡ word_of strings (value_at values p))
+      → HasWord strings (value_at values p)
+      × (slice_index words p ≡ word_of strings (value_at values p))
   pub strings : (p : ℕ) (s : List ℕ) → p < length values → value_at values p ≡ variant.Str s
       → Contains places p × IsNumber found s (slice_index words p)
   pub at_strings : All (IsStringAt values) places
@@ -126,7 +128,9 @@ pub record AreGathered
 
 -- no string of an occurrence is below one in front of it
 pub record Rise (found : List Occurrence) : Type 0 where
-  pub in_turn : (i j : ℕ) (d : Occurrence) → i ≤ j → j < length found → is_lt (text_order (slice_index_or found j d).string (slice_index_or found i d).string) ≡ false
+  pub in_turn : (i j : ℕ) (d : Occurrence) → i ≤ j → j < length found
+      → is_lt (text_order (slice_index_or found j d).string (slice_index_or found i d).string)
+      ≡ false
 
 -- there is a last one of the strings, and it is this one
 abbrev pub IsLast : List (List ℕ) → List ℕ → Type 0
@@ -134,14 +138,20 @@ IsLast strings s = (0 < length strings) × (slice_index_or strings (length strin
 
 -- of the first occurrences: their strings, each once and ascending, and in the place of each its string's place among them;
 -- in all other places the words are as before
-pub record IsRanked (found : List Occurrence) (done : ℕ) (strings : List (List ℕ)) (old new : List ℕ) : Type 0 where
+pub record IsRanked (found : List Occurrence) (done : ℕ) (strings : List (List ℕ))
+    (old new : List ℕ) : Type 0 where
   pub long : length new ≡ length old
   pub ascending : IsAscending strings
-  pub earlier : (k : ℕ) (d : List ℕ) (o : Occurrence) → k < length strings → (j : ℕ) × (j < done) × (slice_index_or strings k d ≡ (slice_index_or found j o).string)
-  pub ranked : (values : List Value) → All (StandsAt values) found → (j : ℕ) (o : Occurrence) (d : List ℕ) → j < done
+  pub earlier : (k : ℕ) (d : List ℕ) (o : Occurrence) → k < length strings
+      → (j : ℕ) × (j < done) × (slice_index_or strings k d ≡ (slice_index_or found j o).string)
+  pub ranked : (values : List Value) → All (StandsAt values) found
+      → (j : ℕ) (o : Occurrence) (d : List ℕ) → j < done
       → (slice_index new (slice_index_or found j o).place < length strings)
-      × (slice_index_or strings (slice_index new (slice_index_or found j o).place) d ≡ (slice_index_or found j o).string)
-  pub others : (p : ℕ) → ((j : ℕ) (o : Occurrence) → j < done → (slice_index_or found j o).place ≢ p) → slice_index new p ≡ slice_index old p
+      × (slice_index_or strings (slice_index new (slice_index_or found j o).place) d
+      ≡ (slice_index_or found j o).string)
+  pub others : (p : ℕ)
+      → ((j : ℕ) (o : Occurrence) → j < done → (slice_index_or found j o).place ≢ p)
+      → slice_index new p ≡ slice_index old p
 
 -- the rank of each number is the place of its string among strings that ascend
 pub record AreRanksOf (found : List Occurrence) (ranks : List ℕ) (strings : List (List ℕ))
