@@ -16,11 +16,12 @@ use Rattle.algebra.specs.ShapeConditions.{HasKinds}
 use Rattle.algebra.specs.Joins.{IsPart, agrees_in}
 use Rattle.algebra.specs.Rewriting.{AreTables, IsPushed, no_atom}
 use Rattle.algebra.proofs.ShapeLemmas.{both}
+use Rattle.placement.specs.Exchanges.{kept_spreads}
 use Rattle.placement.specs.Layouts.{PlacedRelation, placed_nothing, rows_of}
 use Rattle.placement.specs.Laws.{IsPlaced}
 use Rattle.row_exchange.specs.Routes.{rows_at}
 use Rattle.routed_joins.specs.PlacedJoins.{placed_rows, placed_items}
-use Rattle.run_laws.specs.KeptRuns.{kept_spreads, KeptRowsAreParts}
+use Rattle.run_laws.specs.KeptRuns.{KeptRowsAreParts}
 use Rattle.run_laws.proofs.TypedLemmas.{kinds_at, parts-typed}
 use Rattle.run_laws.proofs.PrefixLemmas.{keeps}
 use Rattle.run_laws.proofs.KeptLemmas.{join-atoms}

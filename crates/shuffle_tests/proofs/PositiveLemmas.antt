@@ -12,9 +12,10 @@ use Rattle.algebra.specs.Shapes.{kept_of}
 use Rattle.algebra.specs.ShapeConditions.{HasKinds}
 use Rattle.algebra.specs.Rewriting.{KeepsAreKept}
 use Rattle.algebra.proofs.ShapeLemmas.{tie-holds}
+use Rattle.placement.specs.Exchanges.{kept_spreads}
 use Rattle.kept_rows.specs.KeptTests.{is_kept}
 use Rattle.routed_joins.specs.RouteJoins.{ArePartsAtWorkers}
-use Rattle.join_runs.specs.KeptSpreads.{AreTypedParts, kept_spreads}
+use Rattle.join_runs.specs.KeptSpreads.{AreTypedParts}
 use Rattle.join_runs.proofs.KeepLemmas.{kept-parts}
 use Rattle.shuffle_tests.specs.inner.Numbers.{is_positive, positive_atom, ListsPositive, AreNumbers}
 
