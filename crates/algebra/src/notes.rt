@@ -41,7 +41,7 @@ pub enum PlanNote {
     },
     /// The rows of each item that are joined, where those that are in no answer are gone.
     Reduced(Counts),
-    /// No row is gone before the join: its items go round in a ring.
+    /// No row is gone before the join: its shape is cyclic, as that of a ring of items is.
     ReduceCyclic,
     /// A join variable: its number from 1, its columns, and where cells are used the parts that it
     /// is spread over.

@@ -1,12 +1,12 @@
 //! The files that a script needs.
-ghost use Rattle.std.specs.Prelude.{◌≡◌, ◌++◌, ◌∷◌, [], false, AllPairs, IfOk, OnOk};
+ghost use Rattle.std.specs.Prelude.{◌≡◌, ◌++◌, ◌∷◌, [], map, IfOk, OnOk};
 ghost use Rattle.std.specs.List.{flat_map};
 ghost use Rattle.indexmap.specs.IndexSet.{insert_all};
 ghost use Rattle.rel_base.specs.Keys.{same_key};
 ghost use Rattle.myrial_ast.specs.Loads.{load_key};
 ghost use Rattle.myrial_ast.specs.Operands.{operands_of};
 ghost use Rattle.myrial_ast.specs.Trees.{rel_tree_of, trees_of};
-ghost use Rattle.myrial_meaning.specs.Fetches.{fetched_keys, fetches, has_key, keys_needed, loads_in};
+ghost use Rattle.myrial_meaning.specs.Fetches.{fetched_keys, fetches, form_among, has_key, keys_needed, loads_in};
 
 use crate::loads::{Load, form_among, push_loads};
 use indexmap::IndexSet;
@@ -136,6 +136,20 @@ fn push_fetch(
     into.push(Fetch { key, form })
 }
 
+/// The fetch of each of these keys, in order, with the form of the first of these loads of its
+/// file.
+fn fetch_each(alloc: Global, keys: &[Key], loads: &[Load]) -> Result<Fetches, Memory>
+    ensures { IfOk result (λ found. found
+        ≡ map (λ key. record { key = key; form = form_among loads.now key }) keys.now) }
+{
+    let mut found = Fetches::new(alloc);
+    for key in keys {
+        let form = form_among(alloc, loads, key)?;
+        push_fetch(alloc, key, form, &mut found)?;
+    }
+    Ok(found)
+}
+
 /// The files that a script needs, each once, in the order of their first scans and loads.
 ///
 /// A scan needs a file where no earlier statement stores its key; a load needs its file in any
@@ -145,10 +159,5 @@ pub fn fetches(alloc: Global, script: &Script) -> Result<Fetches, Memory>
 {
     let keys = needed_keys(alloc, script.as_slice())?;
     let loads = loads_of(alloc, script.as_slice())?;
-    let mut found = Fetches::new(alloc);
-    for key in keys.as_slice() {
-        let form = form_among(alloc, &loads, key)?;
-        push_fetch(alloc, key, form, &mut found)?;
-    }
-    Ok(found)
+    fetch_each(alloc, keys.as_slice(), &loads)
 }

@@ -1,6 +1,6 @@
 use Rattle.std.proofs.Common.{arith}
 use Rattle.std.proofs.lemmas.Grind.{common_steps}
-use Rattle.myrial_types.proofs.fetching.fetches.Goals as goal
+use Rattle.myrial_types.proofs.fetching.fetch_each.Goals as goal
 
 pub loop-key-preserved : goal.loop-key-preserved
 loop-key-preserved c = grind (arith, common_steps)
