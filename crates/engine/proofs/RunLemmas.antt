@@ -28,7 +28,8 @@ use Rattle.placement.specs.Laws.{IsPlaced, IsPlacing, IsReady, HasReadyItems}
 use Rattle.placement.specs.Layouts.{PlacedRelation, Placing, ByKeys, placed_file, placed_stores, rows_of, term_parts}
 use Rattle.placement.specs.Plans.{usual_placing, step_notes}
 use Rattle.placement.proofs.UsualLemmas.{usual_is_placing}
-use Rattle.routed_joins.specs.PlacedJoins.{placed_rows, placed_items, size_of}
+use Rattle.placement.specs.Runs.{size_of, run_exchanges, faults_by, fault_of}
+use Rattle.routed_joins.specs.PlacedJoins.{placed_rows, placed_items}
 use Rattle.term_runs.specs.declared.moved.Moved.{Moved}
 use Rattle.term_runs.specs.TermRuns.{shown_moves, AreShown, no_receipt, AreMoved, AreFair, IsMoved}
 use Rattle.term_runs.proofs.ReceiptLemmas.{joined-runs}
@@ -53,7 +54,7 @@ use Rattle.run_laws.proofs.TermLemmas.{terms_are_of_bags}
 use Rattle.engine.specs.declared.held.Held.{Held}
 use Rattle.engine.specs.declared.noted.Noted.{Noted}
 use Rattle.engine.specs.declared.runs.Ran.{Ran}
-use Rattle.engine.specs.Runs.{run_exchanges, IsRan, AreStoredAt, no_store, a_store, faults_by, fault_of, IsRunFault}
+use Rattle.engine.specs.Runs.{IsRan, AreStoredAt, no_store, a_store, IsRunFault}
 use Rattle.engine.specs.inner.Held.{IsHeld, parts_held, value_held, UsedAreHeld, IsJoinable, HasJoinable, IsRunnable}
 use Rattle.engine.proofs.UsedLemmas.{ready-among, used-with-one-more, used-without-last, used-in-turn, stores-among}
 use Rattle.engine.specs.inner.Steps.{held_exchanges, IsStepDone, numbered_exchanges, bare_exchanges, AreRun, schema_at, held_store}

@@ -26,7 +26,8 @@ use Rattle.algebra.specs.declared.terms.Term.TheVariants as term
 use Rattle.placement.specs.Exchanges.{PlacedExchange, join_exchanges, row_exchange, group_exchange}
 use Rattle.placement.specs.Layouts.{PlacedRelation, by_worker, together, rows_of, listed_parts, parts_by_row, parts_by_key}
 use Rattle.placement.specs.Plans.{usual_placing, join_notes, group_note, term_notes}
-use Rattle.routed_joins.specs.PlacedJoins.{placed_rows, placed_items, size_of}
+use Rattle.placement.specs.Runs.{size_of, faults_by}
+use Rattle.routed_joins.specs.PlacedJoins.{placed_rows, placed_items}
 use Rattle.term_runs.specs.declared.moved.Moved.{Moved}
 use Rattle.term_runs.specs.TermRuns.{AreShown, no_receipt, IsTermRun}
 use Rattle.term_runs.proofs.RunLemmas.{run-made}
@@ -34,7 +35,7 @@ use Rattle.term_runs.proofs.TapLemmas.{fair-none, joined-moves}
 use Rattle.run_laws.proofs.TableLemmas.{tables-equal}
 use Rattle.run_laws.specs.Held.{HasWideParts}
 use Rattle.engine.specs.declared.held.Held.{Held}
-use Rattle.engine.specs.Runs.{faults_by, IsRunFault}
+use Rattle.engine.specs.Runs.{IsRunFault}
 use Rattle.engine.specs.inner.Held.{parts_held, value_held, IsHeld}
 use Rattle.engine.specs.inner.Joins.{IsTold, IsStepJoin, IsStepGroup}
 use Rattle.engine.specs.inner.Terms.{IsStepRun}

@@ -1,30 +1,23 @@
 -- What running a checked script at workers does.
 --
---   prefixes_of kind, faults_by s          what counts as a fault by these settings
---   fault_of s files c                     the fault of a script by them
---   run_exchanges s files c                the exchanges of the needed steps
 --   IsStoredAt stored placed               what a store holds, worker by worker
 --   IsRan s files c ran                    a run stores, plans, counts and shows what is placed
 --   IsRunFault s files c fault             this is wrong with the script, or memory was refused
 --   IsRun ..                               what a run does, whatever it answers
-use Rattle.std.specs.Prelude.{◌≡◌, ⊤, ℕ, List, [], ◌∷◌, map, Option, Some, None, Result, IfOk, IfErr}
+use Rattle.std.specs.Prelude.{◌≡◌, ⊤, ℕ, List, [], ◌∷◌, Option, Some, None, Result, IfOk, IfErr}
 use Rattle.std.specs.List.{flat_map}
 use Rattle.rel_base.specs.Keys.{File}
 use Rattle.rel_base.specs.declared.names.Key.{Key}
 use Rattle.rel_base.specs.declared.faults.RunFault.{RunFault}
 use Rattle.rel_base.specs.declared.faults.RunFault.TheVariants as fault
 use Rattle.rel_io.specs.declared.taps.Totals.{Totals}
-use Rattle.myrial_ast.specs.CandidateFaults.{PrefixRule, Counted, Uncounted, FaultRule}
 use Rattle.bag_laws.specs.Permuted.{SameTables}
-use Rattle.algebra.specs.declared.settings.ShuffleKind.{ShuffleKind}
-use Rattle.algebra.specs.declared.settings.ShuffleKind.TheVariants as shuffle_kind
 use Rattle.algebra.specs.declared.settings.Settings.{Settings}
 use Rattle.algebra.specs.Trees.{CheckedTree}
-use Rattle.algebra.specs.Meanings.{checked_fault}
 use Rattle.placement.specs.Layouts.{PlacedRelation, placed_stores}
-use Rattle.placement.specs.Exchanges.{PlacedExchange, exchanges_of, traffic_of}
+use Rattle.placement.specs.Exchanges.{traffic_of}
 use Rattle.placement.specs.Plans.{usual_placing, plan_of}
-use Rattle.routed_joins.specs.PlacedJoins.{size_of}
+use Rattle.placement.specs.Runs.{size_of, fault_of, run_exchanges}
 use Rattle.term_runs.specs.TermRuns.{shown_moves, AreShown, AreMoved, AreFair}
 use Rattle.engine.specs.declared.runs.SpreadStore.{SpreadStore}
 use Rattle.engine.specs.declared.runs.Ran.{Ran}
@@ -45,25 +38,6 @@ pub data AreStoredAt : List SpreadStore → List (Key × PlacedRelation) → Typ
       → AreStoredAt (stored ∷ rest) (placed ∷ others)
 
 -- ---- a run
-
--- prefixes count where two items are joined at a time
-abbrev pub prefixes_of : ShuffleKind → PrefixRule
-prefixes_of shuffle_kind.Rs = Counted
-prefixes_of shuffle_kind.Hc = Uncounted
-prefixes_of shuffle_kind.Br = Uncounted
-
--- and of the rows that are joined alone
-abbrev pub faults_by : Settings → FaultRule
-faults_by s = record { prefixes = prefixes_of s.shuffle; reduce = s.reduce }
-
--- the fault of the script by these settings
-abbrev pub fault_of : Settings → List File → CheckedTree → Option RunFault
-fault_of s files c = checked_fault (λ number. faults_by s) files c
-
--- the exchanges of the needed steps
-abbrev pub run_exchanges : Settings → List File → CheckedTree → List PlacedExchange
-run_exchanges s files c =
-    map (λ (e : ℕ × PlacedExchange). e.1) (exchanges_of (usual_placing s) files c)
 
 -- nothing is wrong with the script; each store holds what is placed, worker by worker; plan and traffic are those of the
 -- script, and the receipts show its exchanges

@@ -7,10 +7,11 @@ ghost use Rattle.algebra.specs.Conditions.{is_of};
 ghost use Rattle.algebra.specs.Rewriting.{AreTyped};
 ghost use Rattle.algebra.specs.declared.terms.Step.{Step};
 ghost use Rattle.algebra.specs.declared.terms.StoreStep.{StoreStep};
+ghost use Rattle.placement.specs.Runs.{fault_of};
 ghost use Rattle.run_laws.specs.Values.{IsKnown};
 ghost use Rattle.run_laws.specs.Rewritten.{needed};
 ghost use Rattle.term_runs.specs.TermRuns.{AreFair};
-ghost use Rattle.engine.specs.Runs.{fault_of, IsRunFault, IsRun};
+ghost use Rattle.engine.specs.Runs.{IsRunFault, IsRun};
 ghost use Rattle.engine.specs.inner.Held.{IsHeld};
 ghost use Rattle.engine.specs.inner.Steps.{AreRun, schema_at, held_store};
 

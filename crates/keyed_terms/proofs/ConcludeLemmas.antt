@@ -14,8 +14,8 @@ use Rattle.bag_laws.specs.Permuted.{SameTables, no_table, a_table}
 use Rattle.algebra.specs.declared.settings.Settings.{Settings}
 use Rattle.placement.specs.Exchanges.{PlacedExchange, row_counts}
 use Rattle.placement.specs.Layouts.{by_worker}
+use Rattle.placement.specs.Runs.{size_of}
 use Rattle.row_exchange.specs.Moves.{sent, received}
-use Rattle.routed_joins.specs.PlacedJoins.{size_of}
 use Rattle.row_exchange.specs.Exchanges.{IsTold}
 use Rattle.row_exchange.proofs.MessageLemmas.{parity}
 use Rattle.routed_joins.specs.Listings.{IsLow}

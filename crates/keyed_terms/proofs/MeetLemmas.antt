@@ -11,8 +11,8 @@ use Rattle.myrial_ast.specs.Combinations.{Row, Rows}
 use Rattle.algebra.specs.declared.settings.Settings.{Settings}
 use Rattle.hash_partition.specs.Hashing.{home_of}
 use Rattle.placement.specs.Exchanges.{PlacedExchange}
+use Rattle.placement.specs.Runs.{size_of}
 use Rattle.row_exchange.specs.Moves.{Move, sent, received}
-use Rattle.routed_joins.specs.PlacedJoins.{size_of}
 use Rattle.row_exchange.specs.Exchanges.{Shows, IsTold}
 use Rattle.routed_joins.specs.Listings.{IsLow}
 use Rattle.term_runs.specs.TermRuns.{moves_alone, AreShown, no_receipt, a_receipt, all_sent, all_received, all_listed, AreMoved, AreFair}

@@ -25,8 +25,9 @@ use Rattle.placement.specs.Plans.{plan_of, usual_placing}
 use Rattle.placement.proofs.ScriptLemmas.{parts_hold_the_rows}
 use Rattle.placement.proofs.StoredLemmas.{placed_are_stored}
 use Rattle.placement.proofs.UsualLemmas.{usual_is_placing}
+use Rattle.placement.specs.Runs.{fault_of}
 use Rattle.plan_printer.specs.TrafficTexts.{IsWhole}
-use Rattle.engine.specs.Runs.{IsRan, IsRunFault, fault_of}
+use Rattle.engine.specs.Runs.{IsRan, IsRunFault}
 use Rattle.engine.specs.declared.runs.Ran.{Ran}
 use Rattle.output_texts.specs.Laws.{SortedLinesAreTheText}
 use Rattle.output_texts.specs.OutputText.{output_text, relation_lines}

@@ -16,7 +16,7 @@ use Rattle.algebra.specs.Trees.{CheckedTree}
 use Rattle.myrial_types.specs.Checking.{checked_of}
 use Rattle.placement.specs.Exchanges.{traffic_of}
 use Rattle.placement.specs.Plans.{usual_placing, plan_of}
-use Rattle.engine.specs.Runs.{prefixes_of}
+use Rattle.placement.specs.Runs.{prefixes_of}
 use Rattle.plan_printer.specs.PlanTexts.{plan_text}
 use Rattle.plan_printer.specs.TrafficTexts.{traffic_text}
 use Rattle.output_texts.specs.OutputText.{output_text}

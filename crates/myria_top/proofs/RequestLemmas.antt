@@ -4,7 +4,7 @@ use Rattle.std.specs.Coded.{×_prop, le_prop}
 use mathlib.Core.HLevel.{is_prop→PathP}
 use Rattle.algebra.specs.declared.settings.Settings.{Settings}
 use Rattle.myrial_ast.specs.CandidateFaults.{joins_alone}
-use Rattle.engine.specs.Runs.{faults_by}
+use Rattle.placement.specs.Runs.{faults_by}
 use Rattle.command_words.specs.Limits.{most_size}
 use Rattle.command_words.specs.declared.requests.Mode.{Mode}
 use Rattle.command_words.specs.declared.requests.Request.{Request}

@@ -16,9 +16,8 @@ use Rattle.myrial_meaning.specs.Fetches.{fetches}
 use Rattle.myrial_types.specs.Checking.{checked_of}
 use Rattle.algebra.specs.Trees.{CheckedTree}
 use Rattle.placement.specs.Exchanges.{PlacedExchange}
-use Rattle.routed_joins.specs.PlacedJoins.{size_of}
+use Rattle.placement.specs.Runs.{size_of, run_exchanges}
 use Rattle.term_runs.specs.TermRuns.{shown_moves, AreShown, AreMoved}
-use Rattle.engine.specs.Runs.{run_exchanges}
 use Rattle.trial_gen.specs.Trials.{trial_files}
 use Rattle.trial_gen.specs.TrialScript.{trial_script}
 use Rattle.command_words.specs.declared.requests.Request.{Request}

@@ -11,7 +11,7 @@ use Rattle.rel_io.specs.Outside.{Content}
 use Rattle.myrial_ast.specs.Trees.{StatementTree}
 use Rattle.myrial_ast.specs.CandidateFaults.{PrefixRule, Uncounted, joins_alone}
 use Rattle.myrial_meaning.specs.Faults.{run_fault}
-use Rattle.engine.specs.Runs.{prefixes_of}
+use Rattle.placement.specs.Runs.{prefixes_of}
 use Rattle.command_words.specs.declared.requests.Mode.TheVariants as mode
 use Rattle.command_words.specs.declared.requests.Request.{Request}
 use Rattle.myria_top.specs.Runs.{printed_verdict}

@@ -12,7 +12,7 @@ use Rattle.std.specs.Prelude.{◌≡◌, ℕ, Bool, true, false, not, List, [], 
 use Rattle.std.specs.Option.{option_map_or}
 use Rattle.myrial_ast.specs.CandidateFaults.{FaultRule, joins_alone}
 use Rattle.algebra.specs.declared.settings.Settings.{Settings}
-use Rattle.engine.specs.Runs.{faults_by}
+use Rattle.placement.specs.Runs.{faults_by}
 use Rattle.command_words.specs.declared.requests.Mode.{Mode}
 use Rattle.command_words.specs.declared.requests.Mode.TheVariants as mode
 use Rattle.command_words.specs.declared.requests.Request.{Request}

@@ -3,5 +3,6 @@ pub mod Destinations
 pub mod Layouts
 pub mod Exchanges
 pub mod Plans
+pub mod Runs
 pub mod Laws
 pub mod Receiving

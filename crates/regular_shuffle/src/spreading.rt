@@ -2,7 +2,7 @@
 //! there.
 ghost use Rattle.std.specs.Prelude.{◌≡◌, ◌*◌, ◌≤◌, length, All, vec_len};
 ghost use Rattle.row_exchange.specs.Exchanges.{AreLow};
-ghost use Rattle.routed_joins.specs.PlacedJoins.{size_of};
+ghost use Rattle.placement.specs.Runs.{size_of};
 ghost use Rattle.regular_shuffle.specs.KeySpreads.{HasColumns, IsSpreadByKey};
 
 use crate::key_route::KeyRoute;

@@ -21,9 +21,9 @@ use Rattle.algebra.specs.declared.notes.Exchange.TheVariants as exchange
 use Rattle.algebra.specs.declared.settings.Settings.{Settings}
 use Rattle.row_exchange.specs.Moves.{Move, sent, received}
 use Rattle.placement.specs.Exchanges.{PlacedExchange, traffic_note}
+use Rattle.placement.specs.Runs.{size_of}
 use Rattle.row_exchange.specs.declared.routes.Size.{Size}
 use Rattle.row_exchange.specs.Exchanges.{Shows}
-use Rattle.routed_joins.specs.PlacedJoins.{size_of}
 use Rattle.term_runs.specs.declared.moved.Moved.{Moved}
 
 -- ---- receipts

@@ -23,7 +23,7 @@ use Rattle.algebra.specs.Trees.{StepTree, CheckedTree}
 use Rattle.placement.specs.Layouts.{together, term_parts}
 use Rattle.placement.specs.Exchanges.{PlacedExchange, term_exchanges, traffic_note}
 use Rattle.placement.specs.Plans.{usual_placing, plan_kind, term_notes, step_notes}
-use Rattle.routed_joins.specs.PlacedJoins.{size_of}
+use Rattle.placement.specs.Runs.{size_of, faults_by}
 use Rattle.term_runs.specs.TermRuns.{shown_moves, AreShown, AreMoved, AreFair}
 use Rattle.run_laws.specs.Values.{meant}
 use Rattle.run_laws.specs.Scripts.{step_exchanges, IsSound}
@@ -31,7 +31,7 @@ use Rattle.run_laws.specs.Held.{AreHeld}
 use Rattle.engine.specs.declared.held.Held.{Held}
 use Rattle.engine.specs.declared.noted.Noted.{Noted}
 use Rattle.engine.specs.declared.runs.SpreadStore.{SpreadStore}
-use Rattle.engine.specs.Runs.{faults_by, IsRunFault}
+use Rattle.engine.specs.Runs.{IsRunFault}
 use Rattle.engine.specs.inner.Held.{parts_held, value_held, UsedAreHeld}
 
 -- ---- one step

@@ -16,8 +16,8 @@ use Rattle.algebra.specs.Meanings.{term_fault}
 use Rattle.placement.specs.Exchanges.{term_exchanges}
 use Rattle.placement.specs.Layouts.{PlacedRelation, term_parts}
 use Rattle.placement.specs.Plans.{usual_placing}
+use Rattle.placement.specs.Runs.{faults_by}
 use Rattle.term_runs.specs.declared.moved.Moved.{Moved}
-use Rattle.engine.specs.Runs.{faults_by}
 use Rattle.engine.specs.declared.terms.RunStep.{RunStep}
 use Rattle.engine.specs.inner.Joins.{IsTold}
 

@@ -10,7 +10,8 @@ use Rattle.hash_partition.specs.Hashing.{home_of}
 use Rattle.placement.specs.Exchanges.{PlacedExchange, row_exchange}
 use Rattle.placement.specs.Layouts.{together}
 use Rattle.placement.specs.Plans.{usual_placing}
-use Rattle.routed_joins.specs.PlacedJoins.{size_of, placed_rows}
+use Rattle.placement.specs.Runs.{size_of}
+use Rattle.routed_joins.specs.PlacedJoins.{placed_rows}
 use Rattle.routed_joins.specs.Listings.{IsLow}
 use Rattle.term_runs.specs.TermRuns.{shown_moves, AreShown, AreMoved, AreFair}
 use Rattle.keyed_terms.specs.inner.Making.{AreMadeBy}

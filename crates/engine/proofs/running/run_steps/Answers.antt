@@ -4,9 +4,10 @@ use Rattle.std.proofs.lemmas.List.{take_all}
 use Rattle.std.specs.Option.{option_copied}
 use Rattle.algebra.specs.CheckedTrees.{checked_tree_of, step_tree_of}
 use Rattle.algebra.specs.Trees.{StepTree}
+use Rattle.placement.specs.Runs.{fault_of}
 use Rattle.run_laws.specs.Rewritten.{needed}
 use Rattle.term_runs.proofs.TapLemmas.{fair-both, kept-fair}
-use Rattle.engine.specs.Runs.{fault_of, IsRunFault}
+use Rattle.engine.specs.Runs.{IsRunFault}
 use Rattle.engine.specs.inner.Steps.{AreRun}
 use Rattle.engine.proofs.RunLemmas.{all-taken, none-left, is-found, turn, none-run, turn-runnable, turn-fault, turn-done}
 use Rattle.engine.proofs.running.run_steps.Goals as goal

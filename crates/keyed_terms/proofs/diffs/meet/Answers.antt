@@ -2,7 +2,7 @@ use Rattle.std.proofs.Common.{◌*◌, ◌≤◌, ℕ, List, length, All, sym, s
 use Rattle.std.specs.List.{range_with_len}
 use Rattle.myrial_ast.specs.Combinations.{Row}
 use Rattle.hash_partition.specs.Hashing.{home_of}
-use Rattle.routed_joins.specs.PlacedJoins.{size_of}
+use Rattle.placement.specs.Runs.{size_of}
 use Rattle.regular_shuffle.specs.KeySpreads.{HasColumns, IsSpread}
 use Rattle.term_runs.proofs.TapLemmas.{told-fair, fair-both}
 use Rattle.keyed_terms.proofs.ConcludeLemmas.{told-low}

@@ -8,7 +8,8 @@ use Rattle.algebra.specs.declared.notes.Exchange.TheVariants as exchange
 use Rattle.placement.specs.Exchanges.{PlacedExchange, row_exchange}
 use Rattle.placement.specs.Plans.{usual_placing}
 use Rattle.placement.specs.Layouts.{together}
-use Rattle.routed_joins.specs.PlacedJoins.{size_of, placed_rows}
+use Rattle.placement.specs.Runs.{size_of}
+use Rattle.routed_joins.specs.PlacedJoins.{placed_rows}
 use Rattle.regular_shuffle.specs.KeySpreads.{HasColumns, IsSpread}
 use Rattle.routed_joins.specs.Listings.{IsLow}
 use Rattle.term_runs.specs.Notes.{AreSeconds, HaveRisen}

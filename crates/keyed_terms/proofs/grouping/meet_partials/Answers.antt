@@ -12,7 +12,7 @@ use Rattle.aggregate_ops.specs.declared.faults.AggFault.TheVariants as fault
 use Rattle.placement.specs.Exchanges.{PlacedExchange, group_exchange}
 use Rattle.placement.specs.Layouts.{together}
 use Rattle.placement.specs.Plans.{usual_placing}
-use Rattle.routed_joins.specs.PlacedJoins.{size_of}
+use Rattle.placement.specs.Runs.{size_of}
 use Rattle.regular_shuffle.specs.KeySpreads.{HasColumns, IsSpread}
 use Rattle.routed_joins.specs.Listings.{IsLow}
 use Rattle.term_runs.specs.Notes.{AreSeconds, HaveRisen}

@@ -1,7 +1,7 @@
 use Rattle.std.proofs.Common.{Err, subst, refl, rules}
 use Rattle.row_exchange.specs.Exchanges.{IsExchange}
 use Rattle.row_exchange.proofs.AssemblyLemmas.{nothing-done}
-use Rattle.routed_joins.specs.PlacedJoins.{size_of}
+use Rattle.placement.specs.Runs.{size_of}
 use Rattle.regular_shuffle.specs.KeySpreads.{moves_by_key}
 use Rattle.regular_shuffle.proofs.SpreadLemmas.{is-routed, routed-by, exchange-by, one-atom, refused, is-spread}
 use Rattle.regular_shuffle.proofs.spreading.spread_by_key.Goals as goal
