@@ -53,7 +53,7 @@ use Rattle.regular_shuffle.proofs.BroadcastLemmas.{flat-same}
 use Rattle.regular_shuffle.proofs.ColumnLemmas.{rows-emitted}
 use Rattle.regular_shuffle.proofs.FrontLemmas.{fronts-are}
 use Rattle.regular_shuffle.proofs.LastLemmas.{combined-two, all-pairs, middle-candidates, last-candidates}
-use Rattle.regular_shuffle.proofs.StepRouteLemmas.{map-alike, pair-long, sent-same, got-same, bags-shown, tables-same, given-fronts, given-owns}
+use Rattle.regular_shuffle.proofs.StepRouteLemmas.{pair-long, sent-same, got-same, bags-shown, tables-same, given-fronts, given-owns}
 
 -- ---- the candidates of the last step
 
@@ -319,7 +319,7 @@ module _ (seed : ℕ) (size : Size) (shape : Shape) (parts : List (List Rows)) (
 
   -- ---- what the step does
 
-  run-ok : (sent_by got_by listed : List ℕ) (made : List Rows) (receipt : ReceiptState) → IsRouteJoined routed 2 step size sent_by got_by listed made receipt
+  run-ok : (sent_by got_by listed : ℕ → ℕ) (made : List Rows) (receipt : ReceiptState) → IsRouteJoined routed 2 step size sent_by got_by listed made receipt
       → HasRunStep seed shape parts size i sent_by got_by listed made receipt
   run-ok sent_by got_by listed made receipt j =
       let are = j.listing in
@@ -335,10 +335,11 @@ module _ (seed : ℕ) (size : Size) (shape : Shape) (parts : List (List Rows)) (
         each_worker = long;
         rows_are = same;
         receipt_shows = bags-shown seed n shape parts ready shaped some i one inside front is size receipt refl j.shows;
-        sent_are = j.sent_are ∙ map-alike (sent routed) (sent (step_moves n seed shape parts i)) 0 n n (omega arith) (λ u low. lists.sent-routed goes pair u ∙ sent-same seed n shape parts ready shaped some i one inside front is u low);
-        got_are = j.got_are ∙ map-alike (received routed) (received (step_moves n seed shape parts i)) 0 n n (omega arith) (λ w low. lists.received-routed goes pair n (pair-long seed n shape parts ready shaped some i one inside front is) w ∙ got-same seed n shape parts ready shaped some i one inside front is w);
-        listed_are = are.listed_are ∙ sym (same-lengths (step_parts n seed shape parts i) made (parts-long ∙ sym long) (λ w below. same w (omega (arith, below, parts-long))));
-        listed_made = are.listed_are;
+        sent_are = λ u low. j.sent_are u low ∙ lists.sent-routed goes pair u ∙ sent-same seed n shape parts ready shaped some i one inside front is u low;
+        got_are = λ w low. j.got_are w low ∙ lists.received-routed goes pair n (pair-long seed n shape parts ready shaped some i one inside front is) w ∙ got-same seed n shape parts ready shaped some i one inside front is w;
+        listed_are = λ w low.
+            are.listed_are w (omega (arith, low, length-map-range_with_len given 0 n)) ∙ length_permutation (get_or (step_parts n seed shape parts i) w []) (get_or made w []) (same w low);
+        counts_are = sym (same-lengths (step_parts n seed shape parts i) made (parts-long ∙ sym long) (λ w below. same w (omega (arith, below, parts-long))));
       }
     where
       by : (b : Bool) → list_any (overflows_on (cond b (last_shape shape i) (middle_shape shape i)).arith (cond b (last_shape shape i) (middle_shape shape i)).emits) found ≡ false
@@ -367,6 +368,7 @@ module _ (seed : ℕ) (size : Size) (shape : Shape) (parts : List (List Rows)) (
     got_by = r.got;
     listed_by = r.listed;
     told = r.told;
+    even = r.even;
     ok = run-ok r.sent r.got r.listed made.0 made.1 r.ok;
     err = tt;
   }
@@ -375,6 +377,7 @@ module _ (seed : ℕ) (size : Size) (shape : Shape) (parts : List (List Rows)) (
     got_by = r.got;
     listed_by = r.listed;
     told = r.told;
+    even = r.even;
     ok = tt;
     err = run-err fault fit r.err;
   }
