@@ -1,5 +1,5 @@
 -- Two operands that meet at the homes of all their columns.
-use Rattle.std.proofs.Common.{◌≡◌, ℕ, ◌+◌, List, [], ◌∷◌, get_or, All, Result, refl, sym, subst, arith}
+use Rattle.std.proofs.Common.{◌≡◌, ℕ, ◌+◌, List, [], ◌∷◌, All, Result, refl, sym, subst, arith}
 use Rattle.std.specs.Prelude.{IsErr}
 use Rattle.std.proofs.lemmas.Result.{IfOk-from_err}
 use Rattle.rel_base.specs.Bags.{SameBag}

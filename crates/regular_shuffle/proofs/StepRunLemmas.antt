@@ -1,7 +1,7 @@
 -- From an exchange and the local joins behind it to a step.
-use Rattle.std.proofs.Common.{◌≡◌, ℕ, zero, suc, ◌+◌, ◌-◌, ◌*◌, ◌<◌, ◌≤◌, ◌==◌, Bool, true, false, not, cond, List, [], ◌∷◌, ◌++◌, map, take, length, get_or, All, Result, Ok, Err, refl, sym, ap, ◌∙◌, subst, arith}
-use Rattle.std.specs.Prelude.{filter, sum, sum_by, IsTrue, IfOk, IfErr, pos, ◌&&◌, ◌||◌}
-use Rattle.std.specs.List.{flat_map, list_all, list_any, range_with_len}
+use Rattle.std.proofs.Common.{◌≡◌, ℕ, zero, suc, ◌+◌, ◌-◌, ◌<◌, ◌≤◌, ◌==◌, Bool, true, false, not, cond, List, [], ◌∷◌, ◌++◌, map, take, length, get_or, All, Result, Ok, Err, refl, sym, ap, ◌∙◌, subst, arith}
+use Rattle.std.specs.Prelude.{filter, sum, IfErr, ◌&&◌, ◌||◌}
+use Rattle.std.specs.List.{flat_map, list_any, range_with_len}
 use Rattle.std.proofs.lemmas.Bool.{eqb-true}
 use Rattle.std.proofs.lemmas.Bool.Decides.{nat_tests}
 use Rattle.std.proofs.lemmas.List.{length-map, get_or-map, take_all}
@@ -9,7 +9,7 @@ use Rattle.std.proofs.lemmas.List.FromFn.{get_or-map-range_with_len, length-map-
 use Rattle.std.proofs.lemmas.List.Concat.{length-flat_map}
 use Rattle.std.proofs.lemmas.List.Folds.{flat_map-map, list_any-append, list_all-append}
 use Rattle.std.proofs.lemmas.List.Elements.{All-head, All-tail, All-filter, All-weaker}
-use Rattle.std.proofs.lemmas.List.Sorted.{IsPermutation-refl, IsPermutation-sym, IsPermutation-trans, length_permutation, All-permutation}
+use Rattle.std.proofs.lemmas.List.Sorted.{IsPermutation-sym, IsPermutation-trans, length_permutation, All-permutation}
 use Rattle.rel_base.specs.Bags.{SameBag}
 use Rattle.rel_base.specs.Limits.{most_rows}
 use Rattle.rel_base.specs.Values.{number_of, in_64_bits}
@@ -17,11 +17,10 @@ use Rattle.rel_io.specs.declared.taps.Totals.{Totals}
 use Rattle.exchange_channels.specs.Wirings.{ReceiptState}
 use Rattle.myrial_ast.specs.Scalars.{Scalar, At, value_at, fits, holds}
 use Rattle.myrial_ast.specs.CandidateFaults.{overflows_on, all_fit}
-use Rattle.myrial_ast.specs.Combinations.{Row, Rows, all_hold, combined_row, combinations, combined_rows, candidates, listed_from}
+use Rattle.myrial_ast.specs.Combinations.{Row, Rows, all_hold, combined_rows, candidates, listed_from}
 use Rattle.myrial_ast.specs.Groups.{row_fits}
 use Rattle.myrial_ast.specs.KeptRows.{Span, columns_in, classes_agree, passes_within, span_of_prefix}
 use Rattle.hash_partition.specs.Hashing.{home_of}
-use Rattle.bag_laws.specs.Permuted.{SameTables}
 use Rattle.bag_laws.proofs.RowPermutations.{filter_rows-same, candidates-same, listed_from-same}
 use Rattle.algebra.specs.declared.joins.JoinFault.{JoinFault}
 use Rattle.algebra.specs.declared.joins.JoinFault.TheVariants as joined
@@ -29,10 +28,10 @@ use Rattle.algebra.specs.Trees.{Shape}
 use Rattle.algebra.specs.Shapes.{widths_of, tests_of, ties_of, tie_test, candidates_of, listed_of, prefix_of}
 use Rattle.algebra.specs.ShapeConditions.{is_shape}
 use Rattle.algebra.proofs.ShapeLemmas.{both}
-use Rattle.placement.specs.Exchanges.{kept_parts, prefix_parts, row_counts}
+use Rattle.placement.specs.Exchanges.{kept_parts, prefix_parts}
 use Rattle.placement.specs.Laws.{prefix_is_at, extended}
-use Rattle.placement.specs.Layouts.{PlacedRelation, placed_nothing, ByKeys, by_worker, together, rows_of, parts_by_home, prefix_key, last_atom, join_parts}
-use Rattle.row_exchange.specs.Moves.{Move, sendings_of, moves_of, rows_given, all_given, sent, received}
+use Rattle.placement.specs.Layouts.{PlacedRelation, placed_nothing, ByKeys, together, rows_of, parts_by_home, prefix_key, last_atom, join_parts}
+use Rattle.row_exchange.specs.Moves.{Move, sendings_of, moves_of, rows_given, all_given, sent}
 use Rattle.placement.proofs.CellLemmas.{passes}
 use Rattle.placement.proofs.KeptLemmas.{reads-hold, ties-agree, agreeing}
 use Rattle.placement.proofs.PrefixLemmas.{behind_it, filter-inside}
@@ -40,7 +39,7 @@ use Rattle.placement.proofs.ReceivedLemmas.{steps_list_what_they_are_given}
 use Rattle.placement.proofs.ScriptLemmas.{home_of-lt}
 use Rattle.placement.proofs.TogetherLemmas.{dealt-together}
 use Rattle.row_exchange.specs.declared.routes.Size.{Size}
-use Rattle.routed_joins.specs.Listings.{all_candidates, some_overflow, AreListed, IsListFault}
+use Rattle.routed_joins.specs.Listings.{all_candidates, some_overflow, IsListFault}
 use Rattle.routed_joins.specs.RouteJoins.{ArePartsAtWorkers, given_to_each, IsRouteJoined, IsRouteJoin}
 use Rattle.routed_joins.proofs.RouteLemmas.{any-permuted}
 use Rattle.row_exchange.proofs.MoveLemmas as lists
@@ -48,7 +47,7 @@ use Rattle.routed_joins.specs.PlacedJoins.{placed_rows, placed_items}
 use Rattle.routed_joins.proofs.PartLemmas.{items-placed, items-wide, items-long}
 use Rattle.routed_joins.proofs.WorkerLemmas.{same-lengths}
 use Rattle.regular_shuffle.specs.inner.Steps.{every_column, middle_shape, last_shape, shape_at, IsFront}
-use Rattle.regular_shuffle.specs.inner.StepRuns.{step_cells, IsFrontAt, step_rows, step_parts, step_overflows, step_moves, HasRunStep, IsStepFault, IsStepRun}
+use Rattle.regular_shuffle.specs.inner.StepRuns.{step_cells, IsFrontAt, step_rows, step_parts, step_moves, HasRunStep, IsStepFault, IsStepRun}
 use Rattle.regular_shuffle.proofs.BroadcastLemmas.{flat-same}
 use Rattle.regular_shuffle.proofs.ColumnLemmas.{rows-emitted}
 use Rattle.regular_shuffle.proofs.FrontLemmas.{fronts-are}

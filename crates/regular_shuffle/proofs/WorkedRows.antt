@@ -6,10 +6,9 @@ use Rattle.rel_base.specs.declared.values.Value.TheVariants as value
 use Rattle.myrial_ast.specs.Scalars.{At}
 use Rattle.myrial_ast.specs.Combinations.{Row, Rows}
 use Rattle.algebra.specs.declared.notes.Exchange.TheVariants as exchange
-use Rattle.algebra.specs.declared.notes.Traffic.{Traffic}
 use Rattle.algebra.specs.Trees.{Shape}
 use Rattle.placement.specs.Exchanges.{PlacedExchange}
-use Rattle.placement.specs.Layouts.{Broadcast, ByKeys, by_worker, rows_of, staying_atom, join_parts}
+use Rattle.placement.specs.Layouts.{Broadcast, by_worker, rows_of, staying_atom, join_parts}
 use Rattle.row_exchange.specs.Moves.{sent, received, rows_given}
 use Rattle.routed_joins.specs.PlacedJoins.{placed_items}
 use Rattle.regular_shuffle.specs.KeySpreads.{key_home, moves_by_key}

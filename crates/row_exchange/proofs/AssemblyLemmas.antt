@@ -1,15 +1,15 @@
 -- From the stations that ran to what the exchange gives.
 use Rattle.std.proofs.Common.{◌≡◌, ℕ, zero, suc, ◌+◌, ◌*◌, ◌<◌, ◌≤◌, List, [], ◌∷◌, ◌++◌, length, map, get_or, replicate, All, Option, Some, Result, Ok, refl, sym, ap, ◌∙◌, subst, arith, append-nil, length-append, zero-add}
-use Rattle.std.specs.Prelude.{IsSome, IsErr, IfOk, IsPermutation, sum, sum_by}
+use Rattle.std.specs.Prelude.{IsSome, IsErr, IfOk, IsPermutation, sum_by}
 use Rattle.std.proofs.Common.{◌⊎◌, ⊎_elim}
 use Rattle.std.proofs.Math.Seq.{get_or-append_right}
 use Rattle.std.proofs.lemmas.Bool.{cases_lt}
-use Rattle.std.proofs.lemmas.List.Sums.{sum-map, get_or-le-sum_by}
+use Rattle.std.proofs.lemmas.List.Sums.{get_or-le-sum_by}
 use Rattle.std.proofs.lemmas.List.Sorted.{IsPermutation-sym, IsPermutation-trans, sum_by-IsPermutation}
 use Rattle.std.specs.List.{flat_map, range_with_len}
 use Rattle.std.proofs.lemmas.Option.{same_Some}
-use Rattle.std.proofs.lemmas.List.{get_or-map, length-map, map-id, get_or-replicate, length-replicate, get_or_append_left, get_or_past}
-use Rattle.std.proofs.lemmas.List.FromFn.{get_or-range_with_len, length-range_with_len, get_or-map-range_with_len, fill_by_all}
+use Rattle.std.proofs.lemmas.List.{get_or-map, length-map, map-id, get_or_append_left, get_or_past}
+use Rattle.std.proofs.lemmas.List.FromFn.{get_or-range_with_len, length-range_with_len, get_or-map-range_with_len}
 use Rattle.rel_base.specs.declared.failure.Memory.{Memory}
 use Rattle.rel_io.specs.declared.taps.Totals.{Totals}
 use Rattle.rel_io.specs.Taps.{with_sent, with_got}
@@ -293,7 +293,7 @@ module _ {W T : Type 0} (accepts : W → ℕ → Row → Type 0) (goes : W → �
           long-whole : 2 * size.workers ≤ length whole
           long-whole = omega (arith, ap length is_whole, length-append front tail, front-long)
 
-          pub is-told : (d : Station W T) (o : OutletState) (i : IntakeState) 
+          pub is-told : (d : Station W T) (o : OutletState) (i : IntakeState)
               → AreTold totals tag size.workers (λ u. rows_sent (get_or outs u o)) (λ w. rows_of (get_or ins w i).got) nothing whole told
           is-told d o i = record {
             count = same-count;

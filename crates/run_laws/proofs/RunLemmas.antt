@@ -1,6 +1,6 @@
 -- Runs of terms, by exchanges that tell the same.
-use Rattle.std.proofs.Common.{ℕ, ◌+◌, ◌*◌, List, sym, ◌∙◌, ap, Result, Ok, Err}
-use Rattle.std.specs.Prelude.{slice_index_or, IfOk}
+use Rattle.std.proofs.Common.{ℕ, List, sym, Result, Ok, Err}
+use Rattle.std.specs.Prelude.{IfOk}
 use Rattle.rel_io.specs.declared.taps.Totals.{Totals}
 use Rattle.myrial_ast.specs.Combinations.{Rows}
 use Rattle.bag_laws.specs.Permuted.{SameTables}

@@ -4,7 +4,6 @@ use Rattle.std.proofs.lemmas.Bool.{cases_lt}
 use Rattle.std.proofs.lemmas.List.FromFn.{fill_by_all}
 use Rattle.rel_io.specs.declared.taps.Totals.{Totals}
 use Rattle.exchange_channels.proofs.DeliveryLemmas.{element}
-use Rattle.myrial_ast.specs.Combinations.{Rows}
 use Rattle.algebra.specs.declared.notes.Traffic.{Traffic}
 use Rattle.placement.specs.Exchanges.{PlacedExchange, traffic_note}
 use Rattle.placement.specs.Layouts.{by_worker}

@@ -1,4 +1,4 @@
-use Rattle.std.proofs.Common.{◌*◌, ◌≤◌, ℕ, List, length, All, sym, subst, arith, rules}
+use Rattle.std.proofs.Common.{ℕ, List, All, sym, subst, rules}
 use Rattle.std.specs.List.{range_with_len}
 use Rattle.myrial_ast.specs.Combinations.{Row}
 use Rattle.hash_partition.specs.Hashing.{home_of}

@@ -1,4 +1,4 @@
-use Rattle.std.proofs.Common.{◌*◌, ◌≤◌, ◌==◌, ℕ, List, [], ◌∷◌, length, get_or, All, refl, sym, subst, arith, rules}
+use Rattle.std.proofs.Common.{◌*◌, ◌≤◌, ◌==◌, ℕ, List, [], ◌∷◌, length, All, refl, sym, subst, arith, rules}
 use Rattle.std.specs.Prelude.{filter}
 use Rattle.std.specs.List.{range_with_len}
 use Rattle.myrial_ast.specs.Combinations.{Row}
