@@ -1,7 +1,8 @@
 -- The laws by which what exchanges tell is put together.
 --
 --   MovesAreJoined          taps that rose by some exchanges and then by others rose by all of them
---   FairnessIsKept          taps that stay even step by step stay even, and so they do where as many rows are sent as received
+--   FairnessIsKept          taps that stay even step by step stay even, and so they do where they are
+--                           told of as many rows sent as received
 --   ToldIsMoved             what the taps are told of an exchange, and of rows listed behind it, is what it moves
 --   NotesTellMoves          the numbers that are read off the taps are those of the exchange
 --   RunsAreJoined           receipts and runs, one after another
@@ -28,8 +29,8 @@ module _ {T : Type 0} (totals : T → Totals) (tag : T → ℕ) where
         → AreMoved totals tag n es before middle → AreMoved totals tag n fs middle after
         → AreMoved totals tag n (es ++ fs) before after
 
-  -- taps stay even where nothing is done, where they do in each of two steps, where they are told of as many rows sent as received, and
-  -- where rows are listed
+  -- taps stay even where nothing is done, where they do in each of two steps, where they are told
+  -- of as many rows sent as received, and where rows are listed
   pub record FairnessIsKept : Type 0 where
     pub none : (taps : List T) → AreFair totals tag taps taps
     pub joined : (before middle after : List T) → AreFair totals tag before middle

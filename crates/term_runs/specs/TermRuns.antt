@@ -62,8 +62,8 @@ abbrev pub all_listed : List PlacedExchange → ℕ → ℕ
 all_listed exchanges w = sum_by (λ (e : PlacedExchange). slice_index_or e.listed w 0) exchanges
 
 module _ {T : Type 0} (totals : T → Totals) (tag : T → ℕ) where
-  -- taps, two for each worker and others behind them, before and after these exchanges: the first one of a worker rose by what
-  -- it sent, the second one by what it received and listed, and the others are as before
+  -- the taps before and after these exchanges: they were told of what the workers send, receive
+  -- and list in these, and of nothing else
   abbrev pub AreMoved : ℕ → List PlacedExchange → List T → List T → Type 0
   AreMoved workers exchanges before after = AreTold totals tag workers
       (all_sent exchanges) (all_received exchanges) (all_listed exchanges) before after
