@@ -1,8 +1,6 @@
 -- From rows that were made behind an exchange to what a run of a term does.
-use Rattle.std.proofs.Common.{◌≡◌, ℕ, ◌+◌, ◌*◌, ◌<◌, ◌≤◌, List, [], ◌∷◌, ◌++◌, length, get_or, All, Result, Ok, Err, refl, sym, ap, ◌∙◌, subst, arith, append-nil}
-use Rattle.std.proofs.Common.{◌⊎◌, ⊎_elim, inl, inr}
+use Rattle.std.proofs.Common.{◌≡◌, ℕ, ◌+◌, ◌*◌, ◌<◌, ◌≤◌, List, [], ◌∷◌, ◌++◌, length, get_or, Result, Ok, Err, refl, sym, ap, ◌∙◌, subst, arith, append-nil}
 use Rattle.std.specs.Prelude.{IfOk, IfErr, IsErr}
-use Rattle.std.proofs.lemmas.Bool.{cases_lt}
 use Rattle.std.proofs.lemmas.List.{length-map}
 use Rattle.std.proofs.lemmas.List.Sorted.{length_permutation}
 use Rattle.std.proofs.lemmas.Result.{IfOk-from_err}
@@ -16,16 +14,15 @@ use Rattle.placement.specs.Exchanges.{PlacedExchange, row_counts}
 use Rattle.placement.specs.Layouts.{by_worker}
 use Rattle.placement.specs.Runs.{size_of}
 use Rattle.row_exchange.specs.Moves.{sent, received}
-use Rattle.row_exchange.specs.Exchanges.{IsTold}
-use Rattle.row_exchange.proofs.MessageLemmas.{parity}
-use Rattle.routed_joins.specs.Listings.{IsLow}
+use Rattle.row_exchange.specs.Exchanges.{nothing, AreTold}
+use Rattle.routed_joins.specs.Listings.{count_at, IsListedAt}
 use Rattle.routed_joins.proofs.RouteLemmas.{same-tables}
 use Rattle.std.proofs.lemmas.List.FromFn.{length-map-range_with_len, get_or-map-range_with_len}
 use Rattle.rel_base.specs.Bags.{SameBag}
 use Rattle.term_runs.specs.declared.moved.Moved.{Moved}
 use Rattle.term_runs.specs.Notes.{AreSeconds}
-use Rattle.term_runs.specs.TermRuns.{shown_moves, AreShown, AreMoved, AreFair, IsListedAt, IsMoved, IsTermRun}
-use Rattle.term_runs.proofs.TapLemmas.{AreAdded, listed-one, listed-fair, fair-both}
+use Rattle.term_runs.specs.TermRuns.{shown_moves, AreShown, AreMoved, AreFair, IsMoved, IsTermRun}
+use Rattle.term_runs.proofs.TapLemmas.{listed-one, listed-fair, fair-both}
 use Rattle.term_runs.proofs.NoteLemmas.{note-is}
 use Rattle.term_runs.proofs.RunLemmas.{run-made, run-failed}
 use Rattle.keyed_terms.specs.KeyedTerms.{IsRefused}
@@ -43,30 +40,6 @@ tables-made n f made x =
 pub same-counts : (ts us : List Rows) → SameTables ts us → row_counts ts ≡ row_counts us
 same-counts _ _ no_table = refl
 same-counts _ _ (a_table t u ts us same rest) = λ i. sym (length_permutation t u same) i ∷ same-counts ts us rest i
-
--- ---- taps
-
--- an exchange leaves the numbers of listed rows as they were
-pub told-low : {T : Type 0} (totals : T → Totals) (tag : T → ℕ) (n : ℕ) (sent_by got_by : List ℕ) (before after : List T) → IsTold totals tag n sent_by got_by before after
-    → All (λ t. IsLow (totals t)) before → All (λ t. IsLow (totals t)) after
-told-low {T = T} totals tag n sent_by got_by before after x low k d below = by (parity k)
-  where
-    within : k < length before
-    within = omega (arith, below, x.count)
-
-    by : ((u : ℕ) × ((k ≡ 2 * u) ⊎ (k ≡ 2 * u + 1))) → IsLow (totals (get_or after k d))
-    by (u, inl e) =
-        ⊎_elim
-        (λ (h : u < n). subst (λ (j : ℕ). IsLow (totals (get_or after j d))) (sym e)
-        (subst IsLow (sym (x.sent_is u d h)) (subst (λ (j : ℕ). IsLow (totals (get_or before j d))) e (low k d within))))
-        (λ (h : n ≤ u). subst (λ (t : T). IsLow (totals t)) (sym (x.others k d (omega (arith, h, e)))) (low k d within))
-        (cases_lt u n)
-    by (u, inr e) =
-        ⊎_elim
-        (λ (h : u < n). subst (λ (j : ℕ). IsLow (totals (get_or after j d))) (sym e)
-        (subst IsLow (sym (x.got_is u d h)) (subst (λ (j : ℕ). IsLow (totals (get_or before j d))) e (low k d within))))
-        (λ (h : n ≤ u). subst (λ (t : T). IsLow (totals t)) (sym (x.others k d (omega (arith, h, e)))) (low k d within))
-        (cases_lt u n)
 
 -- ---- what a run does
 
@@ -87,15 +60,15 @@ run-refused s number expected exchanges totals tag before after answer err fair 
 module _ {T : Type 0} (s : Settings) (number : ℕ) (expected : List Rows) (e : PlacedExchange) (totals : T → Totals) (tag : T → ℕ) (before middle after : List T)
     (sent_by got_by : ℕ → ℕ) (since : List Totals) (made : List Rows) (receipts : List ReceiptState)
     (room : 2 * s.workers ≤ length before) (read : AreSeconds totals s.workers before since)
-    (added : AreAdded totals tag s.workers sent_by got_by (λ w. 0) before middle)
+    (told : AreTold totals tag s.workers sent_by got_by nothing before middle)
     (same_sent : (u : ℕ) → u < s.workers → sent_by u ≡ sent e.moves u) (same_got : (w : ℕ) → w < s.workers → got_by w ≡ received e.moves w)
     (is_listed : e.listed ≡ row_counts expected) (long : length made ≡ s.workers) (tables : SameTables expected made)
-    (shown : AreShown (size_of s) (shown_moves e) receipts) (listed : IsListedAt totals tag made middle after) where
+    (shown : AreShown (size_of s) (shown_moves e) receipts) (listed : IsListedAt totals tag (length made) (count_at made) middle after) where
   counts : e.listed ≡ row_counts made
   counts = is_listed ∙ same-counts expected made tables
 
   pub moved-once : AreMoved totals tag s.workers (e ∷ []) before after
-  moved-once = listed-one totals tag s.workers e sent_by got_by made before middle after added listed long same_sent same_got counts
+  moved-once = listed-one totals tag s.workers e sent_by got_by made before middle after told listed long same_sent same_got counts
 
   pub concluded-ok : (run : Moved) → IsConcluded totals number e.kind since made receipts after run → IsMoved s number expected (e ∷ []) run
   concluded-ok run x = record {
@@ -112,10 +85,10 @@ module _ {T : Type 0} (s : Settings) (number : ℕ) (expected : List Rows) (e : 
       → IsTermRun s number expected (e ∷ []) totals tag IsRefused before after answer
   concluded fair (Ok run) x =
       run-made s number expected (e ∷ []) totals tag IsRefused before after run
-      (fair-both totals tag before middle after fair (listed-fair totals tag made middle after listed)) (concluded-ok run x) moved-once
+      (fair-both totals tag before middle after fair (listed-fair totals tag (length made) (count_at made) middle after listed)) (concluded-ok run x) moved-once
   concluded fair (Err fault) x =
       run-failed s number expected (e ∷ []) totals tag IsRefused before after fault
-      (fair-both totals tag before middle after fair (listed-fair totals tag made middle after listed)) tt
+      (fair-both totals tag before middle after fair (listed-fair totals tag (length made) (count_at made) middle after listed)) tt
 
 -- where a run has a fault, whatever is answered for it
 pub run-faulty : {T F : Type 0} (s : Settings) (number : ℕ) (expected : List Rows) (exchanges : List PlacedExchange) (totals : T → Totals) (tag : T → ℕ)

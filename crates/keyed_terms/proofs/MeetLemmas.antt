@@ -1,5 +1,5 @@
 -- Two operands that meet at the homes of all their columns.
-use Rattle.std.proofs.Common.{◌≡◌, ℕ, ◌+◌, List, [], ◌∷◌, get_or, All, Result, refl, sym, subst, arith}
+use Rattle.std.proofs.Common.{◌≡◌, ℕ, ◌+◌, List, [], ◌∷◌, All, Result, refl, sym, subst, arith}
 use Rattle.std.specs.Prelude.{IsErr}
 use Rattle.std.proofs.lemmas.Result.{IfOk-from_err}
 use Rattle.rel_base.specs.Bags.{SameBag}
@@ -13,10 +13,10 @@ use Rattle.hash_partition.specs.Hashing.{home_of}
 use Rattle.placement.specs.Exchanges.{PlacedExchange}
 use Rattle.placement.specs.Runs.{size_of}
 use Rattle.row_exchange.specs.Moves.{Move, sent, received}
-use Rattle.row_exchange.specs.Exchanges.{Shows, IsTold}
+use Rattle.row_exchange.specs.Exchanges.{nothing, AreTold, Shows}
 use Rattle.routed_joins.specs.Listings.{IsLow}
 use Rattle.term_runs.specs.TermRuns.{moves_alone, AreShown, no_receipt, a_receipt, all_sent, all_received, all_listed, AreMoved, AreFair}
-use Rattle.term_runs.proofs.TapLemmas.{AreAdded, added-told, added-both, added-same, added-moved, moved-added}
+use Rattle.row_exchange.proofs.TapLemmas.{told-same, told-both}
 use Rattle.keyed_terms.specs.inner.Meeting.{unlisted_exchange, HaveMet, IsMeeting}
 use Rattle.keyed_terms.proofs.MoveLemmas.{first-alone, second-alone, sent-two, received-two}
 use Rattle.keyed_terms.proofs.SpreadLemmas.{IsSpreadAs}
@@ -36,22 +36,20 @@ module _ {T : Type 0} (s : Settings) (left right : List Rows) (totals : T → To
     ok = IfOk-from_err answer (λ made. HaveMet s left right totals tag before after made.0 made.1 made.2) err;
   }
 
-  pub have-met : (before middle after : List T) (sent_first got_first sent_second got_second : List ℕ) (met others : List Rows) (first second : ReceiptState) (receipts : List ReceiptState)
-      → IsTold totals tag s.workers sent_first got_first before middle → IsTold totals tag s.workers sent_second got_second middle after
+  pub have-met : (before middle after : List T) (sent_first got_first sent_second got_second : ℕ → ℕ) (met others : List Rows) (first second : ReceiptState) (receipts : List ReceiptState)
+      → AreTold totals tag s.workers sent_first got_first nothing before middle → AreTold totals tag s.workers sent_second got_second nothing middle after
       → IsSpreadAs home left (size_of s) sent_first got_first met first → IsSpreadAs home right (size_of s) sent_second got_second others second
       → receipts ≡ first ∷ second ∷ [] → HaveMet s left right totals tag before after met others receipts
   have-met before middle after sent_first got_first sent_second got_second met others first second receipts told more one two are = record {
     met_are = one.rows;
     others_are = two.rows;
     moved =
-        added-moved totals tag s.workers (e ∷ []) before after
-        (added-same totals tag s.workers (λ u. get_or sent_first u 0 + get_or sent_second u 0) (λ w. get_or got_first w 0 + get_or got_second w 0) (λ w. 0 + 0)
+        told-same totals tag s.workers (λ u. sent_first u + sent_second u) (λ w. got_first w + got_second w) (λ w. 0 + 0)
         (all_sent (e ∷ [])) (all_received (e ∷ [])) (all_listed (e ∷ [])) before after
         (λ u below. omega (arith, one.sent_are u below, two.sent_are u below, sent-two home left right u))
         (λ w below. omega (arith, one.got_are w below, two.got_are w below, received-two home left right w))
         (λ w below. refl)
-        (added-both totals tag s.workers (λ u. get_or sent_first u 0) (λ w. get_or got_first w 0) (λ w. 0) (λ u. get_or sent_second u 0) (λ w. get_or got_second w 0) (λ w. 0)
-        before middle after (added-told totals tag s.workers sent_first got_first before middle told) (added-told totals tag s.workers sent_second got_second middle after more)));
+        (told-both totals tag s.workers sent_first got_first nothing sent_second got_second nothing before middle after told more);
     shown =
         subst (AreShown (size_of s) (moves_alone 0 e.moves ∷ moves_alone 1 e.moves ∷ [])) (sym are)
         (a_receipt (moves_alone 0 e.moves) first (moves_alone 1 e.moves ∷ []) (second ∷ [])
@@ -62,7 +60,7 @@ module _ {T : Type 0} (s : Settings) (left right : List Rows) (totals : T → To
 
   -- what was told of both, as of one exchange
   pub met-added : (before after : List T) → AreMoved totals tag s.workers (e ∷ []) before after
-      → AreAdded totals tag s.workers (sent e.moves) (received e.moves) (λ w. 0) before after
+      → AreTold totals tag s.workers (sent e.moves) (received e.moves) nothing before after
   met-added before after moved =
-      added-same totals tag s.workers (all_sent (e ∷ [])) (all_received (e ∷ [])) (all_listed (e ∷ [])) (sent e.moves) (received e.moves) (λ w. 0) before after
-      (λ u below. omega arith) (λ w below. omega arith) (λ w below. refl) (moved-added totals tag s.workers (e ∷ []) before after moved)
+      told-same totals tag s.workers (all_sent (e ∷ [])) (all_received (e ∷ [])) (all_listed (e ∷ [])) (sent e.moves) (received e.moves) nothing before after
+      (λ u below. omega arith) (λ w below. omega arith) (λ w below. refl) moved

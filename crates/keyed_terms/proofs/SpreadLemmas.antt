@@ -27,11 +27,11 @@ use Rattle.keyed_terms.specs.inner.Making.{AreMadeBy}
 use Rattle.keyed_terms.proofs.MoveLemmas.{home_sending, home_moves, moves-one, moves-agree, moves-same, together-same, sent-same, received-same, shown-same}
 
 -- rows of these parts came to their homes, the receipt shows their moves, and the numbers are those of the moves
-pub record IsSpreadAs (home : Row → ℕ) (expected : List Rows) (size : Size) (sent_by got_by : List ℕ) (made : List Rows) (receipt : ReceiptState) : Type 0 where
+pub record IsSpreadAs (home : Row → ℕ) (expected : List Rows) (size : Size) (sent_by got_by : ℕ → ℕ) (made : List Rows) (receipt : ReceiptState) : Type 0 where
   pub rows : AreMadeBy size.workers (λ w. filter (λ row. home row == w) (together expected)) made
   pub shows : Shows SameBag most_items size (moves_of (home_sending home expected ∷ [])) receipt
-  pub sent_are : (u : ℕ) → u < size.workers → get_or sent_by u 0 ≡ sent (moves_of (home_sending home expected ∷ [])) u
-  pub got_are : (w : ℕ) → w < size.workers → get_or got_by w 0 ≡ received (moves_of (home_sending home expected ∷ [])) w
+  pub sent_are : (u : ℕ) → u < size.workers → sent_by u ≡ sent (moves_of (home_sending home expected ∷ [])) u
+  pub got_are : (w : ℕ) → w < size.workers → got_by w ≡ received (moves_of (home_sending home expected ∷ [])) w
 
 pub filter-agree : (p q : Row → Bool) (rows : Rows) → All (λ row. p row ≡ q row) rows → filter p rows ≡ filter q rows
 filter-agree p q [] all = refl
@@ -40,7 +40,7 @@ filter-agree p q (row ∷ rows) all =
     let rest = filter-agree p q rows (All-tail (λ (row : Row). p row ≡ q row) row rows all) in
     λ i. cond (here i) (row ∷ rest i) (rest i)
 
-module _ (seed : ℕ) (columns : List ℕ) (home : Row → ℕ) (expected given : List Rows) (size : Size) (sent_by got_by : List ℕ) (made : List Rows) (receipt : ReceiptState)
+module _ (seed : ℕ) (columns : List ℕ) (home : Row → ℕ) (expected given : List Rows) (size : Size) (sent_by got_by : ℕ → ℕ) (made : List Rows) (receipt : ReceiptState)
     (same : SameTables expected given) (agree : All (All (λ row. home row ≡ key_home seed size.workers columns row)) given)
     (x : IsSpread seed columns given size sent_by got_by made receipt) where
   abbrev key : Row → ℕ
@@ -73,14 +73,8 @@ module _ (seed : ℕ) (columns : List ℕ) (home : Row → ℕ) (expected given 
     shows =
         shown-same (moves_by_key seed size.workers columns given) own moves-are size receipt
         (bags-shown 1 most_items size (moves_by_key seed size.workers columns given) receipt (omega arith) x.receipt_shows);
-    sent_are = λ u below.
-        ap (λ (l : List ℕ). get_or l u 0) x.sent_are
-        ∙ get_or-map-range_with_len (sent (moves_by_key seed size.workers columns given)) 0 size.workers u u 0 below (omega arith)
-        ∙ sent-same (moves_by_key seed size.workers columns given) own moves-are u;
-    got_are = λ w below.
-        ap (λ (l : List ℕ). get_or l w 0) x.got_are
-        ∙ get_or-map-range_with_len (received (moves_by_key seed size.workers columns given)) 0 size.workers w w 0 below (omega arith)
-        ∙ received-same (moves_by_key seed size.workers columns given) own moves-are w;
+    sent_are = λ u below. x.sent_are u below ∙ sent-same (moves_by_key seed size.workers columns given) own moves-are u;
+    got_are = λ w below. x.got_are w below ∙ received-same (moves_by_key seed size.workers columns given) own moves-are w;
   }
 
 -- ---- rows as they are, with a key of all columns

@@ -1,8 +1,7 @@
 //! What is told and given once the rows of an exchange are made.
 ghost use Rattle.std.specs.Prelude.{◌≡◌, ◌*◌, ◌≤◌, length, All, IfOk, vec_len};
 ghost use Rattle.rel_base.specs.Limits.{most_workers};
-ghost use Rattle.routed_joins.specs.Listings.{IsLow};
-ghost use Rattle.term_runs.specs.TermRuns.{IsListedAt};
+ghost use Rattle.routed_joins.specs.Listings.{IsLow, count_at, IsListedAt};
 ghost use Rattle.term_runs.specs.Notes.{HaveRisen};
 ghost use Rattle.keyed_terms.specs.inner.Concluding.{IsConcluded};
 
@@ -29,7 +28,8 @@ pub(crate) fn conclude<T: Tap>(
     requires taps { 2 * length since.now ≤ vec_len taps.old }
     requires unlisted { All (λ t. IsLow (T.totals t)) taps.old.items }
     requires risen { HaveRisen T.totals since.now taps.old.items }
-    ensures listed { IsListedAt T.totals T.tag made taps.old.items taps.new.items }
+    ensures listed { IsListedAt T.totals T.tag (length made) (count_at made) taps.old.items
+        taps.new.items }
     ensures ok { IfOk result (IsConcluded T.totals statement exchange since.entry.now made receipts
         taps.new.items) }
 {

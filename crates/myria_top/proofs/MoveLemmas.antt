@@ -14,7 +14,7 @@ use Rattle.algebra.specs.Trees.{CheckedTree}
 use Rattle.placement.specs.Exchanges.{PlacedExchange}
 use Rattle.placement.specs.Runs.{size_of, run_exchanges}
 use Rattle.term_runs.specs.TermRuns.{shown_moves, AreShown, no_receipt, AreMoved}
-use Rattle.term_runs.proofs.TapLemmas.{added-moved, nothing-added}
+use Rattle.row_exchange.proofs.TapLemmas.{nothing-told}
 use Rattle.trial_gen.specs.Trials.{trial_files}
 use Rattle.trial_gen.specs.TrialScript.{trial_script}
 use Rattle.command_words.specs.declared.requests.Request.{Request}
@@ -55,8 +55,7 @@ pub nothing-moved : {T : Type 0} (r : Request) (files : List File) (c : CheckedT
     (receipts : List ReceiptState) → is_check r.mode ≡ true → receipts ≡ [] → HasMoved r files c totals tag taps taps receipts
 nothing-moved r files c totals tag taps receipts check none =
     let shown : AreShown (size_of r.settings) [] receipts = subst (AreShown (size_of r.settings) []) (sym none) no_receipt in
-    let stays : AreMoved totals tag r.settings.workers [] taps taps =
-    added-moved totals tag r.settings.workers [] taps taps (nothing-added totals tag r.settings.workers taps) in
+    let stays : AreMoved totals tag r.settings.workers [] taps taps = nothing-told totals tag r.settings.workers taps in
     has_moved r files c totals tag taps taps receipts
     (subst (λ (b : Bool). MovedBy r files c totals tag taps taps receipts (cond b [] (run_exchanges r.settings files c))) (sym check)
     (shown, stays))

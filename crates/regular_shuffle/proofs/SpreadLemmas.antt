@@ -104,6 +104,7 @@ module _ {T : Type 0} (seed : ℕ) (columns : List ℕ) (parts : List Rows) (siz
     sent_by = x.sent;
     got_by = x.got;
     told = x.told;
+    even = x.even;
     ok = IfOk-from_err answer (λ made. IsSpread seed columns parts size x.sent x.got made.0 made.1) err;
   }
 
@@ -113,6 +114,7 @@ module _ {T : Type 0} (seed : ℕ) (columns : List ℕ) (parts : List Rows) (siz
     sent_by = x.sent;
     got_by = x.got;
     told = x.told;
+    even = x.even;
     ok = record {
       each_worker = ap length is ∙ length-map ex.given (λ (atoms : List Rows). get_or atoms 0 []) ∙ x.ok.given.each_worker;
       rows_are = rows-are;

@@ -1,7 +1,7 @@
 -- From an exchange and the local joins behind it to a step.
-use Rattle.std.proofs.Common.{◌≡◌, ℕ, zero, suc, ◌+◌, ◌-◌, ◌*◌, ◌<◌, ◌≤◌, ◌==◌, Bool, true, false, not, cond, List, [], ◌∷◌, ◌++◌, map, take, length, get_or, All, Result, Ok, Err, refl, sym, ap, ◌∙◌, subst, arith}
-use Rattle.std.specs.Prelude.{filter, sum, sum_by, IsTrue, IfOk, IfErr, pos, ◌&&◌, ◌||◌}
-use Rattle.std.specs.List.{flat_map, list_all, list_any, range_with_len}
+use Rattle.std.proofs.Common.{◌≡◌, ℕ, zero, suc, ◌+◌, ◌-◌, ◌<◌, ◌≤◌, ◌==◌, Bool, true, false, not, cond, List, [], ◌∷◌, ◌++◌, map, take, length, get_or, All, Result, Ok, Err, refl, sym, ap, ◌∙◌, subst, arith}
+use Rattle.std.specs.Prelude.{filter, sum, IfErr, ◌&&◌, ◌||◌}
+use Rattle.std.specs.List.{flat_map, list_any, range_with_len}
 use Rattle.std.proofs.lemmas.Bool.{eqb-true}
 use Rattle.std.proofs.lemmas.Bool.Decides.{nat_tests}
 use Rattle.std.proofs.lemmas.List.{length-map, get_or-map, take_all}
@@ -9,7 +9,7 @@ use Rattle.std.proofs.lemmas.List.FromFn.{get_or-map-range_with_len, length-map-
 use Rattle.std.proofs.lemmas.List.Concat.{length-flat_map}
 use Rattle.std.proofs.lemmas.List.Folds.{flat_map-map, list_any-append, list_all-append}
 use Rattle.std.proofs.lemmas.List.Elements.{All-head, All-tail, All-filter, All-weaker}
-use Rattle.std.proofs.lemmas.List.Sorted.{IsPermutation-refl, IsPermutation-sym, IsPermutation-trans, length_permutation, All-permutation}
+use Rattle.std.proofs.lemmas.List.Sorted.{IsPermutation-sym, IsPermutation-trans, length_permutation, All-permutation}
 use Rattle.rel_base.specs.Bags.{SameBag}
 use Rattle.rel_base.specs.Limits.{most_rows}
 use Rattle.rel_base.specs.Values.{number_of, in_64_bits}
@@ -17,11 +17,10 @@ use Rattle.rel_io.specs.declared.taps.Totals.{Totals}
 use Rattle.exchange_channels.specs.Wirings.{ReceiptState}
 use Rattle.myrial_ast.specs.Scalars.{Scalar, At, value_at, fits, holds}
 use Rattle.myrial_ast.specs.CandidateFaults.{overflows_on, all_fit}
-use Rattle.myrial_ast.specs.Combinations.{Row, Rows, all_hold, combined_row, combinations, combined_rows, candidates, listed_from}
+use Rattle.myrial_ast.specs.Combinations.{Row, Rows, all_hold, combined_rows, candidates, listed_from}
 use Rattle.myrial_ast.specs.Groups.{row_fits}
 use Rattle.myrial_ast.specs.KeptRows.{Span, columns_in, classes_agree, passes_within, span_of_prefix}
 use Rattle.hash_partition.specs.Hashing.{home_of}
-use Rattle.bag_laws.specs.Permuted.{SameTables}
 use Rattle.bag_laws.proofs.RowPermutations.{filter_rows-same, candidates-same, listed_from-same}
 use Rattle.algebra.specs.declared.joins.JoinFault.{JoinFault}
 use Rattle.algebra.specs.declared.joins.JoinFault.TheVariants as joined
@@ -29,10 +28,10 @@ use Rattle.algebra.specs.Trees.{Shape}
 use Rattle.algebra.specs.Shapes.{widths_of, tests_of, ties_of, tie_test, candidates_of, listed_of, prefix_of}
 use Rattle.algebra.specs.ShapeConditions.{is_shape}
 use Rattle.algebra.proofs.ShapeLemmas.{both}
-use Rattle.placement.specs.Exchanges.{kept_parts, prefix_parts, row_counts}
+use Rattle.placement.specs.Exchanges.{kept_parts, prefix_parts}
 use Rattle.placement.specs.Laws.{prefix_is_at, extended}
-use Rattle.placement.specs.Layouts.{PlacedRelation, placed_nothing, ByKeys, by_worker, together, rows_of, parts_by_home, prefix_key, last_atom, join_parts}
-use Rattle.row_exchange.specs.Moves.{Move, sendings_of, moves_of, rows_given, all_given, sent, received}
+use Rattle.placement.specs.Layouts.{PlacedRelation, placed_nothing, ByKeys, together, rows_of, parts_by_home, prefix_key, last_atom, join_parts}
+use Rattle.row_exchange.specs.Moves.{Move, sendings_of, moves_of, rows_given, all_given, sent}
 use Rattle.placement.proofs.CellLemmas.{passes}
 use Rattle.placement.proofs.KeptLemmas.{reads-hold, ties-agree, agreeing}
 use Rattle.placement.proofs.PrefixLemmas.{behind_it, filter-inside}
@@ -40,7 +39,7 @@ use Rattle.placement.proofs.ReceivedLemmas.{steps_list_what_they_are_given}
 use Rattle.placement.proofs.ScriptLemmas.{home_of-lt}
 use Rattle.placement.proofs.TogetherLemmas.{dealt-together}
 use Rattle.row_exchange.specs.declared.routes.Size.{Size}
-use Rattle.routed_joins.specs.Listings.{all_candidates, some_overflow, AreListed, IsListFault}
+use Rattle.routed_joins.specs.Listings.{all_candidates, some_overflow, IsListFault}
 use Rattle.routed_joins.specs.RouteJoins.{ArePartsAtWorkers, given_to_each, IsRouteJoined, IsRouteJoin}
 use Rattle.routed_joins.proofs.RouteLemmas.{any-permuted}
 use Rattle.row_exchange.proofs.MoveLemmas as lists
@@ -48,12 +47,12 @@ use Rattle.routed_joins.specs.PlacedJoins.{placed_rows, placed_items}
 use Rattle.routed_joins.proofs.PartLemmas.{items-placed, items-wide, items-long}
 use Rattle.routed_joins.proofs.WorkerLemmas.{same-lengths}
 use Rattle.regular_shuffle.specs.inner.Steps.{every_column, middle_shape, last_shape, shape_at, IsFront}
-use Rattle.regular_shuffle.specs.inner.StepRuns.{step_cells, IsFrontAt, step_rows, step_parts, step_overflows, step_moves, HasRunStep, IsStepFault, IsStepRun}
+use Rattle.regular_shuffle.specs.inner.StepRuns.{step_cells, IsFrontAt, step_rows, step_parts, step_moves, HasRunStep, IsStepFault, IsStepRun}
 use Rattle.regular_shuffle.proofs.BroadcastLemmas.{flat-same}
 use Rattle.regular_shuffle.proofs.ColumnLemmas.{rows-emitted}
 use Rattle.regular_shuffle.proofs.FrontLemmas.{fronts-are}
 use Rattle.regular_shuffle.proofs.LastLemmas.{combined-two, all-pairs, middle-candidates, last-candidates}
-use Rattle.regular_shuffle.proofs.StepRouteLemmas.{map-alike, pair-long, sent-same, got-same, bags-shown, tables-same, given-fronts, given-owns}
+use Rattle.regular_shuffle.proofs.StepRouteLemmas.{pair-long, sent-same, got-same, bags-shown, tables-same, given-fronts, given-owns}
 
 -- ---- the candidates of the last step
 
@@ -319,7 +318,7 @@ module _ (seed : ℕ) (size : Size) (shape : Shape) (parts : List (List Rows)) (
 
   -- ---- what the step does
 
-  run-ok : (sent_by got_by listed : List ℕ) (made : List Rows) (receipt : ReceiptState) → IsRouteJoined routed 2 step size sent_by got_by listed made receipt
+  run-ok : (sent_by got_by listed : ℕ → ℕ) (made : List Rows) (receipt : ReceiptState) → IsRouteJoined routed 2 step size sent_by got_by listed made receipt
       → HasRunStep seed shape parts size i sent_by got_by listed made receipt
   run-ok sent_by got_by listed made receipt j =
       let are = j.listing in
@@ -335,10 +334,11 @@ module _ (seed : ℕ) (size : Size) (shape : Shape) (parts : List (List Rows)) (
         each_worker = long;
         rows_are = same;
         receipt_shows = bags-shown seed n shape parts ready shaped some i one inside front is size receipt refl j.shows;
-        sent_are = j.sent_are ∙ map-alike (sent routed) (sent (step_moves n seed shape parts i)) 0 n n (omega arith) (λ u low. lists.sent-routed goes pair u ∙ sent-same seed n shape parts ready shaped some i one inside front is u low);
-        got_are = j.got_are ∙ map-alike (received routed) (received (step_moves n seed shape parts i)) 0 n n (omega arith) (λ w low. lists.received-routed goes pair n (pair-long seed n shape parts ready shaped some i one inside front is) w ∙ got-same seed n shape parts ready shaped some i one inside front is w);
-        listed_are = are.listed_are ∙ sym (same-lengths (step_parts n seed shape parts i) made (parts-long ∙ sym long) (λ w below. same w (omega (arith, below, parts-long))));
-        listed_made = are.listed_are;
+        sent_are = λ u low. j.sent_are u low ∙ lists.sent-routed goes pair u ∙ sent-same seed n shape parts ready shaped some i one inside front is u low;
+        got_are = λ w low. j.got_are w low ∙ lists.received-routed goes pair n (pair-long seed n shape parts ready shaped some i one inside front is) w ∙ got-same seed n shape parts ready shaped some i one inside front is w;
+        listed_are = λ w low.
+            are.listed_are w (omega (arith, low, length-map-range_with_len given 0 n)) ∙ length_permutation (get_or (step_parts n seed shape parts i) w []) (get_or made w []) (same w low);
+        counts_are = sym (same-lengths (step_parts n seed shape parts i) made (parts-long ∙ sym long) (λ w below. same w (omega (arith, below, parts-long))));
       }
     where
       by : (b : Bool) → list_any (overflows_on (cond b (last_shape shape i) (middle_shape shape i)).arith (cond b (last_shape shape i) (middle_shape shape i)).emits) found ≡ false
@@ -367,6 +367,7 @@ module _ (seed : ℕ) (size : Size) (shape : Shape) (parts : List (List Rows)) (
     got_by = r.got;
     listed_by = r.listed;
     told = r.told;
+    even = r.even;
     ok = run-ok r.sent r.got r.listed made.0 made.1 r.ok;
     err = tt;
   }
@@ -375,6 +376,7 @@ module _ (seed : ℕ) (size : Size) (shape : Shape) (parts : List (List Rows)) (
     got_by = r.got;
     listed_by = r.listed;
     told = r.told;
+    even = r.even;
     ok = tt;
     err = run-err fault fit r.err;
   }

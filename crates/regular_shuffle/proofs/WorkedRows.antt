@@ -6,10 +6,9 @@ use Rattle.rel_base.specs.declared.values.Value.TheVariants as value
 use Rattle.myrial_ast.specs.Scalars.{At}
 use Rattle.myrial_ast.specs.Combinations.{Row, Rows}
 use Rattle.algebra.specs.declared.notes.Exchange.TheVariants as exchange
-use Rattle.algebra.specs.declared.notes.Traffic.{Traffic}
 use Rattle.algebra.specs.Trees.{Shape}
 use Rattle.placement.specs.Exchanges.{PlacedExchange}
-use Rattle.placement.specs.Layouts.{Broadcast, ByKeys, rows_of, staying_atom, join_parts}
+use Rattle.placement.specs.Layouts.{Broadcast, by_worker, rows_of, staying_atom, join_parts}
 use Rattle.row_exchange.specs.Moves.{sent, received, rows_given}
 use Rattle.routed_joins.specs.PlacedJoins.{placed_items}
 use Rattle.regular_shuffle.specs.KeySpreads.{key_home, moves_by_key}
@@ -70,5 +69,5 @@ pub notes-steps : notes_of 2 0 joined (fours ∷ fours ∷ [])
     ≡ record { statement = 0; exchange = exchange.Rs 2; received = 4 ∷ 4 ∷ []; listed = 2 ∷ 2 ∷ [] } ∷ []
 notes-steps = refl
 
-pub sent-steps : over_steps 2 (λ (step : PlacedExchange). sent step.moves) (steps_of 2 0 joined (fours ∷ fours ∷ [])) ≡ 4 ∷ 4 ∷ []
+pub sent-steps : by_worker 2 (over_steps (λ (step : PlacedExchange). sent step.moves) (steps_of 2 0 joined (fours ∷ fours ∷ []))) ≡ 4 ∷ 4 ∷ []
 sent-steps = refl

@@ -1,15 +1,15 @@
 -- From the stations that ran to what the exchange gives.
 use Rattle.std.proofs.Common.{◌≡◌, ℕ, zero, suc, ◌+◌, ◌*◌, ◌<◌, ◌≤◌, List, [], ◌∷◌, ◌++◌, length, map, get_or, replicate, All, Option, Some, Result, Ok, refl, sym, ap, ◌∙◌, subst, arith, append-nil, length-append, zero-add}
-use Rattle.std.specs.Prelude.{IsSome, IsErr, IfOk, IsPermutation, sum, sum_by}
+use Rattle.std.specs.Prelude.{IsSome, IsErr, IfOk, IsPermutation, sum_by}
 use Rattle.std.proofs.Common.{◌⊎◌, ⊎_elim}
 use Rattle.std.proofs.Math.Seq.{get_or-append_right}
 use Rattle.std.proofs.lemmas.Bool.{cases_lt}
-use Rattle.std.proofs.lemmas.List.Sums.{sum-map, get_or-le-sum_by}
+use Rattle.std.proofs.lemmas.List.Sums.{get_or-le-sum_by}
 use Rattle.std.proofs.lemmas.List.Sorted.{IsPermutation-sym, IsPermutation-trans, sum_by-IsPermutation}
 use Rattle.std.specs.List.{flat_map, range_with_len}
 use Rattle.std.proofs.lemmas.Option.{same_Some}
-use Rattle.std.proofs.lemmas.List.{get_or-map, length-map, map-id, get_or-replicate, length-replicate, get_or_append_left, get_or_past}
-use Rattle.std.proofs.lemmas.List.FromFn.{get_or-range_with_len, length-range_with_len, get_or-map-range_with_len, fill_by_all}
+use Rattle.std.proofs.lemmas.List.{get_or-map, length-map, map-id, get_or_append_left, get_or_past}
+use Rattle.std.proofs.lemmas.List.FromFn.{get_or-range_with_len, length-range_with_len, get_or-map-range_with_len}
 use Rattle.rel_base.specs.declared.failure.Memory.{Memory}
 use Rattle.rel_io.specs.declared.taps.Totals.{Totals}
 use Rattle.rel_io.specs.Taps.{with_sent, with_got}
@@ -27,12 +27,13 @@ use Rattle.exchange_channels.proofs.DeliveryLemmas.{element}
 use Rattle.row_exchange.specs.Routes.{Row, Rows, IsRouted, rows_at}
 use Rattle.row_exchange.specs.inner.Pairs.{rows_to}
 use Rattle.row_exchange.specs.Moves.{Move, sendings_of, moves_of, sent, received, rows_between, rows_given}
-use Rattle.row_exchange.specs.Exchanges.{IsSize, IsBatch, AreLow, with_more_sent, with_more_got, IsTold, InOrder, batches_between, Shows, IsGiven, IsExchanged, IsExchange}
+use Rattle.row_exchange.specs.Exchanges.{IsSize, IsBatch, AreLow, with_more, nothing, of_all, AreTold, InOrder, batches_between, Shows, IsGiven, IsExchanged, IsExchange}
 use Rattle.row_exchange.specs.declared.exchanging.Exchanged.{Exchanged}
 use Rattle.std.proofs.lemmas.Result.{IfOk-weaker, IfOk-from_err}
 use Rattle.row_exchange.proofs.SumLemmas.{sum_by-same, sum_by-range_same, sums-swap, sum_by-places, sum_by-flat_map, sum_by-bounded}
 use Rattle.row_exchange.proofs.MoveLemmas.{between-routed, given-routed, sent-routed, received-routed}
 use Rattle.row_exchange.proofs.ReceiptLemmas.{no-batches}
+use Rattle.row_exchange.proofs.TapLemmas.{nothing-told}
 use Rattle.row_exchange.proofs.MessageLemmas.{rows-permuted, rows-of-all, flat_map-places, rows-by-atom, first-ok, second-ok, parity}
 use Rattle.row_exchange.specs.declared.routes.Size.{Size}
 use Rattle.row_exchange.specs.inner.Stations.{Station, HasOutlet, rows_sent, SendsAll, HasSentAll, HasReceived, IsReadyStation, HasRunStation}
@@ -239,15 +240,14 @@ module _ {W T : Type 0} (accepts : W → ℕ → Row → Type 0) (goes : W → �
         sent-rows k d e below =
             sum_by-places rows_of (get_or outs k e).sent [] ∙ ap (λ (n : ℕ). sum_by (λ w. rows_of (sent_to (get_or outs k e) w)) (range_with_len 0 n)) (sent-at k d e below).cells_are
 
-        pub evenly : (d : Station W T) (e : IntakeState) → sum (map rows_sent outs) ≡ sum (map (λ (i : IntakeState). rows_of i.got) ins)
-        evenly d e =
-            sum-map rows_sent outs
-            ∙ sum_by-same rows_sent (λ o. sum_by (λ w. rows_of (sent_to o w)) (range_with_len 0 size.workers)) outs (λ k o below. sent-rows k d o (omega (arith, below, outs-long)))
+        all-got : (d : Station W T) (e : IntakeState) → sum_by rows_sent outs ≡ of_all size.workers (λ w. rows_of (get_or ins w e).got)
+        all-got d e =
+            sum_by-same rows_sent (λ o. sum_by (λ w. rows_of (sent_to o w)) (range_with_len 0 size.workers)) outs (λ k o below. sent-rows k d o (omega (arith, below, outs-long)))
             ∙ sums-swap (λ (o : OutletState) (w : ℕ). rows_of (sent_to o w)) outs size.workers
             ∙ sum_by-range_same (λ w. sum_by (λ o. rows_of (sent_to o w)) outs) (λ w. rows_of (get_or ins w e).got) size.workers (λ w below. sym (got-rows w d e below))
-            ∙ ap (λ (n : ℕ). sum_by (λ w. rows_of (get_or ins w e).got) (range_with_len 0 n)) (sym ins-long)
-            ∙ sym (sum_by-places (λ (i : IntakeState). rows_of i.got) ins e)
-            ∙ sym (sum-map (λ (i : IntakeState). rows_of i.got) ins)
+
+        evenly : (d : Station W T) (o : OutletState) (e : IntakeState) → of_all size.workers (λ u. rows_sent (get_or outs u o)) ≡ of_all size.workers (λ w. rows_of (get_or ins w e).got)
+        evenly d o e = sym (sum_by-places rows_sent outs o ∙ ap (λ (n : ℕ). of_all n (λ u. rows_sent (get_or outs u o))) outs-long) ∙ all-got d e
 
         few-sent : (k : ℕ) (d : Station W T) (e : OutletState) → k < size.workers → rows_sent (get_or outs k e) ≤ 2199023255552
         few-sent k d e below = (sent-at k d e below).few
@@ -256,14 +256,23 @@ module _ {W T : Type 0} (accepts : W → ℕ → Row → Type 0) (goes : W → �
         few-got k d e below =
             let all : sum_by rows_sent outs ≤ length outs * 2199023255552 = sum_by-bounded rows_sent 2199023255552 outs (λ j o inside. few-sent j d o (omega (arith, inside, outs-long))) in
             let one : rows_of (get_or ins k e).got ≤ sum_by (λ (i : IntakeState). rows_of i.got) ins = get_or-le-sum_by (λ (i : IntakeState). rows_of i.got) ins k e (omega (arith, below, ins-long)) in
+            let placed = sum_by-places (λ (i : IntakeState). rows_of i.got) ins e ∙ ap (λ (n : ℕ). of_all n (λ w. rows_of (get_or ins w e).got)) ins-long in
             let long : length outs * 2199023255552 ≡ size.workers * 2199023255552 = ap (λ (n : ℕ). n * 2199023255552) outs-long in
-            omega (arith, all, one, long, ok.few_workers, evenly d e, sum-map rows_sent outs, sum-map (λ (i : IntakeState). rows_of i.got) ins)
+            omega (arith, all, one, long, ok.few_workers, all-got d e, placed)
 
-        uncapped-sent : (t : Totals) (n : ℕ) → t.sent ≤ 9223372036854775808 → n ≤ 2199023255552 → with_sent t n ≡ with_more_sent t n
-        uncapped-sent t n low few = let e : capped_sum t.sent n ≡ t.sent + n = omega arith in λ i. record t { sent = e i }
+        uncapped-sent : (t : Totals) (n : ℕ) → t.sent ≤ 9223372036854775808 → n ≤ 2199023255552 → with_sent t n ≡ with_more t n 0 0
+        uncapped-sent t n low few =
+            let s : capped_sum t.sent n ≡ t.sent + n = omega arith in
+            let r : t.got ≡ t.got + 0 = omega arith in
+            let l : t.listed ≡ t.listed + 0 = omega arith in
+            λ i. record { sent = s i; got = r i; listed = l i }
 
-        uncapped-got : (t : Totals) (n : ℕ) → t.got ≤ 9223372036854775808 → n ≤ 140737488355328 → with_got t n ≡ with_more_got t n
-        uncapped-got t n low few = let e : capped_sum t.got n ≡ t.got + n = omega arith in λ i. record t { got = e i }
+        uncapped-got : (t : Totals) (n : ℕ) → t.got ≤ 9223372036854775808 → n ≤ 140737488355328 → with_got t n ≡ with_more t 0 n 0
+        uncapped-got t n low few =
+            let s : t.sent ≡ t.sent + 0 = omega arith in
+            let r : capped_sum t.got n ≡ t.got + n = omega arith in
+            let l : t.listed ≡ t.listed + 0 = omega arith in
+            λ i. record { sent = s i; got = r i; listed = l i }
 
         module _ (tail whole told : List T) (low : All (λ t. AreLow (totals t)) whole) (is_whole : front ++ tail ≡ whole) (is_told : told ≡ taps ++ tail) where
           front-at : (k : ℕ) (t : T) → k < 2 * size.workers → get_or whole k t ≡ get_or front k t
@@ -284,33 +293,25 @@ module _ {W T : Type 0} (accepts : W → ℕ → Row → Type 0) (goes : W → �
           long-whole : 2 * size.workers ≤ length whole
           long-whole = omega (arith, ap length is_whole, length-append front tail, front-long)
 
-          pub is-told : (d : Station W T) (o : OutletState) (i : IntakeState) → IsTold totals tag size.workers (map rows_sent outs) (map (λ (x : IntakeState). rows_of x.got) ins) whole told
+          pub is-told : (d : Station W T) (o : OutletState) (i : IntakeState)
+              → AreTold totals tag size.workers (λ u. rows_sent (get_or outs u o)) (λ w. rows_of (get_or ins w i).got) nothing whole told
           is-told d o i = record {
             count = same-count;
             tags = λ k t below. ⊎_elim
                 (λ (h : k < 2 * size.workers). tag-at k t h (parity k))
                 (λ (h : 2 * size.workers ≤ k). ap tag (behind k t h))
                 (cases_lt k (2 * size.workers));
-            sent_is = λ u t below.
-                let r = (sent-tap u d t o below).0 in
-                let at : get_or (map rows_sent outs) u 0 ≡ rows_sent (get_or outs u o) = get_or-map rows_sent outs u o 0 (omega (arith, below, outs-long)) in
-                ap totals (told-at (2 * u) t (omega arith)) ∙ r
+            firsts = λ u t below.
+                ap totals (told-at (2 * u) t (omega arith)) ∙ (sent-tap u d t o below).0
                 ∙ uncapped-sent (totals (get_or front (2 * u) t)) (rows_sent (get_or outs u o))
                 (subst (λ (x : T). (totals x).sent ≤ 9223372036854775808) (front-at (2 * u) t (omega arith)) (low (2 * u) t (omega (arith, below, long-whole))).sent) (few-sent u d o below)
-                ∙ ap (λ (x : T). with_more_sent (totals x) (rows_sent (get_or outs u o))) (sym (front-at (2 * u) t (omega arith)))
-                ∙ ap (with_more_sent (totals (get_or whole (2 * u) t))) (sym at);
-            got_is = λ w t below.
-                let r = (got-tap w d t i below).0 in
-                let at : get_or (map (λ (x : IntakeState). rows_of x.got) ins) w 0 ≡ rows_of (get_or ins w i).got = get_or-map (λ (x : IntakeState). rows_of x.got) ins w i 0 (omega (arith, below, ins-long)) in
-                ap totals (told-at (2 * w + 1) t (omega arith)) ∙ r
+                ∙ ap (λ (x : T). with_more (totals x) (rows_sent (get_or outs u o)) 0 0) (sym (front-at (2 * u) t (omega arith)));
+            seconds = λ w t below.
+                ap totals (told-at (2 * w + 1) t (omega arith)) ∙ (got-tap w d t i below).0
                 ∙ uncapped-got (totals (get_or front (2 * w + 1) t)) (rows_of (get_or ins w i).got)
                 (subst (λ (x : T). (totals x).got ≤ 9223372036854775808) (front-at (2 * w + 1) t (omega arith)) (low (2 * w + 1) t (omega (arith, below, long-whole))).got) (few-got w d i below)
-                ∙ ap (λ (x : T). with_more_got (totals x) (rows_of (get_or ins w i).got)) (sym (front-at (2 * w + 1) t (omega arith)))
-                ∙ ap (with_more_got (totals (get_or whole (2 * w + 1) t))) (sym at);
+                ∙ ap (λ (x : T). with_more (totals x) 0 (rows_of (get_or ins w i).got) 0) (sym (front-at (2 * w + 1) t (omega arith)));
             others = behind;
-            even = evenly d i;
-            sent_by_all = length-map outs rows_sent ∙ outs-long;
-            got_by_all = length-map ins (λ (x : IntakeState). rows_of x.got) ∙ ins-long;
           }
             where
               tag-at : (k : ℕ) (t : T) → k < 2 * size.workers → (u : ℕ) × ((k ≡ 2 * u) ⊎ (k ≡ 2 * u + 1)) → tag (get_or told k t) ≡ tag (get_or whole k t)
@@ -375,10 +376,8 @@ module _ {W T : Type 0} (accepts : W → ℕ → Row → Type 0) (goes : W → �
             rows_are = λ u w atom below inside. rows-moved u w atom d o below inside ∙ sym (ap (rows_of_atom atom) (between u w o below inside));
           }
 
-          pub sent-pairs : (d : Station W T) (o : OutletState) → map rows_sent outs ≡ map (sent (moves_of (sendings_of (goes route) parts))) (range_with_len 0 size.workers)
-          sent-pairs d o =
-              fill_by_all (sent (moves_of (sendings_of (goes route) parts))) (map rows_sent outs) size.workers 0 (length-map outs rows_sent ∙ outs-long)
-              (λ k below. get_or-map rows_sent outs k o 0 (omega (arith, below, outs-long)) ∙ (sends-at k d o below).count_is ∙ sym (sent-routed (goes route) parts k))
+          sent-pairs : (d : Station W T) (o : OutletState) (u : ℕ) → u < size.workers → rows_sent (get_or outs u o) ≡ sent (moves_of (sendings_of (goes route) parts)) u
+          sent-pairs d o u below = (sends-at u d o below).count_is ∙ sym (sent-routed (goes route) parts u)
 
           rows-between : (u w : ℕ) (d : Station W T) (o : OutletState) → u < size.workers → w < size.workers
               → rows_of (sent_to (get_or outs u o) w) ≡ sum_by (λ atom. length (rows_to (goes route atom) w (rows_at parts atom u))) (range_with_len 0 (length parts))
@@ -388,16 +387,14 @@ module _ {W T : Type 0} (accepts : W → ℕ → Row → Type 0) (goes : W → �
               ∙ sum_by-range_same (λ atom. length (rows_of_atom atom (batches_of (sent_to (get_or outs u o) w)))) (λ atom. length (rows_to (goes route atom) w (rows_at parts atom u))) (length parts)
               (λ atom one. ap length (s.rows_are w atom inside one))
 
-          pub got-pairs : (d : Station W T) (o : OutletState) (i : IntakeState) → map (λ (x : IntakeState). rows_of x.got) ins ≡ map (received (moves_of (sendings_of (goes route) parts))) (range_with_len 0 size.workers)
-          got-pairs d o i =
-              fill_by_all (received (moves_of (sendings_of (goes route) parts))) (map (λ (x : IntakeState). rows_of x.got) ins) size.workers 0 (length-map ins (λ (x : IntakeState). rows_of x.got) ∙ ins-long)
-              (λ w inside. get_or-map (λ (x : IntakeState). rows_of x.got) ins w i 0 (omega (arith, inside, ins-long))
-              ∙ got-rows w d i inside
+          got-pairs : (d : Station W T) (o : OutletState) (i : IntakeState) (w : ℕ) → w < size.workers → rows_of (get_or ins w i).got ≡ received (moves_of (sendings_of (goes route) parts)) w
+          got-pairs d o i w inside =
+              got-rows w d i inside
               ∙ sum_by-places (λ out. rows_of (sent_to out w)) outs o
               ∙ ap (λ (n : ℕ). sum_by (λ u. rows_of (sent_to (get_or outs u o) w)) (range_with_len 0 n)) outs-long
               ∙ sum_by-range_same (λ u. rows_of (sent_to (get_or outs u o) w)) (λ u. sum_by (λ atom. length (rows_to (goes route atom) w (rows_at parts atom u))) (range_with_len 0 (length parts))) size.workers
               (λ u below. rows-between u w d o below inside)
-              ∙ sym (received-routed (goes route) parts size.workers routed.each_worker w))
+              ∙ sym (received-routed (goes route) parts size.workers routed.each_worker w)
 
           pub is-given : (d : Station W T) (o : OutletState) (i : IntakeState) → IsGiven (moves_of (sendings_of (goes route) parts)) (length parts) size.workers made
           is-given d o i = record {
@@ -425,10 +422,12 @@ module _ {W T : Type 0} (accepts : W → ℕ → Row → Type 0) (goes : W → �
           pub is-exchange : (answer : Result Exchanged Memory) → IfOk answer (λ made. (given ≡ Ok made.given) × (made.receipt ≡ receipt))
               → IsExchange (moves_of (sendings_of (goes route) parts)) (length parts) size totals tag whole told answer
           is-exchange answer if_ok = record {
-            sent = map rows_sent outs;
-            got = map (λ (x : IntakeState). rows_of x.got) ins;
+            sent = λ u. rows_sent (get_or outs u o);
+            got = λ w. rows_of (get_or ins w i).got;
             told = is-told tail whole told low is_whole is_told d o i;
-            ok = IfOk-weaker answer (λ made. (given ≡ Ok made.given) × (made.receipt ≡ receipt)) (IsExchanged (moves_of (sendings_of (goes route) parts)) (length parts) size (map rows_sent outs) (map (λ (x : IntakeState). rows_of x.got) ins))
+            even = evenly d o i;
+            ok = IfOk-weaker answer (λ made. (given ≡ Ok made.given) × (made.receipt ≡ receipt))
+                (IsExchanged (moves_of (sendings_of (goes route) parts)) (length parts) size (λ u. rows_sent (get_or outs u o)) (λ w. rows_of (get_or ins w i).got))
                 (λ made h. record {
                   sent_are = sent-pairs made.given h.0 d o;
                   got_are = got-pairs made.given h.0 d o i;
@@ -448,28 +447,14 @@ module _ {W T : Type 0} (accepts : W → ℕ → Row → Type 0) (goes : W → �
 
 -- ---- nothing was done
 
-no-more-sent : (t : Totals) (n : ℕ) → n ≡ 0 → t ≡ with_more_sent t n
-no-more-sent t n none = let e : t.sent ≡ t.sent + n = omega arith in λ i. record t { sent = e i }
-
-no-more-got : (t : Totals) (n : ℕ) → n ≡ 0 → t ≡ with_more_got t n
-no-more-got t n none = let e : t.got ≡ t.got + n = omega arith in λ i. record t { got = e i }
-
 pub nothing-done : {T : Type 0} (moves : List Move) (atoms : ℕ) (size : Size) (totals : T → Totals) (tag : T → ℕ) (taps : List T) (answer : Result Exchanged Memory)
     → IsErr answer → IsExchange moves atoms size totals tag taps taps answer
 nothing-done moves atoms size totals tag taps answer err = record {
-  sent = replicate size.workers 0;
-  got = replicate size.workers 0;
-  told = record {
-    count = refl;
-    tags = λ k d below. refl;
-    sent_is = λ u d below. no-more-sent (totals (get_or taps (2 * u) d)) (get_or (replicate size.workers 0) u 0) (get_or-replicate size.workers u 0 0 below);
-    got_is = λ w d below. no-more-got (totals (get_or taps (2 * w + 1) d)) (get_or (replicate size.workers 0) w 0) (get_or-replicate size.workers w 0 0 below);
-    others = λ k d past. refl;
-    even = refl;
-    sent_by_all = length-replicate size.workers 0;
-    got_by_all = length-replicate size.workers 0;
-  };
-  ok = IfOk-from_err answer (IsExchanged moves atoms size (replicate size.workers 0) (replicate size.workers 0)) err;
+  sent = nothing;
+  got = nothing;
+  told = nothing-told totals tag size.workers taps;
+  even = refl;
+  ok = IfOk-from_err answer (IsExchanged moves atoms size nothing nothing) err;
 }
 
 pub wired-outs : (keep : WiringState) (outlets : List OutletState) (intakes : List IntakeState) (cells senders capacity : ℕ) → IsWired keep outlets intakes cells senders capacity → length outlets ≡ senders

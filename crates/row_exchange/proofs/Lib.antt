@@ -7,6 +7,7 @@ pub mod ReceivingLemmas
 pub mod GatheringLemmas
 pub mod SumLemmas
 pub mod MessageLemmas
+pub mod TapLemmas
 pub mod MoveLemmas
 pub mod ReceiptLemmas
 pub mod AssemblyLemmas

@@ -1,16 +1,17 @@
 -- Worked cases of where rows go: one atom, of which two rows lie at worker 0 and one at worker 1. A row of one value goes to
 -- worker 0, any other to both.
-use Rattle.std.proofs.Common.{◌≡◌, ℕ, zero, suc, ◌<◌, ◌==◌, List, [], ◌∷◌, All, length, reverse, refl, arith}
+use Rattle.std.proofs.Common.{◌≡◌, ℕ, zero, suc, ◌+◌, ◌*◌, ◌<◌, ◌≤◌, ◌==◌, List, [], ◌∷◌, All, length, reverse, refl, ap, arith}
 use Rattle.std.proofs.lemmas.Bool.Decides.{nat_tests}
 use Rattle.std.specs.Prelude.{pos, false, if◌then◌else◌, slice_index_or}
 use Rattle.rel_base.specs.declared.values.Value.TheVariants as variant
+use Rattle.rel_io.specs.declared.taps.Totals.{Totals}
 use Rattle.row_exchange.specs.Routes.{Row, Rows, rows_at}
 use Rattle.row_exchange.specs.Moves.{Move, sendings_of, moves_of, sent, received, rows_between, all_given}
 use Rattle.exchange_channels.specs.declared.messages.Batch.{Batch}
 use Rattle.exchange_channels.specs.Messages.{rows_of_atom}
 use Rattle.exchange_channels.specs.Wirings.{ReceiptState}
 use Rattle.row_exchange.specs.declared.routes.Size.{Size}
-use Rattle.row_exchange.specs.Exchanges.{InOrder, IsBatch, Shows, batches_between}
+use Rattle.row_exchange.specs.Exchanges.{with_more, nothing, of_all, AreTold, InOrder, IsBatch, Shows, batches_between}
 use Rattle.row_exchange.specs.inner.Pairs.{times_to, rows_to, all_rows_to, pairs_from, pairs_to}
 
 abbrev first_row : Row
@@ -171,3 +172,59 @@ turned = record { capacity = 16; batches = reverse receipt.batches }
 
 not_shown : Shows InOrder 1 size moves turned → ⊥
 not_shown shows = absurd (cc (shows.rows_are 0 0 0 (omega arith) (omega arith)))
+
+-- ---- what the taps are told of these moves
+
+abbrev sums : ℕ → ℕ → ℕ → Totals
+sums sent got listed = record { sent = sent; got = got; listed = listed }
+
+-- the taps of both workers, before and after, and one that is read by nobody
+abbrev before : List Totals
+before = sums 0 0 0 ∷ sums 0 5 7 ∷ sums 5 0 0 ∷ sums 0 0 0 ∷ sums 1 1 1 ∷ []
+
+abbrev after : List Totals
+after = sums 3 0 0 ∷ sums 0 8 7 ∷ sums 7 0 0 ∷ sums 0 2 0 ∷ sums 1 1 1 ∷ []
+
+told : AreTold (λ (t : Totals). t) (λ (t : Totals). t.listed) 2 (sent moves) (received moves) nothing before after
+told = record {
+  count = refl;
+  tags = tag_at;
+  firsts = first_at;
+  seconds = second_at;
+  others = other_at;
+}
+  where
+    tag_at : (k : ℕ) (d : Totals) → k < 5 → (slice_index_or after k d).listed ≡ (slice_index_or before k d).listed
+    tag_at zero d _ = refl
+    tag_at (suc zero) d _ = refl
+    tag_at (suc (suc zero)) d _ = refl
+    tag_at (suc (suc (suc zero))) d _ = refl
+    tag_at (suc (suc (suc (suc k)))) d _ = refl
+
+    first_at : (u : ℕ) (d : Totals) → u < 2 → slice_index_or after (2 * u) d ≡ with_more (slice_index_or before (2 * u) d) (sent moves u) 0 0
+    first_at zero d _ = refl
+    first_at (suc zero) d _ = refl
+    first_at (suc (suc u)) d below = absurd (omega (arith, below))
+
+    second_at : (w : ℕ) (d : Totals) → w < 2 → slice_index_or after (2 * w + 1) d ≡ with_more (slice_index_or before (2 * w + 1) d) 0 (received moves w) 0
+    second_at zero d _ = refl
+    second_at (suc zero) d _ = refl
+    second_at (suc (suc w)) d below = absurd (omega (arith, below))
+
+    other_at : (k : ℕ) (d : Totals) → 4 ≤ k → slice_index_or after k d ≡ slice_index_or before k d
+    other_at (suc (suc (suc (suc k)))) d past = refl
+    other_at zero d past = absurd (omega (arith, past))
+    other_at (suc zero) d past = absurd (omega (arith, past))
+    other_at (suc (suc zero)) d past = absurd (omega (arith, past))
+    other_at (suc (suc (suc zero))) d past = absurd (omega (arith, past))
+
+-- as many rows are sent as received
+even : of_all 2 (sent moves) ≡ of_all 2 (received moves)
+even = refl
+
+-- a worker whose second tap was told of a row too many
+abbrev miscounted : List Totals
+miscounted = sums 3 0 0 ∷ sums 0 8 7 ∷ sums 7 0 0 ∷ sums 0 3 0 ∷ sums 1 1 1 ∷ []
+
+not_told : AreTold (λ (t : Totals). t) (λ (t : Totals). t.listed) 2 (sent moves) (received moves) nothing before miscounted → ⊥
+not_told t = absurd (omega (arith, ap (λ (t : Totals). t.got) (t.seconds 1 (sums 0 0 0) (omega arith))))

@@ -4,14 +4,15 @@
 --                                    allowed
 --   IsBatch atoms most batch         a batch of one of so many atoms, with 1 to so many rows
 --   AreLow sums                      the sums of a tap are far from their end
---   IsTold .. sent got before after  taps before and after so many rows were sent and received by
---                                    the workers
+--   of_all workers rows              how many rows all workers have together
+--   AreTold .. sent got listed before after    taps before and after the workers sent, received and
+--                                    listed so many rows
 --   InOrder rows others              these are the same rows in the same order
 --   Shows Same atoms size moves receipt    a receipt shows the rows that move from each worker to
 --                                    each, in order or as a bag
 --   IsGiven moves atoms workers given    each worker is given the rows that go to it
 --   IsExchange ..                    what an exchange does, whatever it answers
-use Rattle.std.specs.Prelude.{◌≡◌, ℕ, ◌+◌, ◌*◌, ◌<◌, ◌≤◌, List, [], length, map, sum, All, Result, IfOk, slice_index_or}
+use Rattle.std.specs.Prelude.{◌≡◌, ℕ, ◌+◌, ◌*◌, ◌<◌, ◌≤◌, List, [], length, sum_by, All, Result, IfOk, slice_index_or}
 use Rattle.std.specs.List.{range_with_len}
 use Rattle.rel_base.specs.Bags.{SameBag}
 use Rattle.rel_base.specs.Limits.{most_workers, most_capacity, most_batch}
@@ -43,36 +44,40 @@ pub record IsBatch (atoms most : ℕ) (batch : Batch) : Type 0 where
 
 -- ---- taps
 
--- so many rows more were sent, or received
-abbrev pub with_more_sent : Totals → ℕ → Totals
-with_more_sent sums rows = record sums { sent = sums.sent + rows }
-
-abbrev pub with_more_got : Totals → ℕ → Totals
-with_more_got sums rows = record sums { got = sums.got + rows }
+-- so many rows more were sent, received and listed
+abbrev pub with_more : Totals → ℕ → ℕ → ℕ → Totals
+with_more sums sent got listed =
+    record { sent = sums.sent + sent; got = sums.got + got; listed = sums.listed + listed }
 
 -- the sums are far from their end
 pub record AreLow (sums : Totals) : Type 0 where
   pub sent : sums.sent ≤ 9223372036854775808
   pub got : sums.got ≤ 9223372036854775808
 
--- the taps, two for each worker and others behind them, before and after so many rows were sent
--- and received by the workers
-pub record IsTold {T : Type 0} (totals : T → Totals) (tag : T → ℕ) (workers : ℕ)
-    (sent got : List ℕ) (before after : List T) : Type 0 where
+-- no row of any worker
+abbrev pub nothing : ℕ → ℕ
+nothing worker = 0
+
+-- how many rows all workers have together
+abbrev pub of_all : ℕ → (ℕ → ℕ) → ℕ
+of_all workers rows = sum_by rows (range_with_len 0 workers)
+
+-- the taps, two for each worker and others behind them, before and after the workers sent,
+-- received and listed so many rows: the first one of a worker rose by what it sent, the second one
+-- by what it received and listed, and the others are as before
+pub record AreTold {T : Type 0} (totals : T → Totals) (tag : T → ℕ) (workers : ℕ)
+    (sent got listed : ℕ → ℕ) (before after : List T) : Type 0 where
   pub count : length after ≡ length before
   pub tags : (k : ℕ) (d : T) → k < length before
       → tag (slice_index_or after k d) ≡ tag (slice_index_or before k d)
-  pub sent_is : (u : ℕ) (d : T) → u < workers
+  pub firsts : (u : ℕ) (d : T) → u < workers
       → totals (slice_index_or after (2 * u) d)
-      ≡ with_more_sent (totals (slice_index_or before (2 * u) d)) (slice_index_or sent u 0)
-  pub got_is : (w : ℕ) (d : T) → w < workers
+      ≡ with_more (totals (slice_index_or before (2 * u) d)) (sent u) 0 0
+  pub seconds : (w : ℕ) (d : T) → w < workers
       → totals (slice_index_or after (2 * w + 1) d)
-      ≡ with_more_got (totals (slice_index_or before (2 * w + 1) d)) (slice_index_or got w 0)
+      ≡ with_more (totals (slice_index_or before (2 * w + 1) d)) 0 (got w) (listed w)
   pub others : (k : ℕ) (d : T) → 2 * workers ≤ k
       → slice_index_or after k d ≡ slice_index_or before k d
-  pub even : sum sent ≡ sum got
-  pub sent_by_all : length sent ≡ workers
-  pub got_by_all : length got ≡ workers
 
 -- ---- the receipt and what was given
 
@@ -107,10 +112,10 @@ pub record IsGiven (moves : List Move) (atoms workers : ℕ)
 
 -- what an exchange gives: the numbers of rows sent and received are those of the moves, the receipt
 -- shows them, and each worker is given them
-pub record IsExchanged (moves : List Move) (atoms : ℕ) (size : Size) (sent_by got_by : List ℕ)
+pub record IsExchanged (moves : List Move) (atoms : ℕ) (size : Size) (sent_by got_by : ℕ → ℕ)
     (made : Exchanged) : Type 0 where
-  pub sent_are : sent_by ≡ map (sent moves) (range_with_len 0 size.workers)
-  pub got_are : got_by ≡ map (received moves) (range_with_len 0 size.workers)
+  pub sent_are : (u : ℕ) → u < size.workers → sent_by u ≡ sent moves u
+  pub got_are : (w : ℕ) → w < size.workers → got_by w ≡ received moves w
   pub receipt : Shows InOrder atoms size moves made.receipt
   pub given : IsGiven moves atoms size.workers made.given
 
@@ -120,7 +125,8 @@ pub record IsExchanged (moves : List Move) (atoms : ℕ) (size : Size) (sent_by 
 pub record IsExchange {T : Type 0} (moves : List Move) (atoms : ℕ) (size : Size)
     (totals : T → Totals) (tag : T → ℕ) (before after : List T)
     (answer : Result Exchanged Memory) : Type 0 where
-  pub sent : List ℕ
-  pub got : List ℕ
-  pub told : IsTold totals tag size.workers sent got before after
+  pub sent : ℕ → ℕ
+  pub got : ℕ → ℕ
+  pub told : AreTold totals tag size.workers sent got nothing before after
+  pub even : of_all size.workers sent ≡ of_all size.workers got
   pub ok : IfOk answer (IsExchanged moves atoms size sent got)

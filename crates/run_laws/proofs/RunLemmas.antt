@@ -1,13 +1,14 @@
 -- Runs of terms, by exchanges that tell the same.
-use Rattle.std.proofs.Common.{ℕ, ◌+◌, ◌*◌, List, sym, ◌∙◌, ap, Result, Ok, Err}
-use Rattle.std.specs.Prelude.{slice_index_or, IfOk}
+use Rattle.std.proofs.Common.{ℕ, List, sym, Result, Ok, Err}
+use Rattle.std.specs.Prelude.{IfOk}
 use Rattle.rel_io.specs.declared.taps.Totals.{Totals}
 use Rattle.myrial_ast.specs.Combinations.{Rows}
 use Rattle.bag_laws.specs.Permuted.{SameTables}
 use Rattle.algebra.specs.declared.settings.Settings.{Settings}
 use Rattle.placement.specs.Exchanges.{PlacedExchange}
+use Rattle.row_exchange.proofs.TapLemmas.{told-same}
 use Rattle.term_runs.specs.declared.moved.Moved.{Moved}
-use Rattle.term_runs.specs.TermRuns.{with_more, AreMoved, IsMoved, IsTermRun}
+use Rattle.term_runs.specs.TermRuns.{all_sent, all_received, all_listed, AreMoved, IsMoved, IsTermRun}
 use Rattle.run_laws.specs.SameExchanges.{AreSameExchanges}
 use Rattle.run_laws.proofs.MovedLemmas.{counts_are_of_same_exchanges, moved_are_of_same_exchanges}
 
@@ -19,19 +20,11 @@ module _ {T : Type 0} (totals : T → Totals) (tag : T → ℕ) where
   -- taps rise by exchanges as by others that tell the same
   taps-same : (n : ℕ) (es fs : List PlacedExchange) (before after : List T) → AreSameExchanges n fs es
       → AreMoved totals tag n es before after → AreMoved totals tag n fs before after
-  taps-same n es fs before after h moved = record {
-    count = moved.count;
-    tags = moved.tags;
-    firsts = λ u d low.
-        moved.firsts u d low
-        ∙ ap (λ m. with_more (totals (slice_index_or before (2 * u) d)) m 0 0)
-        (sym (counts_are_of_same_exchanges n fs es h u low).0);
-    seconds = λ w d low.
-        let counts = counts_are_of_same_exchanges n fs es h w low in
-        moved.seconds w d low
-        ∙ (λ i. with_more (totals (slice_index_or before (2 * w + 1) d)) 0 (sym counts.1 i) (sym counts.2 i));
-    others = moved.others;
-  }
+  taps-same n es fs before after h moved =
+      told-same totals tag n (all_sent es) (all_received es) (all_listed es) (all_sent fs) (all_received fs) (all_listed fs) before after
+      (λ u low. sym (counts_are_of_same_exchanges n fs es h u low).0)
+      (λ w low. sym (counts_are_of_same_exchanges n fs es h w low).1)
+      (λ w low. sym (counts_are_of_same_exchanges n fs es h w low).2) moved
 
   -- a run that comes to some rows by some exchanges comes to the same bags by others that tell the same
   pub run-same : {F : Type 0} (s : Settings) (number : ℕ) (parts others : List Rows) (es fs : List PlacedExchange)

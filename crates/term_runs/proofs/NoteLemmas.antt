@@ -4,15 +4,15 @@ use Rattle.std.proofs.lemmas.Bool.{cases_lt}
 use Rattle.std.proofs.lemmas.List.FromFn.{fill_by_all}
 use Rattle.rel_io.specs.declared.taps.Totals.{Totals}
 use Rattle.exchange_channels.proofs.DeliveryLemmas.{element}
-use Rattle.myrial_ast.specs.Combinations.{Rows}
 use Rattle.algebra.specs.declared.notes.Traffic.{Traffic}
 use Rattle.placement.specs.Exchanges.{PlacedExchange, traffic_note}
 use Rattle.placement.specs.Layouts.{by_worker}
 use Rattle.row_exchange.specs.Moves.{received}
-use Rattle.term_runs.specs.TermRuns.{AreMoved, IsListedAt}
+use Rattle.row_exchange.specs.Exchanges.{AreTold}
+use Rattle.routed_joins.specs.Listings.{IsListedAt}
+use Rattle.term_runs.specs.TermRuns.{all_sent, all_received, all_listed, AreMoved}
 use Rattle.term_runs.specs.Notes.{AreSeconds, HaveRisen, IsNoteSince}
 use Rattle.term_runs.specs.Laws.{NotesTellMoves}
-use Rattle.term_runs.proofs.TapLemmas.{AreAdded, moved-added}
 
 module _ {T : Type 0} (totals : T → Totals) where
   -- the numbers of the first workers
@@ -24,10 +24,10 @@ module _ {T : Type 0} (totals : T → Totals) where
     pub listed_is : (w : ℕ) (d : T) (e : Totals) → w < told
         → (get_or since w e).listed + get_or listed_by w 0 ≡ (totals (get_or taps (2 * w + 1) d)).listed
 
-  -- sums that were read before something was added
-  pub risen-added : (tag : T → ℕ) (n : ℕ) (s g l : ℕ → ℕ) (before after : List T) (since : List Totals) → AreSeconds totals n before since
-      → AreAdded totals tag n s g l before after → HaveRisen totals since after
-  risen-added tag n s g l before after since read x = record {
+  -- sums that were read before taps were told more
+  pub risen-told : (tag : T → ℕ) (n : ℕ) (s g l : ℕ → ℕ) (before after : List T) (since : List Totals) → AreSeconds totals n before since
+      → AreTold totals tag n s g l before after → HaveRisen totals since after
+  risen-told tag n s g l before after since read x = record {
     got = λ w d e below.
         let inside : w < n = omega (arith, below, read.count) in
         omega (arith, ap (λ (t : Totals). t.got) (read.sums_are w d e inside), ap (λ (t : Totals). t.got) (x.seconds w d inside));
@@ -37,19 +37,19 @@ module _ {T : Type 0} (totals : T → Totals) where
   }
 
   -- and before rows were listed behind it
-  pub risen-listed : (tag : T → ℕ) (parts : List Rows) (before after : List T) (since : List Totals) → HaveRisen totals since before
-      → IsListedAt totals tag parts before after → HaveRisen totals since after
-  risen-listed tag parts before after since risen l = record {
+  pub risen-listed : (tag : T → ℕ) (n : ℕ) (counts : ℕ → ℕ) (before after : List T) (since : List Totals) → HaveRisen totals since before
+      → IsListedAt totals tag n counts before after → HaveRisen totals since after
+  risen-listed tag n counts before after since risen l = record {
     got = λ w d e below.
         ⊎_elim
-        (λ (h : w < length parts). omega (arith, risen.got w d e below, ap (λ (t : Totals). t.got) (l.seconds w d h)))
-        (λ (h : length parts ≤ w). omega (arith, risen.got w d e below, ap (λ (t : T). (totals t).got) (l.others (2 * w + 1) d (omega (arith, h)))))
-        (cases_lt w (length parts));
+        (λ (h : w < n). omega (arith, risen.got w d e below, ap (λ (t : Totals). t.got) (l.told.seconds w d h)))
+        (λ (h : n ≤ w). omega (arith, risen.got w d e below, ap (λ (t : T). (totals t).got) (l.told.others (2 * w + 1) d (omega (arith, h)))))
+        (cases_lt w (n));
     listed = λ w d e below.
         ⊎_elim
-        (λ (h : w < length parts). omega (arith, risen.listed w d e below, ap (λ (t : Totals). t.listed) (l.seconds w d h)))
-        (λ (h : length parts ≤ w). omega (arith, risen.listed w d e below, ap (λ (t : T). (totals t).listed) (l.others (2 * w + 1) d (omega (arith, h)))))
-        (cases_lt w (length parts));
+        (λ (h : w < n). omega (arith, risen.listed w d e below, ap (λ (t : Totals). t.listed) (l.told.seconds w d h)))
+        (λ (h : n ≤ w). omega (arith, risen.listed w d e below, ap (λ (t : T). (totals t).listed) (l.told.others (2 * w + 1) d (omega (arith, h)))))
+        (cases_lt w (n));
   }
 
   -- ---- the note of an exchange
@@ -90,6 +90,6 @@ module _ {T : Type 0} (totals : T → Totals) where
 
   pub notes-tell : (tag : T → ℕ) → NotesTellMoves totals tag
   notes-tell tag = record {
-    risen = λ n es before after since read moved. risen-added tag n _ _ _ before after since read (moved-added totals tag n es before after moved);
+    risen = λ n es before after since read moved. risen-told tag n (all_sent es) (all_received es) (all_listed es) before after since read moved;
     note = λ n number e before after since note room listed moved read is. note-is tag n number e before after since note room listed moved read is;
   }

@@ -1,25 +1,25 @@
 -- The laws by which what exchanges tell is put together.
 --
 --   MovesAreJoined          taps that rose by some exchanges and then by others rose by all of them
---   FairnessIsKept          taps that stay even step by step stay even, and so they do in each exchange
+--   FairnessIsKept          taps that stay even step by step stay even, and so they do where they are
+--                           told of as many rows sent as received
 --   ToldIsMoved             what the taps are told of an exchange, and of rows listed behind it, is what it moves
 --   NotesTellMoves          the numbers that are read off the taps are those of the exchange
 --   RunsAreJoined           receipts and runs, one after another
-use Rattle.std.specs.Prelude.{◌≡◌, ℕ, ◌*◌, ◌≤◌, List, [], ◌∷◌, ◌++◌, length}
+use Rattle.std.specs.Prelude.{◌≡◌, ℕ, ◌*◌, ◌<◌, ◌≤◌, List, [], ◌∷◌, ◌++◌, length}
 use Rattle.rel_io.specs.declared.taps.Totals.{Totals}
 use Rattle.exchange_channels.specs.Wirings.{ReceiptState}
 use Rattle.myrial_ast.specs.Combinations.{Rows}
 use Rattle.algebra.specs.declared.notes.Traffic.{Traffic}
 use Rattle.algebra.specs.declared.settings.Settings.{Settings}
 use Rattle.placement.specs.Exchanges.{PlacedExchange, row_counts, traffic_note}
-use Rattle.placement.specs.Layouts.{by_worker}
 use Rattle.row_exchange.specs.Moves.{Move, sent, received}
 use Rattle.row_exchange.specs.declared.routes.Size.{Size}
-use Rattle.row_exchange.specs.Exchanges.{IsTold}
-use Rattle.routed_joins.specs.RouteJoins.{AreCounted}
+use Rattle.row_exchange.specs.Exchanges.{nothing, of_all, AreTold}
+use Rattle.routed_joins.specs.Listings.{count_at, IsListedAt}
 use Rattle.term_runs.specs.declared.moved.Moved.{Moved}
 use Rattle.term_runs.specs.Notes.{AreSeconds, HaveRisen, IsNoteSince}
-use Rattle.term_runs.specs.TermRuns.{AreShown, all_sent, all_received, all_listed, AreMoved, AreFair, IsListedAt, IsMoved}
+use Rattle.term_runs.specs.TermRuns.{AreShown, all_sent, all_received, all_listed, AreMoved, AreFair, IsMoved}
 
 module _ {T : Type 0} (totals : T → Totals) (tag : T → ℕ) where
   -- taps rise by no exchange where nothing is done, and by all exchanges where by some and then by others
@@ -29,35 +29,36 @@ module _ {T : Type 0} (totals : T → Totals) (tag : T → ℕ) where
         → AreMoved totals tag n es before middle → AreMoved totals tag n fs middle after
         → AreMoved totals tag n (es ++ fs) before after
 
-  -- taps stay even where nothing is done, where they do in each of two steps, in an exchange and where rows are listed
+  -- taps stay even where nothing is done, where they do in each of two steps, where they are told
+  -- of as many rows sent as received, and where rows are listed
   pub record FairnessIsKept : Type 0 where
     pub none : (taps : List T) → AreFair totals tag taps taps
     pub joined : (before middle after : List T) → AreFair totals tag before middle
         → AreFair totals tag middle after
         → AreFair totals tag before after
-    pub told : (n : ℕ) (sent got : List ℕ) (before after : List T) → 2 * n ≤ length before
-        → IsTold totals tag n sent got before after → AreFair totals tag before after
-    pub listed : (parts : List Rows) (before after : List T)
-        → IsListedAt totals tag parts before after
+    pub told : (n : ℕ) (sent got listed : ℕ → ℕ) (before after : List T) → of_all n sent ≡ of_all n got
+        → AreTold totals tag n sent got listed before after → AreFair totals tag before after
+    pub listed : (n : ℕ) (listed : ℕ → ℕ) (before after : List T)
+        → IsListedAt totals tag n listed before after
         → AreFair totals tag before after
-    pub counted : (n : ℕ) (sent got listed : List ℕ) (before after : List T) → 2 * n ≤ length before
-        → AreCounted totals tag n sent got listed before after → AreFair totals tag before after
 
   -- what the taps are told of an exchange and then of listed rows is what it moves, and so is what they are told of the joins of
   -- some exchanges
   pub record ToldIsMoved : Type 0 where
-    pub told : (n : ℕ) (e : PlacedExchange) (sent_by got_by : List ℕ) (parts : List Rows)
+    pub told : (n : ℕ) (e : PlacedExchange) (sent_by got_by : ℕ → ℕ) (parts : List Rows)
         (before middle after : List T)
-        → IsTold totals tag n sent_by got_by before middle
-        → IsListedAt totals tag parts middle after → length parts ≡ n
-        → sent_by ≡ by_worker n (sent e.moves) → got_by ≡ by_worker n (received e.moves)
+        → AreTold totals tag n sent_by got_by nothing before middle
+        → IsListedAt totals tag (length parts) (count_at parts) middle after → length parts ≡ n
+        → ((u : ℕ) → u < n → sent_by u ≡ sent e.moves u)
+        → ((w : ℕ) → w < n → got_by w ≡ received e.moves w)
         → e.listed ≡ row_counts parts
         → AreMoved totals tag n (e ∷ []) before after
-    pub counted : (n : ℕ) (es : List PlacedExchange) (sent_by got_by listed_by : List ℕ)
+    pub counted : (n : ℕ) (es : List PlacedExchange) (sent_by got_by listed_by : ℕ → ℕ)
         (before after : List T)
-        → AreCounted totals tag n sent_by got_by listed_by before after
-        → sent_by ≡ by_worker n (all_sent es) → got_by ≡ by_worker n (all_received es)
-        → listed_by ≡ by_worker n (all_listed es)
+        → AreTold totals tag n sent_by got_by listed_by before after
+        → ((u : ℕ) → u < n → sent_by u ≡ all_sent es u)
+        → ((w : ℕ) → w < n → got_by w ≡ all_received es w)
+        → ((w : ℕ) → w < n → listed_by w ≡ all_listed es w)
         → AreMoved totals tag n es before after
 
   -- where the taps rose by exchanges, sums of second taps that were read before have risen; and the numbers that are read off since

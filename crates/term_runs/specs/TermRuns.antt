@@ -4,11 +4,10 @@
 --   AreShown size moves receipts          receipts show these moves, one after another
 --   all_sent, all_received, all_listed    how many rows a worker sends, receives and lists in exchanges
 --   AreMoved .. exchanges before after    taps before and after these exchanges
---   IsListedAt .. parts before after      taps before and after the workers listed these rows
 --   AreFair .. before after               the taps stand in their order, and stay even if they were
 --   IsMoved s number expected exchanges made   what a run gives: the rows at each worker, notes and receipts
 --   IsTermRun ..                          what it does, whatever it answers
-use Rattle.std.specs.Prelude.{◌≡◌, ℕ, ◌+◌, ◌*◌, ◌<◌, ◌≤◌, ◌==◌, List, [], ◌∷◌, length, map, filter, sum_by, Result, IfOk, IfErr, slice_index_or}
+use Rattle.std.specs.Prelude.{◌≡◌, ℕ, ◌<◌, ◌==◌, List, [], ◌∷◌, length, map, filter, sum_by, Result, IfOk, IfErr, slice_index_or}
 use Rattle.std.specs.List.{flat_map}
 use Rattle.rel_base.specs.Bags.{SameBag}
 use Rattle.rel_base.specs.Limits.{most_items}
@@ -23,7 +22,7 @@ use Rattle.row_exchange.specs.Moves.{Move, sent, received}
 use Rattle.placement.specs.Exchanges.{PlacedExchange, traffic_note}
 use Rattle.placement.specs.Runs.{size_of}
 use Rattle.row_exchange.specs.declared.routes.Size.{Size}
-use Rattle.row_exchange.specs.Exchanges.{Shows}
+use Rattle.row_exchange.specs.Exchanges.{AreTold, Shows}
 use Rattle.term_runs.specs.declared.moved.Moved.{Moved}
 
 -- ---- receipts
@@ -62,28 +61,12 @@ all_received exchanges w = sum_by (λ (e : PlacedExchange). received e.moves w) 
 abbrev pub all_listed : List PlacedExchange → ℕ → ℕ
 all_listed exchanges w = sum_by (λ (e : PlacedExchange). slice_index_or e.listed w 0) exchanges
 
--- so many rows more were sent, received and listed
-abbrev pub with_more : Totals → ℕ → ℕ → ℕ → Totals
-with_more sums sent got listed =
-    record { sent = sums.sent + sent; got = sums.got + got; listed = sums.listed + listed }
-
 module _ {T : Type 0} (totals : T → Totals) (tag : T → ℕ) where
-  -- taps, two for each worker and others behind them, before and after these exchanges: the first one of a worker rose by what
-  -- it sent, and the second one by what it received and listed
-  pub record AreMoved (workers : ℕ) (exchanges : List PlacedExchange)
-      (before after : List T) : Type 0 where
-    pub count : length after ≡ length before
-    pub tags : (k : ℕ) (d : T) → k < length before
-        → tag (slice_index_or after k d) ≡ tag (slice_index_or before k d)
-    pub firsts : (u : ℕ) (d : T) → u < workers
-        → totals (slice_index_or after (2 * u) d)
-        ≡ with_more (totals (slice_index_or before (2 * u) d)) (all_sent exchanges u) 0 0
-    pub seconds : (w : ℕ) (d : T) → w < workers
-        → totals (slice_index_or after (2 * w + 1) d)
-        ≡ with_more (totals (slice_index_or before (2 * w + 1) d)) 0 (all_received exchanges w)
-        (all_listed exchanges w)
-    pub others : (k : ℕ) (d : T) → 2 * workers ≤ k
-        → totals (slice_index_or after k d) ≡ totals (slice_index_or before k d)
+  -- the taps before and after these exchanges: they were told of what the workers send, receive
+  -- and list in these, and of nothing else
+  abbrev pub AreMoved : ℕ → List PlacedExchange → List T → List T → Type 0
+  AreMoved workers exchanges before after = AreTold totals tag workers
+      (all_sent exchanges) (all_received exchanges) (all_listed exchanges) before after
 
   -- the taps stand in their order, and where as many rows were sent as received, as many are
   pub record AreFair (before after : List T) : Type 0 where
@@ -92,20 +75,6 @@ module _ {T : Type 0} (totals : T → Totals) (tag : T → ℕ) where
         → tag (slice_index_or after k d) ≡ tag (slice_index_or before k d)
     pub even : sum_by (λ t. (totals t).sent) before ≡ sum_by (λ t. (totals t).got) before
         → sum_by (λ t. (totals t).sent) after ≡ sum_by (λ t. (totals t).got) after
-
-  -- the second tap of each worker rose by the rows that it lists, and all others are as before
-  pub record IsListedAt (parts : List Rows) (before after : List T) : Type 0 where
-    pub count : length after ≡ length before
-    pub tags : (k : ℕ) (d : T) → k < length before
-        → tag (slice_index_or after k d) ≡ tag (slice_index_or before k d)
-    pub firsts : (u : ℕ) (d : T) → u < length parts
-        → slice_index_or after (2 * u) d ≡ slice_index_or before (2 * u) d
-    pub seconds : (w : ℕ) (d : T) → w < length parts
-        → totals (slice_index_or after (2 * w + 1) d)
-        ≡ with_more (totals (slice_index_or before (2 * w + 1) d)) 0 0
-        (length (slice_index_or parts w []))
-    pub others : (k : ℕ) (d : T) → 2 * length parts ≤ k
-        → slice_index_or after k d ≡ slice_index_or before k d
 
 -- ---- what a run gives, and what it does
 

@@ -1,8 +1,7 @@
 //! What taps are told, and whether they may be told more.
 ghost use Rattle.std.specs.Prelude.{◌≡◌, ◌*◌, ◌≤◌, All, IsTrue, length, vec_len};
 ghost use Rattle.row_exchange.specs.Exchanges.{AreLow};
-ghost use Rattle.routed_joins.specs.Listings.{IsLow};
-ghost use Rattle.term_runs.specs.TermRuns.{IsListedAt};
+ghost use Rattle.routed_joins.specs.Listings.{IsLow, count_at, IsListedAt};
 
 use rel_base::Spread;
 use rel_io::Tap;
@@ -27,7 +26,8 @@ pub fn have_room<T: Tap>(taps: &[T]) -> bool
 pub fn tell_listed<T: Tap>(parts: &Spread, taps: &mut Vec<T>)
     requires taps { 2 * length parts.now ≤ vec_len taps.old }
     requires unlisted { All (λ t. IsLow (T.totals t)) taps.old.items }
-    ensures { IsListedAt T.totals T.tag parts.now taps.old.items taps.new.items }
+    ensures { IsListedAt T.totals T.tag (length parts.now) (count_at parts.now) taps.old.items
+        taps.new.items }
 {
     for (w, rows) in parts.as_slice().iter().enumerate() {
         taps[2 * w + 1].listed(u64::from(rows.len()));

@@ -1,11 +1,12 @@
-use Rattle.std.proofs.Common.{◌*◌, ◌≤◌, ℕ, List, length, All, sym, subst, arith, rules}
+use Rattle.std.proofs.Common.{ℕ, List, All, sym, subst, rules}
 use Rattle.std.specs.List.{range_with_len}
 use Rattle.myrial_ast.specs.Combinations.{Row}
 use Rattle.hash_partition.specs.Hashing.{home_of}
+use Rattle.row_exchange.specs.Exchanges.{nothing}
 use Rattle.placement.specs.Runs.{size_of}
+use Rattle.routed_joins.proofs.RouteLemmas.{told-low}
 use Rattle.regular_shuffle.specs.KeySpreads.{HasColumns, IsSpread}
 use Rattle.term_runs.proofs.TapLemmas.{told-fair, fair-both}
-use Rattle.keyed_terms.proofs.ConcludeLemmas.{told-low}
 use Rattle.keyed_terms.proofs.MeetLemmas.{meeting-failed, have-met}
 use Rattle.keyed_terms.proofs.SpreadLemmas.{spread-as, tables-refl, whole-home, whole-columns}
 use Rattle.keyed_terms.proofs.diffs.meet.Goals as goal
@@ -29,9 +30,8 @@ returns-in_err-met g c =
     let before = a.taps.now.items in
     let middle = c.spread_by_key.new.taps.items in
     let x = c.spread_by_key.ensures in
-    let room : 2 * s.workers ≤ length before = omega (arith, c.requires.taps, a.taps.now.ok.0) in
     meeting-failed s a.operands.now.left a.operands.now.right totals tag before middle c.from_residual.result (search rules)
-    (told-fair totals tag s.workers x.sent_by x.got_by before middle room x.told)
+    (told-fair totals tag s.workers x.sent_by x.got_by nothing before middle x.even x.told)
     (told-low totals tag s.workers x.sent_by x.got_by before middle x.told c.requires.unlisted)
 
 pub returns-then-not-have_room : goal.returns-then-not-have_room
@@ -43,9 +43,8 @@ returns-then-not-have_room g c =
     let before = a.taps.now.items in
     let middle = c.spread_by_key.new.taps.items in
     let x = c.spread_by_key.ensures in
-    let room : 2 * s.workers ≤ length before = omega (arith, c.requires.taps, a.taps.now.ok.0) in
     meeting-failed s a.operands.now.left a.operands.now.right totals tag before middle _ (search rules)
-    (told-fair totals tag s.workers x.sent_by x.got_by before middle room x.told)
+    (told-fair totals tag s.workers x.sent_by x.got_by nothing before middle x.even x.told)
     (told-low totals tag s.workers x.sent_by x.got_by before middle x.told c.requires.unlisted)
 
 pub returns-in_err-others : goal.returns-in_err-others
@@ -59,11 +58,9 @@ returns-in_err-others g c =
     let after = c.spread_by_key-2.new.taps.items in
     let x = c.spread_by_key.ensures in
     let y = c.spread_by_key-2.ensures in
-    let room : 2 * s.workers ≤ length before = omega (arith, c.requires.taps, a.taps.now.ok.0) in
-    let there : 2 * s.workers ≤ length middle = omega (arith, room, x.told.count) in
     meeting-failed s a.operands.now.left a.operands.now.right totals tag before after c.from_residual-in_err-others.result (search rules)
-    (fair-both totals tag before middle after (told-fair totals tag s.workers x.sent_by x.got_by before middle room x.told)
-    (told-fair totals tag s.workers y.sent_by y.got_by middle after there y.told))
+    (fair-both totals tag before middle after (told-fair totals tag s.workers x.sent_by x.got_by nothing before middle x.even x.told)
+    (told-fair totals tag s.workers y.sent_by y.got_by nothing middle after y.even y.told))
     (told-low totals tag s.workers y.sent_by y.got_by middle after y.told
     (told-low totals tag s.workers x.sent_by x.got_by before middle x.told c.requires.unlisted))
 
@@ -78,11 +75,9 @@ returns-in_err-receipts g c =
     let after = c.spread_by_key-2.new.taps.items in
     let x = c.spread_by_key.ensures in
     let y = c.spread_by_key-2.ensures in
-    let room : 2 * s.workers ≤ length before = omega (arith, c.requires.taps, a.taps.now.ok.0) in
-    let there : 2 * s.workers ≤ length middle = omega (arith, room, x.told.count) in
     meeting-failed s a.operands.now.left a.operands.now.right totals tag before after c.from_residual-in_err-receipts.result (search rules)
-    (fair-both totals tag before middle after (told-fair totals tag s.workers x.sent_by x.got_by before middle room x.told)
-    (told-fair totals tag s.workers y.sent_by y.got_by middle after there y.told))
+    (fair-both totals tag before middle after (told-fair totals tag s.workers x.sent_by x.got_by nothing before middle x.even x.told)
+    (told-fair totals tag s.workers y.sent_by y.got_by nothing middle after y.even y.told))
     (told-low totals tag s.workers y.sent_by y.got_by middle after y.told
     (told-low totals tag s.workers x.sent_by x.got_by before middle x.told c.requires.unlisted))
 
@@ -105,8 +100,6 @@ returns g c =
     let others = c.in_ok-others.others in
     let first = c.in_ok-met.first in
     let second = c.in_ok-others.second in
-    let room : 2 * s.workers ≤ length before = omega (arith, c.requires.taps, a.taps.now.ok.0) in
-    let there : 2 * s.workers ≤ length middle = omega (arith, room, x.told.count) in
     let one =
     spread-as s.seed (range_with_len 0 width) home left left (size_of s) x.sent_by x.got_by met first (tables-refl left) (whole-home s.seed s.workers width left c.requires.left_width)
     (subst (λ (columns : List ℕ). IsSpread s.seed columns left (size_of s) x.sent_by x.got_by met first) c.requires.columns x.ok) in
@@ -115,8 +108,8 @@ returns g c =
     (subst (λ (columns : List ℕ). IsSpread s.seed columns right (size_of s) y.sent_by y.got_by others second) c.requires.columns y.ok) in
     record {
       fair =
-          fair-both totals tag before middle after (told-fair totals tag s.workers x.sent_by x.got_by before middle room x.told)
-          (told-fair totals tag s.workers y.sent_by y.got_by middle after there y.told);
+          fair-both totals tag before middle after (told-fair totals tag s.workers x.sent_by x.got_by nothing before middle x.even x.told)
+          (told-fair totals tag s.workers y.sent_by y.got_by nothing middle after y.even y.told);
       unlisted =
           told-low totals tag s.workers y.sent_by y.got_by middle after y.told
           (told-low totals tag s.workers x.sent_by x.got_by before middle x.told c.requires.unlisted);

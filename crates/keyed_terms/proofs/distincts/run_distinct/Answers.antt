@@ -1,4 +1,4 @@
-use Rattle.std.proofs.Common.{◌*◌, ◌≤◌, ◌==◌, ℕ, List, [], ◌∷◌, length, get_or, All, refl, sym, subst, arith, rules}
+use Rattle.std.proofs.Common.{◌*◌, ◌≤◌, ◌==◌, ℕ, List, [], ◌∷◌, length, All, refl, sym, subst, arith, rules}
 use Rattle.std.specs.Prelude.{filter}
 use Rattle.std.specs.List.{range_with_len}
 use Rattle.myrial_ast.specs.Combinations.{Row}
@@ -10,15 +10,17 @@ use Rattle.placement.specs.Plans.{usual_placing}
 use Rattle.placement.specs.Layouts.{together}
 use Rattle.placement.specs.Runs.{size_of}
 use Rattle.routed_joins.specs.PlacedJoins.{placed_rows}
+use Rattle.row_exchange.specs.Exchanges.{nothing}
+use Rattle.routed_joins.proofs.RouteLemmas.{told-low}
 use Rattle.regular_shuffle.specs.KeySpreads.{HasColumns, IsSpread}
 use Rattle.routed_joins.specs.Listings.{IsLow}
 use Rattle.term_runs.specs.Notes.{AreSeconds, HaveRisen}
 use Rattle.term_runs.specs.TermRuns.{AreShown, no_receipt, a_receipt}
-use Rattle.term_runs.proofs.TapLemmas.{added-told, told-fair}
-use Rattle.term_runs.proofs.NoteLemmas.{risen-added}
+use Rattle.term_runs.proofs.TapLemmas.{told-fair}
+use Rattle.term_runs.proofs.NoteLemmas.{risen-told}
 use Rattle.keyed_terms.specs.KeyedTerms.{distinct_parts, distinct_exchanges}
 use Rattle.keyed_terms.proofs.BagLemmas.{distinct-made}
-use Rattle.keyed_terms.proofs.ConcludeLemmas.{told-low, run-refused, tables-made, concluded}
+use Rattle.keyed_terms.proofs.ConcludeLemmas.{run-refused, tables-made, concluded}
 use Rattle.keyed_terms.proofs.SpreadLemmas.{spread-as, tables-refl, whole-home, whole-columns}
 use Rattle.keyed_terms.proofs.distincts.run_distinct.Goals as goal
 
@@ -34,7 +36,7 @@ returns-in_err-met g c =
     let x = c.spread_by_key.ensures in
     run-refused s a.statement (distinct_parts s a.parts) (distinct_exchanges s a.parts) g.T.Tap.totals g.T.Tap.tag a.taps.now.items c.spread_by_key.new.taps.items
     c.from_residual-in_err-met.result (search rules)
-    (told-fair g.T.Tap.totals g.T.Tap.tag s.workers x.sent_by x.got_by a.taps.now.items c.spread_by_key.new.taps.items (omega (arith, c.requires.taps, a.taps.now.ok.0)) x.told)
+    (told-fair g.T.Tap.totals g.T.Tap.tag s.workers x.sent_by x.got_by nothing a.taps.now.items c.spread_by_key.new.taps.items x.even x.told)
 
 pub returns-in_err-made : goal.returns-in_err-made
 returns-in_err-made g c =
@@ -43,7 +45,7 @@ returns-in_err-made g c =
     let x = c.spread_by_key.ensures in
     run-refused s a.statement (distinct_parts s a.parts) (distinct_exchanges s a.parts) g.T.Tap.totals g.T.Tap.tag a.taps.now.items c.spread_by_key.new.taps.items
     c.from_residual-in_err-made.result (search rules)
-    (told-fair g.T.Tap.totals g.T.Tap.tag s.workers x.sent_by x.got_by a.taps.now.items c.spread_by_key.new.taps.items (omega (arith, c.requires.taps, a.taps.now.ok.0)) x.told)
+    (told-fair g.T.Tap.totals g.T.Tap.tag s.workers x.sent_by x.got_by nothing a.taps.now.items c.spread_by_key.new.taps.items x.even x.told)
 
 pub returns-in_err-receipts : goal.returns-in_err-receipts
 returns-in_err-receipts g c =
@@ -52,7 +54,7 @@ returns-in_err-receipts g c =
     let x = c.spread_by_key.ensures in
     run-refused s a.statement (distinct_parts s a.parts) (distinct_exchanges s a.parts) g.T.Tap.totals g.T.Tap.tag a.taps.now.items c.spread_by_key.new.taps.items
     c.from_residual-in_err-receipts.result (search rules)
-    (told-fair g.T.Tap.totals g.T.Tap.tag s.workers x.sent_by x.got_by a.taps.now.items c.spread_by_key.new.taps.items (omega (arith, c.requires.taps, a.taps.now.ok.0)) x.told)
+    (told-fair g.T.Tap.totals g.T.Tap.tag s.workers x.sent_by x.got_by nothing a.taps.now.items c.spread_by_key.new.taps.items x.even x.told)
 
 pub conclude-requires-clause-unlisted : goal.conclude-requires-clause-unlisted
 conclude-requires-clause-unlisted g c =
@@ -73,7 +75,7 @@ conclude-requires-clause-risen g c =
     let after = c.spread_by_key.new.taps.items in
     let read = subst (λ (taps : List _). AreSeconds totals n taps c.in_ok-since.since.items) c.as_slice-2.ensures.value c.in_ok-since.ensures in
     subst (λ (since : List _). HaveRisen totals since after) (sym c.deref.ensures.value)
-    (risen-added totals tag n _ _ _ a.taps.now.items after c.in_ok-since.since.items read (added-told totals tag n x.sent_by x.got_by a.taps.now.items after x.told))
+    (risen-told totals tag n x.sent_by x.got_by nothing a.taps.now.items after c.in_ok-since.since.items read x.told)
 
 pub returns : goal.returns
 returns g c =
@@ -99,11 +101,11 @@ returns g c =
     (subst (λ (columns : List ℕ). IsSpread s.seed columns parts (size_of s) x.sent_by x.got_by met c.in_ok-met.receipt) c.in_ok-columns.ensures x.ok) in
     let rows = distinct-made s.workers (λ w row. home row == w) (together parts) met made spread.rows c.in_ok-made.ensures in
     let e : PlacedExchange = row_exchange (usual_placing s) exchange.Distinct (placed_rows parts ∷ []) (distinct_parts s parts) in
-    concluded s a.statement (distinct_parts s parts) e totals tag before middle c.conclude.new.taps.items (λ u. get_or x.sent_by u 0) (λ w. get_or x.got_by w 0)
-    since made c.in_ok-receipts.receipts room read (added-told totals tag s.workers x.sent_by x.got_by before middle x.told) spread.sent_are spread.got_are
+    concluded s a.statement (distinct_parts s parts) e totals tag before middle c.conclude.new.taps.items x.sent_by x.got_by
+    since made c.in_ok-receipts.receipts room read x.told spread.sent_are spread.got_are
     refl rows.count (tables-made s.workers (λ w. filter (λ row. home row == w) (distinct (together parts))) made rows)
     (subst (AreShown (size_of s) (e.moves ∷ [])) (sym c.in_ok-receipts.ensures) (a_receipt e.moves c.in_ok-met.receipt [] [] spread.shows no_receipt))
-    c.conclude.ensures.listed (told-fair totals tag s.workers x.sent_by x.got_by before middle room x.told) c.conclude.result c.conclude.ensures.ok
+    c.conclude.ensures.listed (told-fair totals tag s.workers x.sent_by x.got_by nothing before middle x.even x.told) c.conclude.result c.conclude.ensures.ok
 
 pub returns-in_err-since : goal.returns-in_err-since
 returns-in_err-since g c = search rules

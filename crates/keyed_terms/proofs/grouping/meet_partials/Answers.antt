@@ -13,16 +13,18 @@ use Rattle.placement.specs.Exchanges.{PlacedExchange, group_exchange}
 use Rattle.placement.specs.Layouts.{together}
 use Rattle.placement.specs.Plans.{usual_placing}
 use Rattle.placement.specs.Runs.{size_of}
+use Rattle.row_exchange.specs.Exchanges.{nothing}
+use Rattle.routed_joins.proofs.RouteLemmas.{told-low}
 use Rattle.regular_shuffle.specs.KeySpreads.{HasColumns, IsSpread}
-use Rattle.routed_joins.specs.Listings.{IsLow}
+use Rattle.routed_joins.specs.Listings.{IsLow, count_at}
 use Rattle.term_runs.specs.Notes.{AreSeconds, HaveRisen}
 use Rattle.term_runs.specs.TermRuns.{AreShown, no_receipt, a_receipt}
-use Rattle.term_runs.proofs.TapLemmas.{added-told, told-fair, listed-fair, fair-both}
-use Rattle.term_runs.proofs.NoteLemmas.{risen-added}
+use Rattle.term_runs.proofs.TapLemmas.{told-fair, listed-fair, fair-both}
+use Rattle.term_runs.proofs.NoteLemmas.{risen-told}
 use Rattle.term_runs.proofs.RunLemmas.{run-made}
 use Rattle.keyed_terms.specs.KeyedTerms.{group_parts, group_exchanges, IsGroupFault}
 use Rattle.keyed_terms.specs.inner.Making.{AreMadeBy}
-use Rattle.keyed_terms.proofs.ConcludeLemmas.{told-low, run-faulty, tables-made, moved-once, concluded-ok}
+use Rattle.keyed_terms.proofs.ConcludeLemmas.{run-faulty, tables-made, moved-once, concluded-ok}
 use Rattle.keyed_terms.proofs.GroupLemmas.{partial_home, group_home, partials-same, partials-home, partials-columns, met-wide, groups-made, fits-all}
 use Rattle.keyed_terms.proofs.SpreadLemmas.{spread-as}
 use Rattle.keyed_terms.proofs.grouping.meet_partials.Goals as goal
@@ -53,9 +55,8 @@ returns-in_err-met-clause-run g c listed f =
     let tag = g.T.Tap.tag in
     let before = a.taps.now.items in
     let middle = c.spread_by_key.new.taps.items in
-    let room : 2 * n ≤ length before = omega (arith, c.requires.taps, a.taps.now.ok.0) in
     let x = c.spread_by_key.ensures in
-    let fair = told-fair totals tag n x.sent_by x.got_by before middle room x.told in
+    let fair = told-fair totals tag n x.sent_by x.got_by nothing before middle x.even x.told in
     let p = err_from_is_err_and c.from_residual-in_err-met.result c.from_residual-in_err-met.ensures.1 in
     run-faulty s a.statement (group_parts s kinds listed) (group_exchanges s kinds listed) totals tag (IsGroupFault kinds listed) before middle
     c.from_residual-in_err-met.result fault.Memory (p.1 ∙ ap Err p.2) fair tt
@@ -94,9 +95,8 @@ returns-in_err-made-clause-run g c listed f =
     let partials = a.partials.now in
     let formed : AreMadeBy n (λ w. partial_rows kinds (get_or listed w [])) partials = f.made in
     let middle = c.spread_by_key.new.taps.items in
-    let room : 2 * n ≤ length before = omega (arith, c.requires.taps, a.taps.now.ok.0) in
     let x = c.spread_by_key.ensures in
-    let fair = told-fair totals tag n x.sent_by x.got_by before middle room x.told in
+    let fair = told-fair totals tag n x.sent_by x.got_by nothing before middle x.even x.told in
     let y = c.in_ok-met.ensures in
     let met = c.in_ok-met.met in
     let home : Row → ℕ = partial_home kinds s.seed n listed f.long f.grouped in
@@ -121,9 +121,8 @@ returns-in_err-receipts-clause-run g c listed f =
     let tag = g.T.Tap.tag in
     let before = a.taps.now.items in
     let middle = c.spread_by_key.new.taps.items in
-    let room : 2 * n ≤ length before = omega (arith, c.requires.taps, a.taps.now.ok.0) in
     let x = c.spread_by_key.ensures in
-    let fair = told-fair totals tag n x.sent_by x.got_by before middle room x.told in
+    let fair = told-fair totals tag n x.sent_by x.got_by nothing before middle x.even x.told in
     let p = err_from_is_err_and c.from_residual-in_err-receipts.result c.from_residual-in_err-receipts.ensures.1 in
     run-faulty s a.statement (group_parts s kinds listed) (group_exchanges s kinds listed) totals tag (IsGroupFault kinds listed) before middle
     c.from_residual-in_err-receipts.result fault.Memory (p.1 ∙ ap Err p.2) fair tt
@@ -160,7 +159,7 @@ conclude-requires-clause-risen g c =
     let x = c.spread_by_key.ensures in
     let read = subst (λ (taps : List _). AreSeconds totals n taps c.in_ok-since.since.items) c.as_slice-2.ensures.value c.in_ok-since.ensures in
     subst (λ (since : List _). HaveRisen totals since middle) (sym c.deref.ensures.value)
-    (risen-added totals tag n _ _ _ before middle c.in_ok-since.since.items read (added-told totals tag n x.sent_by x.got_by before middle x.told))
+    (risen-told totals tag n x.sent_by x.got_by nothing before middle c.in_ok-since.since.items read x.told)
 
 pub returns-in_err-moved-clause-run : goal.returns-in_err-moved-clause-run
 returns-in_err-moved-clause-run g c listed f =
@@ -172,14 +171,13 @@ returns-in_err-moved-clause-run g c listed f =
     let tag = g.T.Tap.tag in
     let before = a.taps.now.items in
     let middle = c.spread_by_key.new.taps.items in
-    let room : 2 * n ≤ length before = omega (arith, c.requires.taps, a.taps.now.ok.0) in
     let x = c.spread_by_key.ensures in
-    let fair = told-fair totals tag n x.sent_by x.got_by before middle room x.told in
+    let fair = told-fair totals tag n x.sent_by x.got_by nothing before middle x.even x.told in
     let after = c.conclude.new.taps.items in
     let p = err_from_is_err_and c.from_residual-in_err-moved.result c.from_residual-in_err-moved.ensures.1 in
     run-faulty s a.statement (group_parts s kinds listed) (group_exchanges s kinds listed) totals tag (IsGroupFault kinds listed) before after
     c.from_residual-in_err-moved.result fault.Memory (p.1 ∙ ap Err p.2)
-    (fair-both totals tag before middle after fair (listed-fair totals tag c.in_ok-made.made middle after c.conclude.ensures.listed)) tt
+    (fair-both totals tag before middle after fair (listed-fair totals tag (length c.in_ok-made.made) (count_at c.in_ok-made.made) middle after c.conclude.ensures.listed)) tt
 
 pub returns-clause-fits : goal.returns-clause-fits
 returns-clause-fits g c listed f =
@@ -235,10 +233,9 @@ returns-clause-run g c listed f =
     let e : PlacedExchange = group_exchange (usual_placing s) kinds listed (group_parts s kinds listed) in
     let shown =
     subst (AreShown (size_of s) (e.moves ∷ [])) (sym c.in_ok-receipts.ensures) (a_receipt e.moves c.in_ok-met.receipt [] [] spread.shows no_receipt) in
-    let added = added-told totals tag n y.sent_by y.got_by before middle y.told in
     run-made s a.statement (group_parts s kinds listed) (e ∷ []) totals tag (IsGroupFault kinds listed) before after c.in_ok-moved.moved
-    (fair-both totals tag before middle after (told-fair totals tag n y.sent_by y.got_by before middle room y.told) (listed-fair totals tag made middle after c.conclude.ensures.listed))
-    (concluded-ok s a.statement (group_parts s kinds listed) e totals tag before middle after (λ u. get_or y.sent_by u 0) (λ w. get_or y.got_by w 0) since made
-    c.in_ok-receipts.receipts room read added spread.sent_are spread.got_are refl rows.count tables shown c.conclude.ensures.listed c.in_ok-moved.moved c.in_ok-moved.ensures.ok)
-    (moved-once s a.statement (group_parts s kinds listed) e totals tag before middle after (λ u. get_or y.sent_by u 0) (λ w. get_or y.got_by w 0) since made
-    c.in_ok-receipts.receipts room read added spread.sent_are spread.got_are refl rows.count tables shown c.conclude.ensures.listed)
+    (fair-both totals tag before middle after (told-fair totals tag n y.sent_by y.got_by nothing before middle y.even y.told) (listed-fair totals tag (length made) (count_at made) middle after c.conclude.ensures.listed))
+    (concluded-ok s a.statement (group_parts s kinds listed) e totals tag before middle after y.sent_by y.got_by since made
+    c.in_ok-receipts.receipts room read y.told spread.sent_are spread.got_are refl rows.count tables shown c.conclude.ensures.listed c.in_ok-moved.moved c.in_ok-moved.ensures.ok)
+    (moved-once s a.statement (group_parts s kinds listed) e totals tag before middle after y.sent_by y.got_by since made
+    c.in_ok-receipts.receipts room read y.told spread.sent_are spread.got_are refl rows.count tables shown c.conclude.ensures.listed)
