@@ -22,6 +22,12 @@ returns-then-len-self-clause-answer c =
     sym (answer_to_post-no_room c.self.inside.senders c.self.inside.capacity c.self.inside.log.items c.self.inside.taken c.self.inside.ended.items c.self.invariant
     c.args.post c.if-post-self.false c.index.result.now (sym c.index.ensures ∙ c.if-index.false) c.args.self.now c.self.view_is (omega arith))
 
+pub returns-then-len-self-clause-after : goal.returns-then-len-self-clause-after
+returns-then-len-self-clause-after c =
+    ap (after_post c.args.self.now c.args.post)
+    (sym (answer_to_post-no_room c.self.inside.senders c.self.inside.capacity c.self.inside.log.items c.self.inside.taken c.self.inside.ended.items c.self.invariant
+    c.args.post c.if-post-self.false c.index.result.now (sym c.index.ensures ∙ c.if-index.false) c.args.self.now c.self.view_is (omega arith)))
+
 pub invariant_of-self-2 : goal.invariant_of-self-2
 invariant_of-self-2 c =
     rw (c.in_ok-push.ensures.items, c.is_end.ensures)
