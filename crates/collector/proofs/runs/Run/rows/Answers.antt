@@ -1,4 +1,5 @@
-use Rattle.std.proofs.Common.{◌≡◌, ◌∙◌, ◌++◌, rules, sym, ap, append-nil, subst}
+use Rattle.std.proofs.Common.{◌≡◌, ◌∙◌, ◌++◌, arith, rules, sym, ap, append-nil, subst}
+use Rattle.std.proofs.lemmas.Grind.{common_steps}
 use Rattle.std.proofs.lemmas.List.{map-append}
 use Rattle.std.specs.Prelude.{IsSorted}
 use Rattle.rel_base.specs.Values.{row_order}
@@ -6,6 +7,9 @@ use Rattle.collector.specs.inner.Sorted.{rows_at}
 use Rattle.collector.proofs.SortingLemmas.{in_order_as_rows}
 use Rattle.collector.proofs.runs.Run.rows.Goals as goal
 use Rattle.collector.proofs.runs.Run.rows.Goals.{In_ok-extend_from_slice}
+
+pub loop-row-preserved : goal.loop-row-preserved
+loop-row-preserved c = grind (arith, common_steps)
 
 -- all rows are referred to
 all : (c : In_ok-extend_from_slice) → rows_at c.extend_from_slice.new.self.items ≡ c.self.inside.view ++ rows_at c.self.inside.listed.now

@@ -134,3 +134,6 @@ primary-returns-in_ok-column-in-Name t c = grind (arith, common_steps)
 pub primary-returns-in-Fixed : goal.primary-returns-in-Fixed
 unfolding spec.primary
 primary-returns-in-Fixed t c = grind (arith, common_steps)
+
+pub behind_minuses-returns-in-Some-Number : goal.behind_minuses-returns-in-Some-Number
+behind_minuses-returns-in-Some-Number t c = grind (arith, common_steps)
