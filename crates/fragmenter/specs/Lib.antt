@@ -1,2 +1,4 @@
 -- The words of this crate.
 pub mod Stages
+pub mod Plans
+pub mod NotedPlans
