@@ -2,3 +2,4 @@
 pub mod StageLemmas
 pub mod WorkedRows
 pub mod WorkedPlans
+pub mod NotedLemmas

@@ -2,3 +2,4 @@
 pub mod Stages
 pub mod Plans
 pub mod NotedPlans
+pub mod Laws
