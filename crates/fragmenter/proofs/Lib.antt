@@ -1,3 +1,5 @@
--- Laws of stages, and worked stages.
+-- Laws of stages, and worked stages and plans.
 pub mod StageLemmas
 pub mod WorkedRows
+pub mod WorkedPlans
+pub mod NotedLemmas

@@ -1,0 +1,3 @@
+-- The words of this crate, lowest first.
+pub mod PlanTexts
+pub mod Laws
