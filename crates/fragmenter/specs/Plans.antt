@@ -60,7 +60,8 @@ variables_of _ = None
 
 -- the join of a step, where it has one: the number of its statement, and how many variables it has
 abbrev pub join_of : StepTree → List (ℕ × ℕ)
-join_of s = option_to_list (option_map (λ variables. (s.statement, variables)) (variables_of s.term))
+join_of s = option_to_list
+    (option_map (λ variables. (s.statement, variables)) (variables_of s.term))
 
 -- the joins of some steps, in order
 abbrev pub joins_of : List StepTree → List (ℕ × ℕ)
@@ -95,5 +96,6 @@ first_misfit workers (j ∷ joins) (c ∷ choices) =
 -- a plan fits where it is for as many workers and each join has its choice
 abbrev pub misfit : PlanTree → List (ℕ × ℕ) → ℕ → Option Misfit
 misfit plan joins workers =
-    if plan.workers == workers then option_map unfit.Statement (first_misfit workers joins plan.choices)
+    if plan.workers == workers
+    then option_map unfit.Statement (first_misfit workers joins plan.choices)
     else Some unfit.Workers

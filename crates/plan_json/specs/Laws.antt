@@ -16,7 +16,8 @@ IsUpTo most n = (1 ≤ n) × (n ≤ most)
 
 -- no more shares than a join may have variables, and none above the most workers
 abbrev pub IsShuffleWithin : Shuffle → Type 0
-IsShuffleWithin (ByCells shares) = (length shares ≤ most_variables) × All (IsUpTo most_workers) shares
+IsShuffleWithin (ByCells shares) =
+    (length shares ≤ most_variables) × All (IsUpTo most_workers) shares
 IsShuffleWithin ByKeys = ⊤
 IsShuffleWithin Broadcast = ⊤
 

@@ -64,7 +64,8 @@ shares_in step =
 -- how the rows of a step's join meet, by its word: only a join by cells has shares, and no step has any other member
 abbrev pub shuffle_by : Data → List ℕ → Option Shuffle
 shuffle_by step word =
-    if bytes_eq word (codes "hc") then (if has_members 3 step then option_map ByCells (shares_in step) else None)
+    if bytes_eq word (codes "hc")
+    then (if has_members 3 step then option_map ByCells (shares_in step) else None)
     else if bytes_eq word (codes "rs") then (if has_members 2 step then Some ByKeys else None)
     else if bytes_eq word (codes "br") then (if has_members 2 step then Some Broadcast else None)
     else None
@@ -94,7 +95,8 @@ steps_in d = option_and_then (items_within most_pieces) (get (codes "steps") d)
 abbrev pub plan_in : Data → Option PlanTree
 plan_in d =
     if has_members 2 d
-    then option_and_then (λ workers. option_map (λ choices. record { workers = workers; choices = choices })
+    then option_and_then (λ workers. option_map
+    (λ choices. record { workers = workers; choices = choices })
     (option_and_then (each_of choice_in) (steps_in d))) (workers_in d)
     else None
 

@@ -85,7 +85,8 @@ fn shares_in(step: &Value) -> Option<Shares>
 /// The shares that these values are, where each is one within the limits.
 fn shares_of(values: &[Value]) -> Option<Shares>
     requires { length values.now ≤ most_variables }
-    ensures { option_map shares_of result ≡ each_of (number_in 1 most_workers) (map view values.now) }
+    ensures { option_map shares_of result
+        ≡ each_of (number_in 1 most_workers) (map view values.now) }
 {
     let mut shares = no_shares();
     for value in values {

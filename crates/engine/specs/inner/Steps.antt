@@ -56,7 +56,8 @@ pub record IsStepDone {T : Type 0} (s : Settings) (t : StepTree) (stores : List 
       ++ note.Statement t.statement (plan_kind t.term) (length (together made))
       ∷ term_notes (usual_placing s) s.local t.statement (value_held held) t.term
   pub traffic : after_noted.traffic ≡ noted.traffic
-      ++ map (λ (e : PlacedExchange). traffic_note s.workers (t.statement, e)) (held_exchanges s held t)
+      ++ map (λ (e : PlacedExchange). traffic_note s.workers (t.statement, e))
+      (held_exchanges s held t)
   pub noted_receipts : after_noted.receipts ≡ noted.receipts ++ receipts
   pub shown : AreShown (size_of s) (flat_map shown_moves (held_exchanges s held t)) receipts
   pub moved : AreMoved totals tag s.workers (held_exchanges s held t) before after
@@ -72,7 +73,8 @@ pub record IsStep {T : Type 0} (s : Settings) (t : StepTree) (stores : List Stor
   pub ok : OnOk answer
       (IsStepDone s t stores later held after_held noted after_noted totals tag before after)
   pub err : IfErr answer
-      (IsRunFault (term_fault (faults_by s) t.statement (λ o. (value_held held o).relation.rows) t.term))
+      (IsRunFault (term_fault (faults_by s) t.statement
+      (λ o. (value_held held o).relation.rows) t.term))
 
 -- ---- the steps so far
 
@@ -91,14 +93,16 @@ bare_exchanges s files c steps =
 -- with them
 pub record AreRun {T : Type 0} (s : Settings) (files : List File) (c : CheckedTree)
     (steps left : List StepTree)
-    (held : Held) (noted : Noted) (totals : T → Totals) (tag : T → ℕ) (before after : List T) : Type 0 where
+    (held : Held) (noted : Noted) (totals : T → Totals) (tag : T → ℕ)
+    (before after : List T) : Type 0 where
   pub every : List (ℕ × List Rows)
   pub made_as_meant : AreHeld (usual_placing s) files c steps held.files every
   pub used : UsedAreHeld c.stores left every held.results.items
   pub plan : noted.plan
       ≡ flat_map (step_notes (usual_placing s) s.local (meant (usual_placing s) files c)) steps
   pub traffic : noted.traffic ≡ map (traffic_note s.workers) (numbered_exchanges s files c steps)
-  pub receipts : AreShown (size_of s) (flat_map shown_moves (bare_exchanges s files c steps)) noted.receipts
+  pub receipts : AreShown (size_of s)
+      (flat_map shown_moves (bare_exchanges s files c steps)) noted.receipts
   pub moved : AreMoved totals tag s.workers (bare_exchanges s files c steps) before after
   pub sound : All (IsSound (usual_placing s) (λ _. faults_by s) files c) steps
 

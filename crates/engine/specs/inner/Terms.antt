@@ -33,7 +33,8 @@ abbrev pub IsStepRun : {T : Type 0} → Settings → ℕ → (Source → PlacedR
 IsStepRun s number value t totals tag before after answer =
     let p = usual_placing s in
     IsTold s number (term_parts p number value t) (term_exchanges p number value t)
-    (term_fault (faults_by s) number (λ o. (value o).relation.rows) t) totals tag before after answer
+    (term_fault (faults_by s) number (λ o. (value o).relation.rows) t) totals tag before after
+    answer
 
 -- the steps behind the one that is run
 abbrev pub later_in : RunStep → List StepTree
