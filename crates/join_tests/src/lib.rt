@@ -10,4 +10,6 @@ mod arrays;
 #[cfg(test)]
 mod listings;
 #[cfg(test)]
+mod orders;
+#[cfg(test)]
 mod words;
