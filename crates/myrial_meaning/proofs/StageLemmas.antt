@@ -5,13 +5,13 @@ use Rattle.rel_base.specs.Keys.{File}
 use Rattle.rel_base.specs.Relations.{RelationState}
 use Rattle.rel_base.specs.declared.faults.RunFault.{RunFault}
 use Rattle.rel_base.specs.declared.faults.RunFault.TheVariants as fault
-use Rattle.myrial_ast.specs.Trees.{Name, RelTree, StatementTree}
+use Rattle.myrial_ast.specs.Trees.{StatementTree}
 use Rattle.myrial_ast.specs.Trees as tree
 use Rattle.myrial_ast.specs.CandidateFaults.{joins_alone}
 use Rattle.myrial_meaning.specs.Environments.{assigned_to, nothing_yet, with_key, with_name}
 use Rattle.myrial_meaning.specs.Meaning.{RelationEnvironment, after, relation_of, stored_relations}
 use Rattle.myrial_meaning.specs.Needed.{is_needed}
-use Rattle.myrial_meaning.specs.Faults.{fault_from, run_fault, statement_fault}
+use Rattle.myrial_meaning.specs.Faults.{fault_from, in_each, run_fault, statement_fault}
 use Rattle.myrial_meaning.specs.Runnable.{all_defined, has_meaning, is_defined, operands_fit}
 use Rattle.myrial_meaning.specs.Evaluating.{IsFault}
 use Rattle.myrial_meaning.specs.SortedFiles.{sorted_file}
@@ -30,7 +30,7 @@ pub record Stage (files : List File) (script rest : List StatementTree) (number 
   pub agrees : Agrees rest there here
   pub meaningful : all_defined files there rest ≡ true
   pub stored : reverse (fold (after files) there rest).stored ≡ stored_relations files script
-  pub fault : fault_from joins_alone files number there rest ≡ run_fault joins_alone files script
+  pub fault : fault_from (in_each joins_alone) files number there rest ≡ run_fault (in_each joins_alone) files script
   -- no more was stored than there were statements
   pub few : length here.stored < number
 
@@ -54,7 +54,7 @@ module _ (files : List File) (script : List StatementTree) where
   pub stored-end : (number : ℕ) (here : RelationEnvironment) → Stage files script [] number here → reverse here.stored ≡ stored_relations files script
   stored-end number here stage = ap reverse (sym stage.agrees.stored) ∙ stage.stored
 
-  pub fault-end : (number : ℕ) (here : RelationEnvironment) → Stage files script [] number here → run_fault joins_alone files script ≡ None
+  pub fault-end : (number : ℕ) (here : RelationEnvironment) → Stage files script [] number here → run_fault (in_each joins_alone) files script ≡ None
   fault-end number here stage = sym stage.fault
 
   module _ (s : StatementTree) (rest : List StatementTree) (number : ℕ) (here : RelationEnvironment) (stage : Stage files script (s ∷ rest) number here) where
@@ -66,11 +66,11 @@ module _ (files : List File) (script : List StatementTree) where
 
     -- the fault of a needed statement, or of those behind it
     fault-needed : is_needed s rest ≡ true
-        → run_fault joins_alone files script ≡ first_or (statement_fault joins_alone number files stage.there s) (fault_from joins_alone files (suc number) (after files stage.there s) rest)
+        → run_fault (in_each joins_alone) files script ≡ first_or (statement_fault joins_alone number files stage.there s) (fault_from (in_each joins_alone) files (suc number) (after files stage.there s) rest)
     unfolding first_or
     fault-needed needed = sym stage.fault ∙ rw needed refl
 
-    fault-unneeded : is_needed s rest ≡ false → fault_from joins_alone files (suc number) (after files stage.there s) rest ≡ run_fault joins_alone files script
+    fault-unneeded : is_needed s rest ≡ false → fault_from (in_each joins_alone) files (suc number) (after files stage.there s) rest ≡ run_fault (in_each joins_alone) files script
     fault-unneeded unneeded = sym (sym stage.fault ∙ rw unneeded refl)
 
   statement_fault-same : (s : StatementTree) (rest : List StatementTree) (number : ℕ) (there here : RelationEnvironment) → Agrees (s ∷ rest) there here → is_needed s rest ≡ true
@@ -141,7 +141,7 @@ module _ (files : List File) (script : List StatementTree) where
       → Stage files script (s ∷ rest) number here → Stage files script rest (number + 1) (after files here s)
   stage-run s rest number here needed faultless stage =
       let own : statement_fault joins_alone number files stage.there s ≡ None = statement_fault-same s rest number stage.there here stage.agrees needed ∙ faultless in
-      let others = fault_from joins_alone files (suc number) (after files stage.there s) rest in
+      let others = fault_from (in_each joins_alone) files (suc number) (after files stage.there s) rest in
       record {
         there = after files stage.there s;
         agrees = after-needed s rest stage.there here needed (meaningful-first s rest number here stage) stage.agrees;
@@ -153,14 +153,14 @@ module _ (files : List File) (script : List StatementTree) where
 
   -- and one with a fault
   fault-some : (s : StatementTree) (rest : List StatementTree) (number : ℕ) (here : RelationEnvironment) (f : RunFault) → is_needed s rest ≡ true
-      → statement_fault joins_alone number files here s ≡ Some f → Stage files script (s ∷ rest) number here → run_fault joins_alone files script ≡ Some f
+      → statement_fault joins_alone number files here s ≡ Some f → Stage files script (s ∷ rest) number here → run_fault (in_each joins_alone) files script ≡ Some f
   fault-some s rest number here f needed faulty stage =
       let own : statement_fault joins_alone number files stage.there s ≡ Some f = statement_fault-same s rest number stage.there here stage.agrees needed ∙ faulty in
       fault-needed s rest number here stage needed
-      ∙ some-first (statement_fault joins_alone number files stage.there s) (fault_from joins_alone files (suc number) (after files stage.there s) rest) f own
+      ∙ some-first (statement_fault joins_alone number files stage.there s) (fault_from (in_each joins_alone) files (suc number) (after files stage.there s) rest) f own
 
   pub stage-fault : (s : StatementTree) (rest : List StatementTree) (number : ℕ) (here : RelationEnvironment) (f : RunFault) → is_needed s rest ≡ true
-      → IsFault f (statement_fault joins_alone number files here s) → Stage files script (s ∷ rest) number here → IsFault f (run_fault joins_alone files script)
+      → IsFault f (statement_fault joins_alone number files here s) → Stage files script (s ∷ rest) number here → IsFault f (run_fault (in_each joins_alone) files script)
   stage-fault s rest number here (fault.TooManyRows n) needed is stage = fault-some s rest number here (fault.TooManyRows n) needed is stage
   stage-fault s rest number here (fault.Overflow n) needed is stage = fault-some s rest number here (fault.Overflow n) needed is stage
   stage-fault s rest number here (fault.AggregateOverflow n) needed is stage = fault-some s rest number here (fault.AggregateOverflow n) needed is stage
@@ -183,7 +183,7 @@ module _ (files : List File) (script : List StatementTree) where
   pub bag-few : (number : ℕ) (rest : List StatementTree) (here : RelationEnvironment) → BagStage files script rest number here → length here.stored < number
   bag-few number rest here b = omega (arith, b.stage.few, entries-long b.same.stored)
 
-  pub bag-end : (number : ℕ) (here : RelationEnvironment) → BagStage files script [] number here → run_fault joins_alone files script ≡ None
+  pub bag-end : (number : ℕ) (here : RelationEnvironment) → BagStage files script [] number here → run_fault (in_each joins_alone) files script ≡ None
   bag-end number here b = fault-end files script number b.same_as b.stage
 
   pub bag-skipped : (s : StatementTree) (rest : List StatementTree) (number : ℕ) (here : RelationEnvironment) → is_needed s rest ≡ false
@@ -213,7 +213,7 @@ module _ (files : List File) (script : List StatementTree) where
   }
 
   pub bag-fault : (s : StatementTree) (rest : List StatementTree) (number : ℕ) (here : RelationEnvironment) (f : RunFault) → is_needed s rest ≡ true
-      → IsFault f (statement_fault joins_alone number files here s) → BagStage files script (s ∷ rest) number here → IsFault f (run_fault joins_alone files script)
+      → IsFault f (statement_fault joins_alone number files here s) → BagStage files script (s ∷ rest) number here → IsFault f (run_fault (in_each joins_alone) files script)
   bag-fault s rest number here f needed is b =
       stage-fault files script s rest number b.same_as f needed
       (subst (IsFault f) (sym (statement_fault-permuted files (entries-itself files) b.same_as here b.same number s)) is) b.stage

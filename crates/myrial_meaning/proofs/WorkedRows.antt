@@ -24,7 +24,7 @@ use Rattle.myrial_ast.specs.CandidateFaults.{Counted, joins_alone}
 use Rattle.myrial_meaning.specs.Meaning.{stored_relations}
 use Rattle.myrial_meaning.specs.Needed.{is_needed}
 use Rattle.myrial_meaning.specs.Fetches.{fetched_keys, fetches}
-use Rattle.myrial_meaning.specs.Faults.{run_fault}
+use Rattle.myrial_meaning.specs.Faults.{in_each, run_fault}
 use Rattle.myrial_meaning.specs.Runnable.{has_meaning}
 use Rattle.myrial_meaning.specs.inner.BoundTests.{may_begin}
 
@@ -75,11 +75,11 @@ pub stored-two_edges : stored_relations edges two_edges
     ≡ file (codes "Out") (table (codes "x" ∷ codes "y" ∷ []) ((1 ∷ 3 ∷ []) ∷ (1 ∷ 3 ∷ []) ∷ (2 ∷ 1 ∷ []) ∷ (2 ∷ 1 ∷ []) ∷ (3 ∷ 2 ∷ []) ∷ [])) ∷ []
 stored-two_edges = refl
 
-pub fault-two_edges : run_fault (record { prefixes = Counted; reduce = false }) edges two_edges ≡ None
+pub fault-two_edges : run_fault (in_each (record { prefixes = Counted; reduce = false })) edges two_edges ≡ None
 fault-two_edges = refl
 
 -- each row has a partner, so that the reduced rows are all
-pub fault-reduced : run_fault (record { prefixes = Counted; reduce = true }) edges two_edges ≡ None
+pub fault-reduced : run_fault (in_each (record { prefixes = Counted; reduce = true })) edges two_edges ≡ None
 fault-reduced = refl
 
 pub meaning-two_edges : has_meaning edges two_edges ≡ true
@@ -145,10 +145,10 @@ abbrev copied : StatementTree
 copied = Assign (codes "A") (Copy (scanned (codes "P")))
 
 -- a statement whose value no store needs has no fault
-pub fault-unneeded : run_fault joins_alone largest (overflowing ∷ copied ∷ Store (codes "A") (adhoc (codes "Out")) ∷ []) ≡ None
+pub fault-unneeded : run_fault (in_each joins_alone) largest (overflowing ∷ copied ∷ Store (codes "A") (adhoc (codes "Out")) ∷ []) ≡ None
 fault-unneeded = refl
 
-pub fault-needed : run_fault joins_alone largest (Nothing ∷ overflowing ∷ Store (codes "N") (adhoc (codes "Out")) ∷ []) ≡ Some (fault.Overflow 2)
+pub fault-needed : run_fault (in_each joins_alone) largest (Nothing ∷ overflowing ∷ Store (codes "N") (adhoc (codes "Out")) ∷ []) ≡ Some (fault.Overflow 2)
 fault-needed = refl
 
 -- a value that is assigned anew before it is used isn't needed
@@ -203,7 +203,7 @@ abbrev from_p : List EmitTree → Option Tree → StatementTree
 from_p emits condition = Assign (codes "N") (From (item (scanned (codes "P")) (codes "p") ∷ []) condition emits)
 
 abbrev fault_of : List EmitTree → Option Tree → Option RunFault
-fault_of emits condition = run_fault joins_alone large_and_one (from_p emits condition ∷ Store (codes "N") (adhoc (codes "Out")) ∷ [])
+fault_of emits condition = run_fault (in_each joins_alone) large_and_one (from_p emits condition ∷ Store (codes "N") (adhoc (codes "Out")) ∷ [])
 
 abbrev v : Tree
 v = column (codes "p") (codes "v")

@@ -1,9 +1,10 @@
 -- The fault of a run: that of the first needed statement that has one.
 --
 --   statement_fault rule number files env s    what is wrong with a statement of this number
---   run_fault rule files script                the fault of a run, with the number of its statement
+--   in_each rule                               one rule for all statements
+--   run_fault rules files script               the fault of a run, with the number of its statement
 --
--- The rule says whether the candidates of the prefixes of a comprehension count as well, as they do where its items are joined
+-- A statement's rule says whether the candidates of the prefixes of a comprehension count as well, as they do where its items are joined
 -- one after another, and whether these prefixes are of its reduced rows, as they are where rows in no answer go before.
 use Rattle.std.specs.Prelude.{ℕ, suc, if◌then◌else◌, List, [], ◌∷◌, map, length, Option, Some, None, option_and_then, is_some}
 use Rattle.rel_base.specs.Each.{each_or_none}
@@ -43,14 +44,18 @@ abbrev pub statement_fault : FaultRule → ℕ → List File → RelationEnviron
 statement_fault rule number files env (tree.Assign name r) = relation_fault rule number files env r
 statement_fault rule number files env _ = None
 
--- the first fault of a needed statement of the rest, whose first statement has this number
-abbrev pub fault_from : FaultRule → List File → ℕ → RelationEnvironment → List StatementTree
+-- one rule for all statements
+abbrev pub in_each : FaultRule → ℕ → FaultRule
+in_each rule number = rule
+
+-- the first fault of a needed statement of the rest, whose first statement has this number, where each has its rule
+abbrev pub fault_from : (ℕ → FaultRule) → List File → ℕ → RelationEnvironment → List StatementTree
     → Option RunFault
-fault_from rule files number env [] = None
-fault_from rule files number env (s ∷ rest) =
-    let own = if is_needed s rest then statement_fault rule number files env s else None in
-    if is_some own then own else fault_from rule files (suc number) (after files env s) rest
+fault_from rules files number env [] = None
+fault_from rules files number env (s ∷ rest) =
+    let own = if is_needed s rest then statement_fault (rules number) number files env s else None in
+    if is_some own then own else fault_from rules files (suc number) (after files env s) rest
 
 -- the fault of the first needed statement that has one; statements are numbered from 1
-abbrev pub run_fault : FaultRule → List File → List StatementTree → Option RunFault
-run_fault rule files script = fault_from rule files 1 nothing_yet script
+abbrev pub run_fault : (ℕ → FaultRule) → List File → List StatementTree → Option RunFault
+run_fault rules files script = fault_from rules files 1 nothing_yet script

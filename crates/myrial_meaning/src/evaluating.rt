@@ -3,7 +3,7 @@ ghost use Rattle.std.specs.Prelude.{◌≡◌, IsTrue, None, map, IfOk, OnOk, If
 ghost use Rattle.myrial_ast.specs.Trees.{trees_of};
 ghost use Rattle.myrial_meaning.specs.Meaning.{stored_relations};
 ghost use Rattle.myrial_ast.specs.CandidateFaults.{joins_alone};
-ghost use Rattle.myrial_meaning.specs.Faults.{run_fault};
+ghost use Rattle.myrial_meaning.specs.Faults.{in_each, run_fault};
 ghost use Rattle.myrial_meaning.specs.Runnable.{has_meaning};
 ghost use Rattle.myrial_meaning.specs.SortedFiles.{sorted_file};
 ghost use Rattle.myrial_meaning.specs.Evaluating.{IsFault};
@@ -24,10 +24,10 @@ pub fn evaluate<'a>(alloc: Global, script: &'a Script, files: &'a Files) -> Resu
         (λ stored. stored
         ≡ map sorted_file (stored_relations files.entry.now (trees_of script.entry.now))) }
     ensures no_fault { OnOk result
-        (run_fault joins_alone files.entry.now (trees_of script.entry.now) ≡ None) }
+        (run_fault (in_each joins_alone) files.entry.now (trees_of script.entry.now) ≡ None) }
     ensures fault { IfErr result
         (λ fault. IsFault fault
-        (run_fault joins_alone files.entry.now (trees_of script.entry.now))) }
+        (run_fault (in_each joins_alone) files.entry.now (trees_of script.entry.now))) }
 {
     let needed = needed_flags(alloc, script.as_slice())?;
     let mut names = Environment::new(alloc);

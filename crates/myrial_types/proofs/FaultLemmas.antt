@@ -171,40 +171,40 @@ fault-without rules files number s stores h (t ∷ steps) later results =
     ∙ ap (λ rest. cond (is_some (cond (is_used t.statement stores (needed_steps stores steps)) own None)) (cond (is_used t.statement stores (needed_steps stores steps)) own None) rest)
     (fault-without rules files number s stores h steps behind ((t.statement, step_relation files results t) ∷ results))
 
-faults : (rule : FaultRule) (files : List File) (number : ℕ) (names : Names) (script : List StatementTree) (c : CheckedTree) → Follows files number names script c
+faults : (rules : ℕ → FaultRule) (files : List File) (number : ℕ) (names : Names) (script : List StatementTree) (c : CheckedTree) → Follows files number names script c
     → (results : Results) (env : RelationEnvironment) → Agrees files number results env names → AllBefore number names
-    → first_fault (λ other. rule) files c.stores results c.steps ≡ fault_from rule files number env script
-faults rule files _ _ _ _ (at_end number names) results env a before = refl
-faults rule files _ _ _ _ (a_nothing number names rest c f) results env a before =
-    faults rule files (number + 1) names rest c f results env (with_nothing files number results env names a) (later-before files names number before)
-    ∙ ap (λ n. fault_from rule files n env rest) (add-one number)
-faults rule files _ _ _ _ (an_assignment number names name r rest t c typed fit e f) results env a before =
+    → first_fault rules files c.stores results c.steps ≡ fault_from rules files number env script
+faults rules files _ _ _ _ (at_end number names) results env a before = refl
+faults rules files _ _ _ _ (a_nothing number names rest c f) results env a before =
+    faults rules files (number + 1) names rest c f results env (with_nothing files number results env names a) (later-before files names number before)
+    ∙ ap (λ n. fault_from rules files n env rest) (add-one number)
+faults rules files _ _ _ _ (an_assignment number names name r rest t c typed fit e f) results env a before =
     let made : RelationState = typed_table files results t in
-    let own = term_fault rule number (λ o. (value_of files results o).rows) t.term in
+    let own = term_fault (rules number) number (λ o. (value_of files results o).rows) t.term in
     let next = assigned-before files names number before name t in
     let used = used-live files (number + 1) (with_result number names name t) rest c f number true name (omega arith) next (newly-seen files names number name t before) in
-    let later = faults rule files (number + 1) (with_result number names name t) rest c f ((number, made) ∷ results) (with_name env name made) (assigned-agrees files number results env names a name t) next in
+    let later = faults rules files (number + 1) (with_result number names name t) rest c f ((number, made) ∷ results) (with_name env name made) (assigned-agrees files number results env names a name t) next in
     let means = term-means files results env names a.assigned a.stored r fit ∙ ap (option_map (typed_table files results)) e in
-    let same : relation_fault rule number files env r ≡ own =
-    subst (IfAny (λ (t : Typed). relation_fault rule number files env r ≡ term_fault rule number (λ o. (value_of files results o).rows) t.term)) e
-    (term-fault rule files results env names a.assigned a.stored number r fit) in
-    ap (λ b. cond (is_some (cond b own None)) (cond b own None) (first_fault (λ other. rule) files c.stores ((number, made) ∷ results) c.steps)) used
+    let same : relation_fault (rules number) number files env r ≡ own =
+    subst (IfAny (λ (t : Typed). relation_fault (rules number) number files env r ≡ term_fault (rules number) number (λ o. (value_of files results o).rows) t.term)) e
+    (term-fault (rules number) files results env names a.assigned a.stored number r fit) in
+    ap (λ b. cond (is_some (cond b own None)) (cond b own None) (first_fault rules files c.stores ((number, made) ∷ results) c.steps)) used
     ∙ ap (λ x. cond (is_some (cond (is_live name rest) own None)) (cond (is_live name rest) own None) x) later
-    ∙ ap (λ x. cond (is_some (cond (is_live name rest) x None)) (cond (is_live name rest) x None) (fault_from rule files (number + 1) (with_name env name made) rest)) (sym same)
-    ∙ ap (λ n. cond (is_some (cond (is_live name rest) (relation_fault rule number files env r) None)) (cond (is_live name rest) (relation_fault rule number files env r) None) (fault_from rule files n (with_name env name made) rest)) (add-one number)
-    ∙ ap (λ x. cond (is_some (cond (is_live name rest) (relation_fault rule number files env r) None)) (cond (is_live name rest) (relation_fault rule number files env r) None) (fault_from rule files (suc number) (option_map_or (with_name env name) x env) rest)) (sym means)
-faults rule files _ _ _ _ (a_store number names name key rest m c e f) results env a before =
+    ∙ ap (λ x. cond (is_some (cond (is_live name rest) x None)) (cond (is_live name rest) x None) (fault_from rules files (number + 1) (with_name env name made) rest)) (sym same)
+    ∙ ap (λ n. cond (is_some (cond (is_live name rest) (relation_fault (rules number) number files env r) None)) (cond (is_live name rest) (relation_fault (rules number) number files env r) None) (fault_from rules files n (with_name env name made) rest)) (add-one number)
+    ∙ ap (λ x. cond (is_some (cond (is_live name rest) (relation_fault (rules number) number files env r) None)) (cond (is_live name rest) (relation_fault (rules number) number files env r) None) (fault_from rules files (suc number) (option_map_or (with_name env name) x env) rest)) (sym means)
+faults rules files _ _ _ _ (a_store number names name key rest m c e f) results env a before =
     let early : IfAny (IsEarlier files number results) (Some m) =
     subst (IfAny (IsEarlier files number results)) e (meant-All (IsEarlier files number results) (λ n. same_name n name) names.assigned a.earlier) in
     let means = assigned-means files results env names a.assigned a.stored name ∙ ap (option_map (table_of files results)) e in
-    fault-without (λ other. rule) files (number + 1) (store_of number key m) c.stores (weaker number m.source early.0) c.steps
+    fault-without rules files (number + 1) (store_of number key m) c.stores (weaker number m.source early.0) c.steps
     (later-steps files (number + 1) (with_key names key m) rest c f) results
-    ∙ faults rule files (number + 1) (with_key names key m) rest c f results (with_key env key (table_of files results m))
+    ∙ faults rules files (number + 1) (with_key names key m) rest c f results (with_key env key (table_of files results m))
     (stored-agrees files number results env names a key m early) (stored-before files names number before key m early.0)
-    ∙ ap (λ n. fault_from rule files n (with_key env key (table_of files results m)) rest) (add-one number)
-    ∙ ap (λ x. fault_from rule files (suc number) (option_map_or (with_key env key) x env) rest) (sym means)
+    ∙ ap (λ n. fault_from rules files n (with_key env key (table_of files results m)) rest) (add-one number)
+    ∙ ap (λ x. fault_from rules files (suc number) (option_map_or (with_key env key) x env) rest) (sym means)
 
 pub steps_have_the_fault : StepsHaveTheFault
-steps_have_the_fault rule files script c forms typed =
-    faults rule files 1 nothing_yet script c (typed-follows files script c forms typed) [] nothing_yet (none-agree files)
+steps_have_the_fault rules files script c forms typed =
+    faults rules files 1 nothing_yet script c (typed-follows files script c forms typed) [] nothing_yet (none-agree files)
     (record { assigned = All-nil (λ (p : Name × Meant). IsBefore 1 p.1.source); stored = All-nil (λ (p : Key × Meant). IsBefore 1 p.1.source) })

@@ -11,7 +11,7 @@ mod ComprehensionLemmas
 mod CheckingLemmas
 mod ResolvedLemmas
 pub mod LoadLemmas
-mod FollowLemmas
+pub mod FollowLemmas
 mod ValueLemmas
 mod MeaningLemmas
 pub mod DefinedLemmas

@@ -8,7 +8,7 @@
 --   StepsAreOfTheFiles       and they meet the conditions of what takes steps
 --   LimitIsOfNumbers         behind the other kinds, a limit is passed exactly where a number is too
 --                            large, or nothing is there
-use Rattle.std.specs.Prelude.{◌≡◌, ◌==◌, ◌||◌, Bool, IsSome, IsTrue, List, None, Ok, Some, false}
+use Rattle.std.specs.Prelude.{◌≡◌, ◌==◌, ◌||◌, ℕ, Bool, IsSome, IsTrue, List, None, Ok, Some, false}
 use Rattle.std.specs.Prelude.{if◌then◌else◌, length, nat_lt}
 use Rattle.std.specs.List.{list_any}
 use Rattle.std.specs.Option.{option_map_or}
@@ -60,12 +60,12 @@ StepsMeanTheScript =
     → IsTrue (have_forms files script) → checked_of files script ≡ Ok c
     → stored_by files c ≡ stored_relations files script
 
--- the fault of a run of the steps is that of the script, whether prefixes count or not
+-- the fault of a run of the steps is that of the script, whatever counts in each statement
 abbrev pub StepsHaveTheFault : Type 0
 StepsHaveTheFault =
-    (rule : FaultRule) (files : List File) (script : List StatementTree) (c : CheckedTree)
+    (rules : ℕ → FaultRule) (files : List File) (script : List StatementTree) (c : CheckedTree)
     → IsTrue (have_forms files script) → checked_of files script ≡ Ok c
-    → checked_fault (λ number. rule) files c ≡ run_fault rule files script
+    → checked_fault rules files c ≡ run_fault rules files script
 
 -- the steps of a typed script are well formed over its files: their sources are there, their
 -- numbers rise, and their terms have the types of their columns

@@ -4,7 +4,7 @@ pub mod WidthLemmas
 pub mod ScriptLemmas
 pub mod StoredLemmas
 pub mod ReadyLemmas
-pub mod UsualLemmas
+pub mod RuleLemmas
 pub mod MemberLemmas
 pub mod CombinationLemmas
 pub mod MeetingLemmas

@@ -33,7 +33,7 @@ use Rattle.placement.specs.Destinations.{destinations, meeting_cell}
 use Rattle.placement.specs.Exchanges.{PlacedExchange, exchanges_of, traffic_of}
 use Rattle.placement.specs.Layouts.{PlacedRelation, Placing, ByCells, Broadcast, placed_stores}
 use Rattle.row_exchange.specs.Moves.{Move, sent, received, rows_between, rows_given}
-use Rattle.placement.specs.Plans.{usual_shuffle, pushed_of, plan_of}
+use Rattle.placement.specs.Plans.{Fixed, ruled_shuffle, usual_rule, pushed_of, plan_of}
 
 -- ---- scripts as steps
 
@@ -89,7 +89,7 @@ alone schema term = record { steps = step 1 schema term ∷ []; stores = store 2
 
 -- so many workers, and the usual way of a shuffle
 abbrev placing : ShuffleKind → ℕ → Placing
-placing kind n = record { workers = n; seed = 0; reduce = false; shuffle = λ number. usual_shuffle kind n }
+placing kind n = record { workers = n; seed = 0; reduce = false; shuffle = λ number. ruled_shuffle (usual_rule kind) n }
 
 abbrev parts : ShuffleKind → ℕ → List File → CheckedTree → List (List Rows)
 parts kind n files c = map (λ (p : Key × PlacedRelation). p.1.parts) (placed_stores (placing kind n) files c)
@@ -331,6 +331,16 @@ pub traffic-triangle_at_8 : traffic shuffle_kind.Hc 8 diagonals join_triangle
 unfolding load.comes_before load.load_of
 traffic-triangle_at_8 = refl
 
+-- shares that a plan names are taken as they are; nine cells, or a share too few, give way to broadcast
+pub named-shares : ruled_shuffle (Fixed (ByCells (8 ∷ 1 ∷ 1 ∷ []))) 8 triangle [] ≡ ByCells (8 ∷ 1 ∷ 1 ∷ [])
+named-shares = refl
+
+pub named-nine_cells : ruled_shuffle (Fixed (ByCells (3 ∷ 3 ∷ 1 ∷ []))) 8 triangle [] ≡ Broadcast
+named-nine_cells = refl
+
+pub named-two_shares : ruled_shuffle (Fixed (ByCells (2 ∷ 2 ∷ []))) 8 triangle [] ≡ Broadcast
+named-two_shares = refl
+
 -- with seven workers six cells send less than seven would; the last worker gets nothing
 pub plan-triangle_at_7 : planned shuffle_kind.Hc 7 diagonals join_triangle
     ≡ note.Statement 1 plan.From 3 ∷ note.Item 1 3 0 3 ∷ note.Item 2 3 0 3 ∷ note.Item 3 3 0 3
@@ -567,7 +577,7 @@ abbrev some_match : List File
 some_match = file (codes "R") one_int (singles (0 ∷ 1 ∷ 2 ∷ 3 ∷ [])) ∷ file (codes "S") one_int (singles (2 ∷ 3 ∷ [])) ∷ []
 
 abbrev reducing : ShuffleKind → ℕ → Placing
-reducing kind n = record { workers = n; seed = 0; reduce = true; shuffle = λ number. usual_shuffle kind n }
+reducing kind n = record { workers = n; seed = 0; reduce = true; shuffle = λ number. ruled_shuffle (usual_rule kind) n }
 
 pub traffic-reduced : traffic_of (reducing shuffle_kind.Hc 2) some_match join_fours ≡ noted 1 exchange.Hc (0 ∷ 4 ∷ []) (0 ∷ 2 ∷ []) ∷ []
 unfolding load.comes_before load.load_of

@@ -6,7 +6,7 @@
 --   PartsHoldTheRows               whatever a checked script stores is placed
 --   PlacedAreStored                the relations that are placed are those that the script stores
 --   JoinsAreReady                  the items of a script's joins are placed, and as wide as their atoms
---   UsualIsPlacing                 what settings say is a placing
+--   RuledIsPlacing                 what settings and rules say is a placing
 --   ReducedHaveTheCandidates       a join of the reduced rows has the candidates of the join
 --   ReducedAreKept                 the reduced rows are kept rows
 --   JoinedAreJoined                what is joined is as the laws of joins ask
@@ -44,7 +44,7 @@ use Rattle.placement.specs.Destinations.{IsDestination, destinations, is_destina
 use Rattle.placement.specs.Exchanges.{PlacedExchange, kept_parts, exchanges_of}
 use Rattle.placement.specs.Layouts.{PlacedRelation, Placing, Shuffle, ByCells, ByKeys, Broadcast, placed_nothing, together, joined_items, join_parts, rows_of, placed_source, placed_steps, placed_stores, prefix_key, item_key}
 use Rattle.row_exchange.specs.Moves.{Move, sent, received}
-use Rattle.placement.specs.Plans.{usual_placing}
+use Rattle.placement.specs.Plans.{ShuffleRule, placing_by}
 
 -- ---- what is placed
 
@@ -120,9 +120,10 @@ JoinsAreReady =
     → All (λ (s : StepTree). HasReadyItems p.workers
     (placed_source p files (placed_steps p files c.steps)) s.term) c.steps
 
--- by settings, no join has more cells than there are workers
-abbrev pub UsualIsPlacing : Type 0
-UsualIsPlacing = (s : Settings) → 1 ≤ s.workers → IsPlacing (usual_placing s)
+-- whatever the rules say, no join has more cells than there are workers
+abbrev pub RuledIsPlacing : Type 0
+RuledIsPlacing =
+    (s : Settings) (rules : ℕ → ShuffleRule) → 1 ≤ s.workers → IsPlacing (placing_by s rules)
 
 -- ---- what is joined
 

@@ -3,7 +3,12 @@
 --   pushed_of shape j                   how many tests atom j's own columns are put to before the join
 --   uses_of shape                       the variables of each atom, as the bits of a number
 --   kept_sizes shape given              the numbers of kept rows
---   usual_placing settings              what settings say, with the shares of least load where joins are by cells
+--   ShuffleRule                         by which rule the rows of a join come together
+--   ruled_shuffle rule workers shape .. how they come together by this rule
+--   one_rule rule                       this rule for all statements
+--   usual_rules settings                that of the settings
+--   placing_by settings rules           what settings say, with a rule for each statement
+--   ruled_placing settings rule         with one rule for all
 --   reduce_notes reduce shape items     the line on what is joined
 --   join_notes p local number shape ..  the lines of a comprehension
 --   step_notes p local value s          the lines of a step
@@ -28,7 +33,7 @@ use Rattle.algebra.specs.declared.terms.Source.TheVariants as source
 use Rattle.algebra.specs.Trees.{Shape, TermTree, Same, Empty, UnionAll, Diff, Distinct, Join, Group, StepTree, CheckedTree}
 use Rattle.algebra.specs.Shapes.{widths_of, tests_of, kept_of, is_acyclic_shape}
 use Rattle.algebra.specs.Meanings.{needed_steps}
-use Rattle.share_chooser.specs.Load.{product, load_of}
+use Rattle.share_chooser.specs.Load.{product, load_of, are_shares}
 use Rattle.share_chooser.specs.Best.{best_shares}
 use Rattle.placement.specs.Layouts.{PlacedRelation, Placing, Shuffle, ByCells, ByKeys, Broadcast, rows_of, joined_items, staying_atom, placed_source, placed_steps}
 
@@ -57,21 +62,53 @@ bits_of shape j =
 abbrev pub uses_of : Shape → List ℕ
 uses_of shape = map (λ e. bits_of shape e.0) (enumerate_from 0 shape.atoms)
 
--- by settings, each join has one shuffle: at cells with the shares of least load for its kept rows, two at a time, or broadcast
-abbrev pub usual_shuffle : ShuffleKind → ℕ → Shape → List Rows → Shuffle
-usual_shuffle shuffle_kind.Hc workers shape given =
-    ByCells (best_shares (uses_of shape) (kept_sizes shape given) (length shape.variables) workers)
-usual_shuffle shuffle_kind.Rs workers shape given = ByKeys
-usual_shuffle shuffle_kind.Br workers shape given = Broadcast
+-- ---- rules
 
--- the workers and the hash seed of the settings, whether they have joins reduced, and one shuffle for all statements
-abbrev pub usual_placing : Settings → Placing
-usual_placing s = record {
+-- by which rule the rows of a join come together: at cells with the shares of least load for the rows that are joined, or so
+pub data ShuffleRule : Type 0 where
+  LeastLoad : ShuffleRule
+  Fixed : (shuffle : Shuffle) → ShuffleRule
+
+-- this shuffle, where its shares are shares for so many variables and workers; else one atom's rows stay
+abbrev pub fitting_shuffle : ℕ → ℕ → Shuffle → Shuffle
+fitting_shuffle variables workers (ByCells shares) =
+    if are_shares variables workers shares then ByCells shares else Broadcast
+fitting_shuffle variables workers ByKeys = ByKeys
+fitting_shuffle variables workers Broadcast = Broadcast
+
+-- how the rows of a join come together by a rule
+abbrev pub ruled_shuffle : ShuffleRule → ℕ → Shape → List Rows → Shuffle
+ruled_shuffle LeastLoad workers shape given =
+    ByCells (best_shares (uses_of shape) (kept_sizes shape given) (length shape.variables) workers)
+ruled_shuffle (Fixed shuffle) workers shape given =
+    fitting_shuffle (length shape.variables) workers shuffle
+
+-- by settings, at cells with the shares of least load, two at a time, or broadcast
+abbrev pub usual_rule : ShuffleKind → ShuffleRule
+usual_rule shuffle_kind.Hc = LeastLoad
+usual_rule shuffle_kind.Rs = Fixed ByKeys
+usual_rule shuffle_kind.Br = Fixed Broadcast
+
+-- one rule for all statements
+abbrev pub one_rule : ShuffleRule → ℕ → ShuffleRule
+one_rule rule number = rule
+
+-- that of the settings
+abbrev pub usual_rules : Settings → ℕ → ShuffleRule
+usual_rules s = one_rule (usual_rule s.shuffle)
+
+-- the workers and the hash seed of the settings, whether they have joins reduced, and a rule for each statement
+abbrev pub placing_by : Settings → (ℕ → ShuffleRule) → Placing
+placing_by s rules = record {
   workers = s.workers;
   seed = s.seed;
   reduce = s.reduce;
-  shuffle = λ number. usual_shuffle s.shuffle s.workers;
+  shuffle = λ number. ruled_shuffle (rules number) s.workers;
 }
+
+-- with one rule for all
+abbrev pub ruled_placing : Settings → ShuffleRule → Placing
+ruled_placing s rule = placing_by s (one_rule rule)
 
 -- ---- lines
 

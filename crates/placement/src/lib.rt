@@ -23,7 +23,7 @@ mod receiving;
 pub use layouts::{
     exchanges_balance, joined_are_joined, joined_are_of_bags, joined_take_part, joins_are_ready,
     moves_balance, parts_are_bags, parts_hold_the_rows, placed_are_stored, reduced_are_kept,
-    reduced_have_the_candidates, usual_is_placing,
+    reduced_have_the_candidates, ruled_is_placing,
 };
 pub use meeting::{
     candidates_are_kept, candidates_meet_at_one_cell, cells_list_their_candidates,

@@ -14,8 +14,6 @@ use Rattle.myrial_ast.specs.KeptRows.{span_of_item, span_of_prefix, put_at, lies
 use Rattle.bag_laws.specs.Permuted.{SameTables, no_table, a_table}
 use Rattle.bag_laws.proofs.RowPermutations.{listed_from-same}
 use Rattle.algebra.specs.declared.notes.Exchange.TheVariants as exchange
-use Rattle.algebra.specs.declared.settings.ShuffleKind.{ShuffleKind}
-use Rattle.algebra.specs.declared.settings.ShuffleKind.TheVariants as shuffle_kind
 use Rattle.algebra.specs.Trees.{AtomTree, Shape}
 use Rattle.algebra.specs.Shapes.{widths_of, candidates_of, kept_of, listed_of, prefix_of}
 use Rattle.algebra.specs.Meanings.{has_long_prefix}
@@ -23,7 +21,7 @@ use Rattle.placement.specs.Destinations.{first_in, coordinate_in, cells, agrees,
 use Rattle.placement.specs.Exchanges.{kept_parts, row_counts, prefix_parts, by_cells, by_broadcast, by_keys, cells_exchange, broadcast_exchange, key_exchange, shuffle_exchanges}
 use Rattle.placement.specs.Layouts.{PlacedRelation, Shuffle, ByCells, ByKeys, Broadcast, placed_nothing, parts_by_home, values_in, prefix_key, item_key, is_most, staying_atom, rows_of, last_atom, join_parts}
 use Rattle.row_exchange.specs.Moves.{Sending}
-use Rattle.placement.specs.Plans.{kept_sizes, usual_shuffle, uses_of}
+use Rattle.placement.specs.Plans.{ShuffleRule, LeastLoad, Fixed, fitting_shuffle, kept_sizes, ruled_shuffle, uses_of}
 use Rattle.share_chooser.specs.Best.{best_shares}
 use Rattle.run_laws.specs.SameExchanges.{IsSameExchange, AreSameExchanges, no_exchange, an_exchange}
 use Rattle.run_laws.proofs.TableLemmas.{tables-counts, tables-map, homes-same}
@@ -328,10 +326,9 @@ module _ (n seed : ℕ) (s t : Shape) (given others : List PlacedRelation) (h : 
       (λ k. map (λ (e : ℕ × AtomTree). bits_by (h.widths k) (h.variables k) e.0) (enumerate_from 0 s.atoms))
       ∙ numbers-same (bits_by (widths_of t) t.variables) 0 s.atoms t.atoms h.atoms
 
-  pub shuffle-alike : (kind : ShuffleKind) → usual_shuffle kind n s (rows_of given) ≡ usual_shuffle kind n t (rows_of others)
-  shuffle-alike shuffle_kind.Hc = λ k. ByCells (best_shares (uses-same k) (h.sizes k) (length (h.variables k)) n)
-  shuffle-alike shuffle_kind.Rs = refl
-  shuffle-alike shuffle_kind.Br = refl
+  pub shuffle-alike : (rule : ShuffleRule) → ruled_shuffle rule n s (rows_of given) ≡ ruled_shuffle rule n t (rows_of others)
+  shuffle-alike LeastLoad = λ k. ByCells (best_shares (uses-same k) (h.sizes k) (length (h.variables k)) n)
+  shuffle-alike (Fixed shuffle) = λ k. fitting_shuffle (length (h.variables k)) n shuffle
 
   -- ---- faults
 

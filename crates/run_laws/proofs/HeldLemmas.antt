@@ -17,8 +17,8 @@ use Rattle.algebra.specs.Meanings.{sources_of}
 use Rattle.algebra.specs.Rewriting.{AreTyped}
 use Rattle.placement.specs.Layouts.{PlacedRelation, Placing, together, placed_file}
 use Rattle.placement.specs.Laws.{IsPlaced, IsPlacing, IsSamePlaced}
-use Rattle.placement.specs.Plans.{usual_placing, plan_kind}
-use Rattle.placement.proofs.UsualLemmas.{usual_is_placing}
+use Rattle.placement.specs.Plans.{placing_by, plan_kind}
+use Rattle.placement.proofs.RuleLemmas.{ruled_is_placing}
 use Rattle.placement.proofs.WidthLemmas.{pointwise-length}
 use Rattle.run_laws.specs.Values.{IsKnown, meant}
 use Rattle.run_laws.specs.Rewritten.{needed}
@@ -104,10 +104,10 @@ steps_are_ready p files c good of_files typed parts dealt i a l held =
     (needed_are_over_needed files c of_files (take i (needed c)) s (drop (suc i) (needed c)) (split-at (needed c) i a l)))
 
 pub results_are_held : ResultsAreHeld
-results_are_held s files c some of_files typed parts i a l same made are =
+results_are_held s rules files c some of_files typed parts i a l same made are =
     let x = get_or (needed c) i a in
-    let p = usual_placing s in
-    let good = usual_is_placing s some in
+    let p = placing_by s rules in
+    let good = ruled_is_placing s rules some in
     let step = needed_are_meant p files c good of_files typed i a l in
     let rows : SameTables (meant p files c (source.Result x.statement)).parts made =
     subst (λ (q : PlacedRelation). SameTables q.parts made) (sym step.result) are in
@@ -116,5 +116,5 @@ results_are_held s files c some of_files typed parts i a l same made are =
       rows = rows;
       lines = λ local.
           (λ t. note.Statement x.statement (plan_kind x.term) (sym count t)
-          ∷ notes_are_of_bags s local x.statement (meant p files c) (held_at parts) x.term same t);
+          ∷ notes_are_of_bags s rules local x.statement (meant p files c) (held_at parts) x.term same t);
     }

@@ -13,15 +13,13 @@ use Rattle.algebra.specs.declared.notes.PlanNote.{PlanNote}
 use Rattle.algebra.specs.declared.notes.PlanNote.TheVariants as note
 use Rattle.algebra.specs.declared.settings.JoinKind.{JoinKind}
 use Rattle.algebra.specs.declared.settings.Settings.{Settings}
-use Rattle.algebra.specs.declared.settings.ShuffleKind.{ShuffleKind}
-use Rattle.algebra.specs.declared.settings.ShuffleKind.TheVariants as shuffle_kind
 use Rattle.algebra.specs.declared.terms.Source.{Source}
 use Rattle.algebra.specs.Trees.{Shape, TermTree, Same, Empty, UnionAll, Diff, Distinct, Join, Group}
 use Rattle.algebra.specs.Shapes.{widths_of, tests_of, ties_of, kept_of, is_acyclic_shape}
 use Rattle.algebra.specs.Meanings.{sources_of}
 use Rattle.placement.specs.Layouts.{PlacedRelation, Shuffle, ByCells, ByKeys, Broadcast, rows_of, joined_items, is_most, staying_atom}
 use Rattle.placement.specs.Laws.{IsSamePlaced, AreSamePlaced, none_placed, one_placed}
-use Rattle.placement.specs.Plans.{uses_of, pushed_of, usual_shuffle, usual_placing, item_notes, variable_notes, shuffle_note, reduce_notes, join_notes, group_note, term_notes}
+use Rattle.placement.specs.Plans.{ShuffleRule, LeastLoad, Fixed, uses_of, pushed_of, ruled_shuffle, placing_by, item_notes, variable_notes, shuffle_note, reduce_notes, join_notes, group_note, term_notes}
 use Rattle.placement.proofs.JoinedLemmas.{rows-same, joined_are_of_bags}
 use Rattle.run_laws.specs.Scripts.{NotesAreOfBags}
 use Rattle.run_laws.proofs.TableLemmas.{tables-counts}
@@ -66,12 +64,11 @@ module _ (shape : Shape) where
       let long = long-same ts us h in
       λ t. unwrap_or (find (is_most (sizes t)) (range_with_len 0 (long t))) 0
 
-  shuffle-same : (kind : ShuffleKind) (n : ℕ) (ts us : List Rows) → SameTables ts us → usual_shuffle kind n shape ts
-      ≡ usual_shuffle kind n shape us
-  shuffle-same shuffle_kind.Hc n ts us h =
+  shuffle-same : (rule : ShuffleRule) (n : ℕ) (ts us : List Rows) → SameTables ts us → ruled_shuffle rule n shape ts
+      ≡ ruled_shuffle rule n shape us
+  shuffle-same LeastLoad n ts us h =
       ap (λ sizes. ByCells (best_shares (uses_of shape) sizes (length shape.variables) n)) (sizes-same 0 ts us h)
-  shuffle-same shuffle_kind.Rs n ts us h = refl
-  shuffle-same shuffle_kind.Br n ts us h = refl
+  shuffle-same (Fixed shuffle) n ts us h = refl
 
   note-same : (shuffle : Shuffle) (local : JoinKind) (ts us : List Rows) → SameTables ts us → shuffle_note shuffle local shape ts
       ≡ shuffle_note shuffle local shape us
@@ -87,26 +84,26 @@ module _ (shape : Shape) where
       ap (λ counts. cond (is_acyclic_shape shape) (note.Reduced counts) note.ReduceCyclic ∷ []) (tables-counts ts us h)
 
   -- the lines of a join of several items, by all rows and by those that are joined
-  several : (kind : ShuffleKind) (n : ℕ) (reduce : Bool) (local : JoinKind) → List Rows → List Rows → List PlanNote
-  several kind n reduce local ts items =
-      item_notes shape ts ++ reduce_notes reduce shape items ++ variable_notes (usual_shuffle kind n shape items) shape
-      ++ shuffle_note (usual_shuffle kind n shape items) local shape items ∷ []
+  several : (rule : ShuffleRule) (n : ℕ) (reduce : Bool) (local : JoinKind) → List Rows → List Rows → List PlanNote
+  several rule n reduce local ts items =
+      item_notes shape ts ++ reduce_notes reduce shape items ++ variable_notes (ruled_shuffle rule n shape items) shape
+      ++ shuffle_note (ruled_shuffle rule n shape items) local shape items ∷ []
 
-  several-same : (kind : ShuffleKind) (n : ℕ) (reduce : Bool) (local : JoinKind) (ts us : List Rows) → SameTables ts us
+  several-same : (rule : ShuffleRule) (n : ℕ) (reduce : Bool) (local : JoinKind) (ts us : List Rows) → SameTables ts us
       → (items others : List Rows) → SameTables items others
-      → several kind n reduce local ts items ≡ several kind n reduce local us others
+      → several rule n reduce local ts items ≡ several rule n reduce local us others
   unfolding several
-  several-same kind n reduce local ts us h items others k =
+  several-same rule n reduce local ts us h items others k =
       let rows = notes-same 0 ts us h in
       let line = reduce-same reduce items others k in
-      let how = shuffle-same kind n items others k in
-      let own = note-same (usual_shuffle kind n shape items) local items others k
+      let how = shuffle-same rule n items others k in
+      let own = note-same (ruled_shuffle rule n shape items) local items others k
       ∙ ap (λ shuffle. shuffle_note shuffle local shape others) how in
       λ t. rows t ++ line t ++ variable_notes (how t) shape ++ own t ∷ []
 
-module _ (s : Settings) (local : JoinKind) (number : ℕ) where
+module _ (s : Settings) (rules : ℕ → ShuffleRule) (local : JoinKind) (number : ℕ) where
   join-same : (shape : Shape) (given others : List PlacedRelation) → AreSamePlaced given others
-      → join_notes (usual_placing s) local number shape given ≡ join_notes (usual_placing s) local number shape others
+      → join_notes (placing_by s rules) local number shape given ≡ join_notes (placing_by s rules) local number shape others
   unfolding several
   join-same shape _ _ none_placed = refl
   join-same shape _ _ (one_placed p q _ _ h none_placed) =
@@ -115,24 +112,24 @@ module _ (s : Settings) (local : JoinKind) (number : ℕ) where
       let given = p ∷ r ∷ ps in
       let others = q ∷ u ∷ qs in
       let placed = one_placed p q (r ∷ ps) (u ∷ qs) h (one_placed r u ps qs k hs) in
-      several-same shape s.shuffle s.workers s.reduce local (rows_of given) (rows_of others) (rows-same given others placed)
+      several-same shape (rules number) s.workers s.reduce local (rows_of given) (rows_of others) (rows-same given others placed)
       (rows_of (joined_items s.reduce shape given)) (rows_of (joined_items s.reduce shape others))
       (rows-same (joined_items s.reduce shape given) (joined_items s.reduce shape others)
       (joined_are_of_bags s.reduce shape given others placed))
 
-module _ (s : Settings) (local : JoinKind) (number : ℕ) (v w : Source → PlacedRelation) where
+module _ (s : Settings) (rules : ℕ → ShuffleRule) (local : JoinKind) (number : ℕ) (v w : Source → PlacedRelation) where
   term-same : (t : TermTree) → All (λ o. IsSamePlaced (v o) (w o)) (sources_of t)
-      → term_notes (usual_placing s) local number v t ≡ term_notes (usual_placing s) local number w t
+      → term_notes (placing_by s rules) local number v t ≡ term_notes (placing_by s rules) local number w t
   term-same (Same o) same = refl
   term-same Empty same = refl
   term-same (UnionAll o q) same = refl
   term-same (Diff o q) same = refl
   term-same (Distinct o) same = refl
   term-same (Join shape sources) same =
-      join-same s local number shape (map v sources) (map w sources) (values-placed v w sources same)
+      join-same s rules local number shape (map v sources) (map w sources) (values-placed v w sources same)
   term-same (Group shape sources kinds) same =
       ap (λ notes. notes ++ group_note kinds ∷ [])
-      (join-same s local number shape (map v sources) (map w sources) (values-placed v w sources same))
+      (join-same s rules local number shape (map v sources) (map w sources) (values-placed v w sources same))
 
 pub notes_are_of_bags : NotesAreOfBags
-notes_are_of_bags s local number v w t same = term-same s local number v w t same
+notes_are_of_bags s rules local number v w t same = term-same s rules local number v w t same

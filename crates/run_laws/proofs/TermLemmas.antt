@@ -28,7 +28,7 @@ use Rattle.algebra.specs.Meanings.{sources_of, has_long_prefix, shape_fault}
 use Rattle.placement.specs.Exchanges.{row_counts, shuffle_exchanges, join_exchanges, to_home, whole_row, row_exchange, partial_sending, group_exchange}
 use Rattle.placement.specs.Layouts.{PlacedRelation, placed_nothing, by_worker, part, rows_of, joined_items, join_parts, listed_parts, term_parts}
 use Rattle.placement.specs.Laws.{IsSamePlaced, AreSamePlaced, none_placed, one_placed}
-use Rattle.placement.specs.Plans.{usual_shuffle, usual_placing}
+use Rattle.placement.specs.Plans.{ShuffleRule, ruled_shuffle, placing_by}
 use Rattle.placement.proofs.JoinedLemmas.{rows-same, joined-rows, joined_are_of_bags}
 use Rattle.placement.proofs.PrefixLemmas.{map-through}
 use Rattle.run_laws.specs.SameExchanges.{AreSameExchanges, no_exchange, an_exchange}
@@ -153,94 +153,94 @@ values-rows v w (o ∷ sources) h =
     (All-head (λ o. IsSamePlaced (v o) (w o)) o sources h).rows
     (values-rows v w sources (All-tail (λ o. IsSamePlaced (v o) (w o)) o sources h))
 
-module _ (s : Settings) (number : ℕ) (shape : Shape) where
-  -- what is listed by the usual shuffle
-  abbrev usual_parts : List PlacedRelation → List Rows
-  usual_parts given = join_parts s.workers s.seed (usual_shuffle s.shuffle s.workers shape (rows_of given)) shape given
+module _ (s : Settings) (rules : ℕ → ShuffleRule) (number : ℕ) (shape : Shape) where
+  -- what is listed by the rule of the statement
+  abbrev ruled_parts : List PlacedRelation → List Rows
+  ruled_parts given = join_parts s.workers s.seed (ruled_shuffle (rules number) s.workers shape (rows_of given)) shape given
 
   module _ (given others : List PlacedRelation) (h : AreSamePlaced given others) where
     alike : AreAlike s.workers shape shape given others
     alike = same-alike shape s.workers given others h
 
-    shuffles : usual_shuffle s.shuffle s.workers shape (rows_of given) ≡ usual_shuffle s.shuffle s.workers shape (rows_of others)
-    shuffles = shuffle-alike s.workers s.seed shape shape given others alike s.shuffle
+    shuffles : ruled_shuffle (rules number) s.workers shape (rows_of given) ≡ ruled_shuffle (rules number) s.workers shape (rows_of others)
+    shuffles = shuffle-alike s.workers s.seed shape shape given others alike (rules number)
 
-    usual-parts : SameTables (usual_parts given) (usual_parts others)
-    usual-parts =
-        subst (λ shuffle. SameTables (usual_parts given) (join_parts s.workers s.seed shuffle shape others)) shuffles
-        (parts-alike s.workers s.seed shape shape given others alike (usual_shuffle s.shuffle s.workers shape (rows_of given)))
+    ruled-parts : SameTables (ruled_parts given) (ruled_parts others)
+    ruled-parts =
+        subst (λ shuffle. SameTables (ruled_parts given) (join_parts s.workers s.seed shuffle shape others)) shuffles
+        (parts-alike s.workers s.seed shape shape given others alike (ruled_shuffle (rules number) s.workers shape (rows_of given)))
 
-    usual-exchanges : AreSameExchanges s.workers
-        (shuffle_exchanges s.workers s.seed (usual_shuffle s.shuffle s.workers shape (rows_of given)) shape given
-        (usual_parts given))
-        (shuffle_exchanges s.workers s.seed (usual_shuffle s.shuffle s.workers shape (rows_of others)) shape others
-        (usual_parts others))
-    usual-exchanges =
+    ruled-exchanges : AreSameExchanges s.workers
+        (shuffle_exchanges s.workers s.seed (ruled_shuffle (rules number) s.workers shape (rows_of given)) shape given
+        (ruled_parts given))
+        (shuffle_exchanges s.workers s.seed (ruled_shuffle (rules number) s.workers shape (rows_of others)) shape others
+        (ruled_parts others))
+    ruled-exchanges =
         subst (λ shuffle. AreSameExchanges s.workers
-        (shuffle_exchanges s.workers s.seed (usual_shuffle s.shuffle s.workers shape (rows_of given)) shape given
-        (usual_parts given))
-        (shuffle_exchanges s.workers s.seed shuffle shape others (usual_parts others))) shuffles
-        (exchanges-alike s.workers s.seed shape shape given others alike (usual_parts given) (usual_parts others) usual-parts
-        (usual_shuffle s.shuffle s.workers shape (rows_of given)))
+        (shuffle_exchanges s.workers s.seed (ruled_shuffle (rules number) s.workers shape (rows_of given)) shape given
+        (ruled_parts given))
+        (shuffle_exchanges s.workers s.seed shuffle shape others (ruled_parts others))) shuffles
+        (exchanges-alike s.workers s.seed shape shape given others alike (ruled_parts given) (ruled_parts others) ruled-parts
+        (ruled_shuffle (rules number) s.workers shape (rows_of given)))
 
   joined-same : (given others : List PlacedRelation) → AreSamePlaced given others
       → AreSamePlaced (joined_items s.reduce shape given) (joined_items s.reduce shape others)
   joined-same given others h = joined_are_of_bags s.reduce shape given others h
 
   listed-same : (given others : List PlacedRelation) → AreSamePlaced given others
-      → SameTables (listed_parts (usual_placing s) number shape given) (listed_parts (usual_placing s) number shape others)
+      → SameTables (listed_parts (placing_by s rules) number shape given) (listed_parts (placing_by s rules) number shape others)
   listed-same _ _ none_placed =
-      usual-parts (joined_items s.reduce shape []) (joined_items s.reduce shape []) (joined-same [] [] none_placed)
+      ruled-parts (joined_items s.reduce shape []) (joined_items s.reduce shape []) (joined-same [] [] none_placed)
   listed-same _ _ (one_placed p q _ _ h none_placed) =
       tables-map (λ own. listed_of shape (own ∷ [])) (λ own. listed_of shape (own ∷ []))
       (λ a b k. listed_of-same shape (a ∷ []) (b ∷ []) (a_table a b [] [] k no_table))
       p.parts q.parts h.parts
   listed-same _ _ (one_placed p q _ _ h (one_placed r u ps qs k hs)) =
-      usual-parts (joined_items s.reduce shape (p ∷ r ∷ ps)) (joined_items s.reduce shape (q ∷ u ∷ qs))
+      ruled-parts (joined_items s.reduce shape (p ∷ r ∷ ps)) (joined_items s.reduce shape (q ∷ u ∷ qs))
       (joined-same (p ∷ r ∷ ps) (q ∷ u ∷ qs) (one_placed p q (r ∷ ps) (u ∷ qs) h (one_placed r u ps qs k hs)))
 
   exchanges-same : (given others : List PlacedRelation) → AreSamePlaced given others
-      → AreSameExchanges s.workers (join_exchanges (usual_placing s) number shape given)
-      (join_exchanges (usual_placing s) number shape others)
+      → AreSameExchanges s.workers (join_exchanges (placing_by s rules) number shape given)
+      (join_exchanges (placing_by s rules) number shape others)
   exchanges-same _ _ none_placed =
-      usual-exchanges (joined_items s.reduce shape []) (joined_items s.reduce shape []) (joined-same [] [] none_placed)
+      ruled-exchanges (joined_items s.reduce shape []) (joined_items s.reduce shape []) (joined-same [] [] none_placed)
   exchanges-same _ _ (one_placed p q _ _ h none_placed) = no_exchange
   exchanges-same _ _ (one_placed p q _ _ h (one_placed r u ps qs k hs)) =
-      usual-exchanges (joined_items s.reduce shape (p ∷ r ∷ ps)) (joined_items s.reduce shape (q ∷ u ∷ qs))
+      ruled-exchanges (joined_items s.reduce shape (p ∷ r ∷ ps)) (joined_items s.reduce shape (q ∷ u ∷ qs))
       (joined-same (p ∷ r ∷ ps) (q ∷ u ∷ qs) (one_placed p q (r ∷ ps) (u ∷ qs) h (one_placed r u ps qs k hs)))
 
 -- ---- the other terms
 
-homes-alike : (p q : List PlacedRelation) (s : Settings) → AreSamePlaced p q
-    → AreSameSendings (map (λ (r : PlacedRelation). to_home (usual_placing s) whole_row r.parts) p)
-    (map (λ (r : PlacedRelation). to_home (usual_placing s) whole_row r.parts) q)
-homes-alike _ _ s none_placed = no_sending
-homes-alike _ _ s (one_placed p q ps qs h hs) =
-    a_sending (to_home (usual_placing s) whole_row p.parts) (to_home (usual_placing s) whole_row q.parts)
-    (map (λ (r : PlacedRelation). to_home (usual_placing s) whole_row r.parts) ps)
-    (map (λ (r : PlacedRelation). to_home (usual_placing s) whole_row r.parts) qs)
-    refl h.parts (homes-alike ps qs s hs)
+homes-alike : (p q : List PlacedRelation) (s : Settings) (rules : ℕ → ShuffleRule) → AreSamePlaced p q
+    → AreSameSendings (map (λ (r : PlacedRelation). to_home (placing_by s rules) whole_row r.parts) p)
+    (map (λ (r : PlacedRelation). to_home (placing_by s rules) whole_row r.parts) q)
+homes-alike _ _ s rules none_placed = no_sending
+homes-alike _ _ s rules (one_placed p q ps qs h hs) =
+    a_sending (to_home (placing_by s rules) whole_row p.parts) (to_home (placing_by s rules) whole_row q.parts)
+    (map (λ (r : PlacedRelation). to_home (placing_by s rules) whole_row r.parts) ps)
+    (map (λ (r : PlacedRelation). to_home (placing_by s rules) whole_row r.parts) qs)
+    refl h.parts (homes-alike ps qs s rules hs)
 
-rows-exchanged : (s : Settings) (kind : Exchange) (given others : List PlacedRelation) (parts more : List Rows)
+rows-exchanged : (s : Settings) (rules : ℕ → ShuffleRule) (kind : Exchange) (given others : List PlacedRelation) (parts more : List Rows)
     → AreSamePlaced given others → SameTables parts more
-    → AreSameExchanges s.workers (row_exchange (usual_placing s) kind given parts ∷ [])
-    (row_exchange (usual_placing s) kind others more ∷ [])
-rows-exchanged s kind given others parts more h k =
-    an_exchange (row_exchange (usual_placing s) kind given parts) (row_exchange (usual_placing s) kind others more) [] []
-    (sendings-tell s.workers kind (map (λ (r : PlacedRelation). to_home (usual_placing s) whole_row r.parts) given)
-    (map (λ (r : PlacedRelation). to_home (usual_placing s) whole_row r.parts) others) (row_counts parts) (row_counts more)
-    (homes-alike given others s h) (tables-counts parts more k))
+    → AreSameExchanges s.workers (row_exchange (placing_by s rules) kind given parts ∷ [])
+    (row_exchange (placing_by s rules) kind others more ∷ [])
+rows-exchanged s rules kind given others parts more h k =
+    an_exchange (row_exchange (placing_by s rules) kind given parts) (row_exchange (placing_by s rules) kind others more) [] []
+    (sendings-tell s.workers kind (map (λ (r : PlacedRelation). to_home (placing_by s rules) whole_row r.parts) given)
+    (map (λ (r : PlacedRelation). to_home (placing_by s rules) whole_row r.parts) others) (row_counts parts) (row_counts more)
+    (homes-alike given others s rules h) (tables-counts parts more k))
     no_exchange
 
-pub partials-exchanged : (s : Settings) (kinds : Kinds) (listed others parts more : List Rows) → SameTables listed others
+pub partials-exchanged : (s : Settings) (rules : ℕ → ShuffleRule) (kinds : Kinds) (listed others parts more : List Rows) → SameTables listed others
     → SameTables parts more
-    → AreSameExchanges s.workers (group_exchange (usual_placing s) kinds listed parts ∷ [])
-    (group_exchange (usual_placing s) kinds others more ∷ [])
-partials-exchanged s kinds listed others parts more h k =
-    an_exchange (group_exchange (usual_placing s) kinds listed parts) (group_exchange (usual_placing s) kinds others more) [] []
-    (sendings-tell s.workers exchange.Group (partial_sending (usual_placing s) kinds listed ∷ [])
-    (partial_sending (usual_placing s) kinds others ∷ []) (row_counts parts) (row_counts more)
-    (a_sending (partial_sending (usual_placing s) kinds listed) (partial_sending (usual_placing s) kinds others) [] [] refl
+    → AreSameExchanges s.workers (group_exchange (placing_by s rules) kinds listed parts ∷ [])
+    (group_exchange (placing_by s rules) kinds others more ∷ [])
+partials-exchanged s rules kinds listed others parts more h k =
+    an_exchange (group_exchange (placing_by s rules) kinds listed parts) (group_exchange (placing_by s rules) kinds others more) [] []
+    (sendings-tell s.workers exchange.Group (partial_sending (placing_by s rules) kinds listed ∷ [])
+    (partial_sending (placing_by s rules) kinds others ∷ []) (row_counts parts) (row_counts more)
+    (a_sending (partial_sending (placing_by s rules) kinds listed) (partial_sending (placing_by s rules) kinds others) [] [] refl
     (tables-map (partial_rows kinds) (partial_rows kinds) partials listed others h) no_sending) (tables-counts parts more k))
     no_exchange
   where
@@ -258,22 +258,22 @@ fault-same s number rule shape kinds v w sources h =
     (joined_are_of_bags rule.reduce shape (map v sources) (map w sources) (values-placed v w sources h)))
     ∙ ap (shape_fault rule number shape kinds) (map-through (λ (p : PlacedRelation). p.relation.rows) w sources)
 
-pub same-run : (s : Settings) (number : ℕ) (v w : Source → PlacedRelation) (t : TermTree) → AreSameValues v w (sources_of t)
-    → IsSameRun s number v w t
-same-run s number v w (Same o) h = record {
+pub same-run : (s : Settings) (rules : ℕ → ShuffleRule) (number : ℕ) (v w : Source → PlacedRelation) (t : TermTree) → AreSameValues v w (sources_of t)
+    → IsSameRun s rules number v w t
+same-run s rules number v w (Same o) h = record {
   parts = (All-head (λ o. IsSamePlaced (v o) (w o)) o [] h).parts;
   exchanges = no_exchange;
   fault = λ rule. refl;
   notes = λ local. refl;
 }
-same-run s number v w Empty h = record {
+same-run s rules number v w Empty h = record {
   parts = tables-itself (by_worker s.workers (λ k. []));
   exchanges = no_exchange;
   fault =
       λ rule. refl;
   notes = λ local. refl;
 }
-same-run s number v w (UnionAll o p) h =
+same-run s rules number v w (UnionAll o p) h =
     let one = All-head (λ o. IsSamePlaced (v o) (w o)) o (p ∷ []) h in
     let two = All-head (λ o. IsSamePlaced (v o) (w o)) p [] (All-tail (λ o. IsSamePlaced (v o) (w o)) o (p ∷ []) h) in
     record {
@@ -289,7 +289,7 @@ same-run s number v w (UnionAll o p) h =
           (union_all-same (rows_in v o) (rows_in w o) (rows_in v p) (rows_in w p) one.rows two.rows)));
       notes = λ local. refl;
     }
-same-run s number v w (Diff o p) h =
+same-run s rules number v w (Diff o p) h =
     let one = All-head (λ o. IsSamePlaced (v o) (w o)) o (p ∷ []) h in
     let two = All-head (λ o. IsSamePlaced (v o) (w o)) p [] (All-tail (λ o. IsSamePlaced (v o) (w o)) o (p ∷ []) h) in
     let parts = homes-same s.workers (λ row. home_of s.seed row s.workers) (difference (rows_in v o) (rows_in v p))
@@ -298,34 +298,34 @@ same-run s number v w (Diff o p) h =
     record {
       parts = parts;
       exchanges =
-          rows-exchanged s exchange.Diff (v o ∷ v p ∷ []) (w o ∷ w p ∷ []) (term_parts (usual_placing s) number v (Diff o p))
-          (term_parts (usual_placing s) number w (Diff o p))
+          rows-exchanged s rules exchange.Diff (v o ∷ v p ∷ []) (w o ∷ w p ∷ []) (term_parts (placing_by s rules) number v (Diff o p))
+          (term_parts (placing_by s rules) number w (Diff o p))
           (values-placed v w (o ∷ p ∷ []) h) parts;
       fault = λ rule. refl;
       notes = λ local. refl;
     }
-same-run s number v w (Distinct o) h =
+same-run s rules number v w (Distinct o) h =
     let one = All-head (λ o. IsSamePlaced (v o) (w o)) o [] h in
     let parts = homes-same s.workers (λ row. home_of s.seed row s.workers) (distinct (rows_in v o)) (distinct (rows_in w o))
     (distinct-same (rows_in v o) (rows_in w o) one.rows) in
     record {
       parts = parts;
       exchanges =
-          rows-exchanged s exchange.Distinct (v o ∷ []) (w o ∷ []) (term_parts (usual_placing s) number v (Distinct o))
-          (term_parts (usual_placing s) number w (Distinct o))
+          rows-exchanged s rules exchange.Distinct (v o ∷ []) (w o ∷ []) (term_parts (placing_by s rules) number v (Distinct o))
+          (term_parts (placing_by s rules) number w (Distinct o))
           (values-placed v w (o ∷ []) h) parts;
       fault = λ rule. refl;
       notes = λ local. refl;
     }
-same-run s number v w (Join shape sources) h =
+same-run s rules number v w (Join shape sources) h =
     let placed = values-placed v w sources h in
     record {
-      parts = listed-same s number shape (map v sources) (map w sources) placed;
-      exchanges = exchanges-same s number shape (map v sources) (map w sources) placed;
+      parts = listed-same s rules number shape (map v sources) (map w sources) placed;
+      exchanges = exchanges-same s rules number shape (map v sources) (map w sources) placed;
       fault = λ rule. fault-same s number rule shape [] v w sources h;
-      notes = λ local. notes_are_of_bags s local number v w (Join shape sources) h;
+      notes = λ local. notes_are_of_bags s rules local number v w (Join shape sources) h;
     }
-same-run s number v w (Group shape sources kinds) h =
+same-run s rules number v w (Group shape sources kinds) h =
     let placed = values-placed v w sources h in
     let rows = listed_of-same shape (map (rows_in v) sources) (map (rows_in w) sources) (values-rows v w sources h) in
     let parts = homes-same s.workers (λ row. home_of s.seed (key_of kinds row) s.workers)
@@ -335,20 +335,20 @@ same-run s number v w (Group shape sources kinds) h =
     record {
       parts = parts;
       exchanges =
-          exchanges-before s.workers (join_exchanges (usual_placing s) number shape (map v sources))
-          (join_exchanges (usual_placing s) number shape (map w sources))
-          (group_exchange (usual_placing s) kinds (listed_parts (usual_placing s) number shape (map v sources))
-          (term_parts (usual_placing s) number v (Group shape sources kinds)) ∷ [])
-          (group_exchange (usual_placing s) kinds (listed_parts (usual_placing s) number shape (map w sources))
-          (term_parts (usual_placing s) number w (Group shape sources kinds)) ∷ [])
-          (exchanges-same s number shape (map v sources) (map w sources) placed)
-          (partials-exchanged s kinds (listed_parts (usual_placing s) number shape (map v sources))
-          (listed_parts (usual_placing s) number shape (map w sources))
-          (term_parts (usual_placing s) number v (Group shape sources kinds))
-          (term_parts (usual_placing s) number w (Group shape sources kinds))
-          (listed-same s number shape (map v sources) (map w sources) placed) parts);
+          exchanges-before s.workers (join_exchanges (placing_by s rules) number shape (map v sources))
+          (join_exchanges (placing_by s rules) number shape (map w sources))
+          (group_exchange (placing_by s rules) kinds (listed_parts (placing_by s rules) number shape (map v sources))
+          (term_parts (placing_by s rules) number v (Group shape sources kinds)) ∷ [])
+          (group_exchange (placing_by s rules) kinds (listed_parts (placing_by s rules) number shape (map w sources))
+          (term_parts (placing_by s rules) number w (Group shape sources kinds)) ∷ [])
+          (exchanges-same s rules number shape (map v sources) (map w sources) placed)
+          (partials-exchanged s rules kinds (listed_parts (placing_by s rules) number shape (map v sources))
+          (listed_parts (placing_by s rules) number shape (map w sources))
+          (term_parts (placing_by s rules) number v (Group shape sources kinds))
+          (term_parts (placing_by s rules) number w (Group shape sources kinds))
+          (listed-same s rules number shape (map v sources) (map w sources) placed) parts);
       fault = λ rule. fault-same s number rule shape kinds v w sources h;
-      notes = λ local. notes_are_of_bags s local number v w (Group shape sources kinds) h;
+      notes = λ local. notes_are_of_bags s rules local number v w (Group shape sources kinds) h;
     }
 
 pub terms_are_of_bags : TermsAreOfBags

@@ -9,12 +9,11 @@ use Rattle.rel_base.specs.declared.values.Value.TheVariants as value
 use Rattle.rel_base.specs.Keys.{File}
 use Rattle.myrial_ast.specs.Scalars.{At}
 use Rattle.myrial_ast.specs.Combinations.{Rows}
-use Rattle.algebra.specs.declared.settings.ShuffleKind.TheVariants as shuffle_kind
 use Rattle.algebra.specs.declared.terms.Source.TheVariants as source
 use Rattle.algebra.specs.Conditions.{is_of}
 use Rattle.algebra.specs.Trees.{Shape, TermTree, Same, UnionAll, Distinct, StepTree, CheckedTree}
 use Rattle.placement.specs.Layouts.{Placing}
-use Rattle.placement.specs.Plans.{usual_shuffle}
+use Rattle.placement.specs.Plans.{LeastLoad, ruled_shuffle}
 use Rattle.run_laws.specs.Values.{meant, rows_meant, result_of, first_of}
 use Rattle.run_laws.specs.Rewritten.{needed, numbers_of}
 use Rattle.run_laws.specs.Held.{parts_in}
@@ -41,7 +40,7 @@ two = record {
   workers = 2;
   seed = 0;
   reduce = false;
-  shuffle = λ number. usual_shuffle shuffle_kind.Hc 2;
+  shuffle = λ number. ruled_shuffle LeastLoad 2;
 }
 
 -- A = scan(R); B = distinct(scan(R)); C = unionall(A, scan(R)); store(C, Out): the second statement isn't needed

@@ -14,7 +14,7 @@ use Rattle.algebra.specs.Meanings.{sources_of, term_fault}
 use Rattle.placement.specs.Exchanges.{term_exchanges}
 use Rattle.placement.specs.Layouts.{PlacedRelation, term_parts}
 use Rattle.placement.specs.Laws.{IsSamePlaced}
-use Rattle.placement.specs.Plans.{usual_placing, term_notes}
+use Rattle.placement.specs.Plans.{ShuffleRule, placing_by, term_notes}
 use Rattle.run_laws.specs.SameExchanges.{AreSameExchanges}
 
 -- what these sources stand for is the same, but for the order of rows
@@ -28,18 +28,21 @@ rows_in v o = (v o).relation.rows
 
 -- a term over the same bags has the same bags at each worker, its exchanges tell the same, and it has the same fault and the
 -- same lines in a plan
-pub record IsSameRun (s : Settings) (number : ℕ) (v w : Source → PlacedRelation) (t : TermTree) : Type 0 where
-  pub parts : SameTables (term_parts (usual_placing s) number v t) (term_parts (usual_placing s) number w t)
-  pub exchanges : AreSameExchanges s.workers (term_exchanges (usual_placing s) number v t)
-      (term_exchanges (usual_placing s) number w t)
+pub record IsSameRun (s : Settings) (rules : ℕ → ShuffleRule) (number : ℕ)
+    (v w : Source → PlacedRelation) (t : TermTree) : Type 0 where
+  pub parts : SameTables (term_parts (placing_by s rules) number v t)
+      (term_parts (placing_by s rules) number w t)
+  pub exchanges : AreSameExchanges s.workers (term_exchanges (placing_by s rules) number v t)
+      (term_exchanges (placing_by s rules) number w t)
   pub fault : (rule : FaultRule)
       → term_fault rule number (rows_in v) t ≡ term_fault rule number (rows_in w) t
   pub notes : (local : JoinKind)
-      → term_notes (usual_placing s) local number v t
-      ≡ term_notes (usual_placing s) local number w t
+      → term_notes (placing_by s rules) local number v t
+      ≡ term_notes (placing_by s rules) local number w t
 
 abbrev pub TermsAreOfBags : Type 0
 TermsAreOfBags =
-    (s : Settings) (number : ℕ) (v w : Source → PlacedRelation) (t : TermTree)
+    (s : Settings) (rules : ℕ → ShuffleRule) (number : ℕ) (v w : Source → PlacedRelation)
+    (t : TermTree)
     → AreSameValues v w (sources_of t)
-    → IsSameRun s number v w t
+    → IsSameRun s rules number v w t

@@ -6,7 +6,7 @@
 --   HasWideParts width parts t      the rows of a term's operands are so wide
 --   IsReadyStep p files c parts s   the rows that a step's sources stand for are as it asks
 --   StepsAreReady                   where the steps before a needed one are held, it is ready
---   IsHeldResult s files c parts x made
+--   IsHeldResult s rules files c parts x made
 --                                   the result of a step that ran over what is held, and its lines of the plan
 --   ResultsAreHeld                  what a needed step comes to over what is held is such a result
 --   parts_in dealt results o        what is held for a source, among the rows of files and of numbered results
@@ -30,7 +30,7 @@ use Rattle.algebra.specs.Conditions.{is_of}
 use Rattle.algebra.specs.Meanings.{found, sources_of}
 use Rattle.algebra.specs.Rewriting.{AreTyped}
 use Rattle.placement.specs.Layouts.{PlacedRelation, Placing, together, term_parts, placed_file}
-use Rattle.placement.specs.Plans.{usual_placing, plan_kind, term_notes, step_notes}
+use Rattle.placement.specs.Plans.{ShuffleRule, placing_by, plan_kind, term_notes, step_notes}
 use Rattle.placement.specs.Laws.{IsPlaced, IsPlacing, IsSamePlaced, HasReadyItems}
 use Rattle.run_laws.specs.Values.{meant}
 use Rattle.run_laws.specs.Rewritten.{needed, numbers_of}
@@ -81,26 +81,26 @@ StepsAreReady =
 
 -- the bags that the result of a step means, and the lines of the plan for it: its own, with the number of these rows, and those
 -- below it, by what is held
-pub record IsHeldResult (s : Settings) (files : List File) (c : CheckedTree)
-    (parts : Source → List Rows) (x : StepTree)
+pub record IsHeldResult (s : Settings) (rules : ℕ → ShuffleRule) (files : List File)
+    (c : CheckedTree) (parts : Source → List Rows) (x : StepTree)
     (made : List Rows) : Type 0 where
-  pub rows : SameTables (meant (usual_placing s) files c (source.Result x.statement)).parts made
+  pub rows : SameTables (meant (placing_by s rules) files c (source.Result x.statement)).parts made
   pub lines : (local : JoinKind)
-      → step_notes (usual_placing s) local (meant (usual_placing s) files c) x
+      → step_notes (placing_by s rules) local (meant (placing_by s rules) files c) x
       ≡ note.Statement x.statement (plan_kind x.term) (length (together made))
-      ∷ term_notes (usual_placing s) local x.statement (held_at parts) x.term
+      ∷ term_notes (placing_by s rules) local x.statement (held_at parts) x.term
 
 -- where the sources of a needed step are held, the bags of its term over what they mean are such a result
 abbrev pub ResultsAreHeld : Type 0
 ResultsAreHeld =
-    (s : Settings) (files : List File) (c : CheckedTree) → 1 ≤ s.workers → IsTrue (is_of files c)
-    → AreTyped files
+    (s : Settings) (rules : ℕ → ShuffleRule) (files : List File) (c : CheckedTree)
+    → 1 ≤ s.workers → IsTrue (is_of files c) → AreTyped files
     → (parts : Source → List Rows) (i : ℕ) (a : StepTree) → i < length (needed c)
     → let x = slice_index_or (needed c) i a in
-    let value = meant (usual_placing s) files c in
+    let value = meant (placing_by s rules) files c in
     All (λ o. IsSamePlaced (value o) (held_at parts o)) (sources_of x.term)
-    → (made : List Rows) → SameTables (term_parts (usual_placing s) x.statement value x.term) made
-    → IsHeldResult s files c parts x made
+    → (made : List Rows) → SameTables (term_parts (placing_by s rules) x.statement value x.term) made
+    → IsHeldResult s rules files c parts x made
 
 -- ---- what is held by number
 

@@ -35,7 +35,7 @@ use Rattle.algebra.specs.Meanings.{sources_of, stored_by, checked_fault}
 use Rattle.algebra.specs.Rewriting.{AreTables, AreTyped}
 use Rattle.placement.specs.Layouts.{PlacedRelation, Placing, rows_of, together, placed_file, placed_stores}
 use Rattle.placement.specs.Exchanges.{PlacedExchange, term_exchanges, exchanges_of}
-use Rattle.placement.specs.Plans.{usual_placing, term_notes, step_notes, plan_of}
+use Rattle.placement.specs.Plans.{ShuffleRule, placing_by, term_notes, step_notes, plan_of}
 use Rattle.placement.specs.Laws.{IsPlaced, IsPlacing, IsSamePlaced, HasReadyItems}
 use Rattle.run_laws.specs.Values.{meant, rows_meant, result_of, step_fault}
 use Rattle.run_laws.specs.Rewritten.{needed}
@@ -159,6 +159,8 @@ ReadyAreOfBags =
 -- over other rows that are the same bags at each worker the lines of a plan are the same
 abbrev pub NotesAreOfBags : Type 0
 NotesAreOfBags =
-    (s : Settings) (local : JoinKind) (number : ℕ) (v w : Source → PlacedRelation) (t : TermTree)
+    (s : Settings) (rules : ℕ → ShuffleRule) (local : JoinKind) (number : ℕ)
+    (v w : Source → PlacedRelation) (t : TermTree)
     → All (λ o. IsSamePlaced (v o) (w o)) (sources_of t)
-    → term_notes (usual_placing s) local number v t ≡ term_notes (usual_placing s) local number w t
+    → term_notes (placing_by s rules) local number v t
+    ≡ term_notes (placing_by s rules) local number w t
