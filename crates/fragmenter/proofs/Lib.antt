@@ -3,3 +3,5 @@ pub mod StageLemmas
 pub mod WorkedRows
 pub mod WorkedPlans
 pub mod NotedLemmas
+pub mod PlanLemmas
+pub mod ExchangeLemmas

@@ -1,5 +1,5 @@
 -- The plan that the notes of a run print fits its steps.
-use Rattle.std.proofs.Common.{◌≡◌, ◌∙◌, ℕ, suc, ◌+◌, ◌≤◌, ◌&&◌, Bool, true, false, cond, nat_le, nat_lt, List, [], ◌∷◌, ◌++◌, map, length, length-append, take, All, Option, Some, None, option_map, slice_index_or, refl, sym, ap, ap₂, arith, append_assoc, append-nil}
+use Rattle.std.proofs.Common.{◌≡◌, ◌∙◌, ℕ, suc, ◌+◌, ◌≤◌, ◌&&◌, Bool, true, false, cond, nat_le, nat_lt, List, [], ◌∷◌, ◌++◌, map, length, length-append, take, Option, Some, None, option_map, slice_index_or, refl, sym, ap, ap₂, arith, append_assoc, append-nil}
 use Rattle.std.specs.Prelude.{⊤}
 use Rattle.std.specs.List.{enumerate_from, flat_map, list_all}
 use Rattle.std.specs.Option.{option_to_list}
@@ -24,11 +24,11 @@ use Rattle.algebra.proofs.ShapeLemmas.{both}
 use Rattle.placement.proofs.ScriptLemmas.{first-of-shape}
 use Rattle.placement.proofs.WidthLemmas.{pointwise-length}
 use Rattle.rel_base.specs.Limits.{most_variables}
-use Rattle.share_chooser.specs.Load.{IsShareVector, product}
+use Rattle.share_chooser.proofs.VectorLemmas.{vector-passes}
 use Rattle.placement.specs.Layouts.{PlacedRelation, Placing, Shuffle, ByCells, ByKeys, Broadcast, joined_items, placed_source, placed_steps, rows_of}
 use Rattle.placement.specs.Laws.{IsPlacing, IsSharing}
 use Rattle.placement.specs.Plans.{group_note, item_notes, join_notes, places_of, plan_of, pushed_of, reduce_notes, share_of, shuffle_note, step_notes, term_notes, variable_notes}
-use Rattle.fragmenter.specs.Plans.{are_shares, first_misfit, joins_of, variables_met, variables_of}
+use Rattle.fragmenter.specs.Plans.{first_misfit, joins_of, variables_met, variables_of}
 use Rattle.fragmenter.specs.declared.plans.Misfit.TheVariants as unfit
 use Rattle.fragmenter.specs.Laws.{NotedPlanFits}
 use Rattle.fragmenter.specs.NotedPlans.{choices_behind, choices_in}
@@ -86,15 +86,6 @@ shares_told shape all (v ∷ vs) i n sh (s ∷ left) more parts at as_many few =
 
 -- ---- a join's choice is for it
 
-each_positive : (shares : List ℕ) → All (λ share. 1 ≤ share) shares → list_all (nat_le 1) shares ≡ true
-each_positive [] h = refl
-each_positive (share ∷ shares) h =
-    rw (le-leb 1 share (h 0 share (omega arith))) (each_positive shares (λ k d low. h (suc k) d (omega (arith, low))))
-
-vector_passes : (variables workers : ℕ) (shares : List ℕ) → IsShareVector variables workers shares → are_shares variables workers shares ≡ true
-vector_passes variables workers shares h =
-    rw (eq-eqb (length shares) variables h.one_each, each_positive shares h.positive, le-leb (product shares) workers h.cells) refl
-
 module _ (p : Placing) (local : JoinKind) (h : IsPlacing p) where
   -- what is left of joins and notes behind a join fits
   abbrev Fits : List (ℕ × ℕ) → List PlanNote → Type 0
@@ -106,7 +97,7 @@ module _ (p : Placing) (local : JoinKind) (h : IsPlacing p) where
   choice_fits k shape (ByCells shares) items joins more sharing few rest =
       let told = shares_told shape shares shape.variables 0 k [] shares (shuffle_note (ByCells shares) local shape items ∷ more) refl refl sharing.one_each (omega (arith, sharing.one_each, few)) in
       ap (first_misfit p.workers ((k, length shape.variables) ∷ joins)) told
-      ∙ rw (eq-eqb k k refl, vector_passes (length shape.variables) p.workers shares sharing) (rest k shares)
+      ∙ rw (eq-eqb k k refl, vector-passes (length shape.variables) p.workers shares sharing) (rest k shares)
   choice_fits k shape ByKeys items joins more sharing few rest =
       ap (first_misfit p.workers ((k, length shape.variables) ∷ joins)) (keys_pass shape shape.variables 0 k [] (shuffle_note ByKeys local shape items ∷ more))
       ∙ rw (eq-eqb k k refl) (rest k [])
@@ -139,17 +130,17 @@ module _ (p : Placing) (local : JoinKind) (h : IsPlacing p) where
 -- ---- the choices of steps
 
 -- a join has a source for each atom, an atom at least, and no more variables than it may have
-record IsSizedJoin (shape : Shape) (sources : List Source) : Type 0 where
+pub record IsSizedJoin (shape : Shape) (sources : List Source) : Type 0 where
   pub one_each : length sources ≡ length shape.atoms
   pub some : 1 ≤ length shape.atoms
   pub few : length shape.variables ≤ most_variables
 
-abbrev IsSized : TermTree → Type 0
+abbrev pub IsSized : TermTree → Type 0
 IsSized (Join shape sources) = IsSizedJoin shape sources
 IsSized (Group shape sources kinds) = IsSizedJoin shape sources
 IsSized _ = ⊤
 
-abbrev AreSized : List StepTree → Type 0
+abbrev pub AreSized : List StepTree → Type 0
 AreSized [] = ⊤
 AreSized (s ∷ steps) = IsSized s.term × AreSized steps
 
@@ -210,7 +201,7 @@ sized_term known (Group shape sources kinds) columns ok =
     let parts = both (is_shape shape) (pointwise test sources shape.atoms) first.0 in
     sized_join shape sources test parts.0 parts.1
 
-sized_steps : (files : List File) (last : ℕ) (earlier steps : List StepTree) → are_steps files last earlier steps ≡ true → AreSized steps
+pub sized_steps : (files : List File) (last : ℕ) (earlier steps : List StepTree) → are_steps files last earlier steps ≡ true → AreSized steps
 sized_steps files last earlier [] ok = tt
 sized_steps files last earlier (s ∷ rest) ok =
     let term = is_term (source_kinds files earlier) s.term (kinds_of_columns s.schema) in
@@ -222,14 +213,14 @@ needed_or : (b : Bool) (s : StepTree) (later : List StepTree) → IsSized s.term
 needed_or true s later own more = (own, more)
 needed_or false s later own more = more
 
-needed_sized : (stores : List StoreStep) (steps : List StepTree) → AreSized steps → AreSized (needed_steps stores steps)
+pub needed_sized : (stores : List StoreStep) (steps : List StepTree) → AreSized steps → AreSized (needed_steps stores steps)
 needed_sized stores [] sized = tt
 needed_sized stores (s ∷ rest) sized =
     needed_or (is_used s.statement stores (needed_steps stores rest)) s (needed_steps stores rest) sized.0 (needed_sized stores rest sized.1)
 
 -- ---- rewritten steps
 
-same_met : (s t : Shape) → IsPushed s t → variables_met s ≡ variables_met t
+pub same_met : (s t : Shape) → IsPushed s t → variables_met s ≡ variables_met t
 same_met s t pushed =
     let atoms : length s.atoms ≡ length t.atoms =
     sym (length-map s.atoms (λ (a : AtomTree). a.kinds)) ∙ ap length pushed.same.kinds ∙ length-map t.atoms (λ (a : AtomTree). a.kinds) in
@@ -240,7 +231,7 @@ same_variables (Join s sources) (Join t others) same = same_met s t same.0
 same_variables (Group s sources kinds) (Group t others own) same = same_met s t same.0
 same_variables s t same = ap variables_of same
 
-same_joins : (steps others : List StepTree) → AreSameSteps steps others → joins_of steps ≡ joins_of others
+pub same_joins : (steps others : List StepTree) → AreSameSteps steps others → joins_of steps ≡ joins_of others
 same_joins _ _ no_step = refl
 same_joins _ _ (a_step s t steps others same more) =
     ap₂ (λ (own rest : List (ℕ × ℕ)). own ++ rest)

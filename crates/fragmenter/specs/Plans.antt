@@ -4,17 +4,19 @@
 --   shuffle_of how                          how rows meet by this choice
 --   choice_tree_of choice, plan_tree_of plan    their trees
 --   joins_of steps                          the joins of some steps: statements, and how many variables
---   are_shares variables workers shares     whether these are shares for so many variables and workers
 --   is_choice_for workers join choice       whether a choice is for this join
 --   first_misfit workers joins choices      the first statement at which joins and choices don't match
 --   misfit plan joins workers               why a plan doesn't fit
-use Rattle.std.specs.Prelude.{ℕ, ◌==◌, ◌&&◌, nat_le, if◌then◌else◌, Bool, true, List, [], ◌∷◌, map, length, Option, Some, None, option_map}
-use Rattle.std.specs.List.{flat_map, list_all}
-use Rattle.std.specs.Option.{option_to_list}
+--   planned_shuffle plan number                  how the rows of a statement's join meet by a plan
+--   planned_rules plan                      the rule of each statement
+use Rattle.std.specs.Prelude.{ℕ, ◌==◌, ◌&&◌, nat_le, if◌then◌else◌, Bool, true, List, [], ◌∷◌, map, length, find, Option, Some, None, option_map}
+use Rattle.std.specs.List.{flat_map}
+use Rattle.std.specs.Option.{option_map_or, option_to_list}
 use Rattle.algebra.specs.Trees.{Shape, TermTree, Join, Group, StepTree}
-use Rattle.share_chooser.specs.Load.{product}
+use Rattle.share_chooser.specs.Load.{are_shares}
 use Rattle.share_chooser.specs.Shares.{shares_of}
 use Rattle.placement.specs.Layouts.{Shuffle, ByCells, ByKeys, Broadcast}
+use Rattle.placement.specs.Plans.{ShuffleRule, Fixed}
 use Rattle.fragmenter.specs.declared.plans.How.{How}
 use Rattle.fragmenter.specs.declared.plans.How.TheVariants as how
 use Rattle.fragmenter.specs.declared.plans.Choice.{Choice}
@@ -69,11 +71,6 @@ joins_of steps = flat_map join_of steps
 
 -- ---- fit
 
--- one share for each variable, each at least 1, and no more cells than workers
-abbrev pub are_shares : ℕ → ℕ → List ℕ → Bool
-are_shares variables workers shares =
-    (length shares == variables) && list_all (nat_le 1) shares && nat_le (product shares) workers
-
 -- only a join by cells has shares
 abbrev pub is_shuffle_for : ℕ → ℕ → Shuffle → Bool
 is_shuffle_for variables workers (ByCells shares) = are_shares variables workers shares
@@ -99,3 +96,15 @@ misfit plan joins workers =
     if plan.workers == workers
     then option_map unfit.Statement (first_misfit workers joins plan.choices)
     else Some unfit.Workers
+
+-- ---- a run by a plan
+
+-- how the rows of a statement's join meet: by the first choice for it, and else one item stays where it is
+abbrev pub planned_shuffle : PlanTree → ℕ → Shuffle
+planned_shuffle plan number =
+    option_map_or (λ c. c.shuffle) (find (λ (c : ChoiceTree). c.statement == number) plan.choices)
+    Broadcast
+
+-- the rule of each statement
+abbrev pub planned_rules : PlanTree → ℕ → ShuffleRule
+planned_rules plan number = Fixed (planned_shuffle plan number)

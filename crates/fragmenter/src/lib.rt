@@ -5,9 +5,11 @@
 //! `algebra` for their steps, on `share_chooser` for shares, on `placement` for shuffles and notes,
 //! and on `rel_base` and `myrial_ast` for lists and rows.
 //!
-//! Promises: `fragment` gives the stages of the definitions, for every rewritten script, and
+//! Promises: `fragment` gives the stages of the definitions, for every rewritten script, which end
+//! with the exchanges of its run, one after another, and
 //! `fits` tells the misfit of the definitions, for every plan. `plan_of` gives the choices that
-//! notes print; the plan of a run's notes fits the steps that the run was done by. Not promised:
+//! notes print; the plan of a run's notes fits the steps that the run was done by. `Plan::how` tells
+//! how the rows of a statement's join meet. Not promised:
 //! that memory is there.
 //!
 //! Read `specs/Stages.antt`, `specs/Plans.antt`, `specs/NotedPlans.antt` and `specs/Laws.antt`, then
@@ -18,12 +20,10 @@ mod fitting;
 mod laws;
 mod noting;
 mod plans;
-mod sharing;
 mod stages;
 
 pub use fitting::fits;
-pub use laws::noted_plan_fits;
+pub use laws::{noted_plan_fits, stages_are_exchanges};
 pub use noting::plan_of;
 pub use plans::{Choice, Choices, How, Misfit, Plan};
-pub use sharing::{listed, no_shares, with_share};
 pub use stages::{Stage, Stages, fragment};

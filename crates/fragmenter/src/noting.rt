@@ -6,7 +6,6 @@ ghost use Rattle.fragmenter.specs.Plans.{choice_tree_of, plan_tree_of, shuffle_o
 ghost use Rattle.fragmenter.specs.NotedPlans.{choice_noted, choices_in, noted_plan};
 ghost use Rattle.fragmenter.specs.NotedPlans.{shares_behind, shuffle_noted, statement_behind};
 
-use crate::sharing::{no_shares, with_share};
 use crate::{Choice, Choices, How, Plan};
 use algebra::{PlanNote, PlanNotes};
 use rel_base::{MOST_VARIABLES, Memory};
@@ -27,7 +26,7 @@ fn choices_in(alloc: Global, notes: &PlanNotes) -> Result<Choices, Memory>
 {
     let mut choices = Choices::new(alloc);
     let mut statement = 0;
-    let mut shares = no_shares();
+    let mut shares = Shares::empty();
     for note in notes.as_slice() {
         push_choice(statement, how_noted(shares, note), &mut choices)?;
         statement = statement_behind(statement, note);
@@ -81,7 +80,7 @@ fn shares_behind(shares: Shares, note: &PlanNote) -> Shares
     ensures { shares_of result ≡ shares_behind (shares_of shares) note.now }
 {
     match note {
-        PlanNote::Statement { .. } => no_shares(),
+        PlanNote::Statement { .. } => Shares::empty(),
         PlanNote::Variable {
             share: Some(share),
             ..
@@ -97,5 +96,5 @@ fn one_more(shares: Shares, share: u32) -> Shares
     if shares.count == MOST_VARIABLES {
         return shares;
     }
-    with_share(shares, share)
+    shares.with(share)
 }

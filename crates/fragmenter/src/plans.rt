@@ -1,4 +1,8 @@
 //! Plans: for each join of a script how its rows meet.
+ghost use Rattle.std.specs.Prelude.{◌≡◌, ◌==◌, find};
+ghost use Rattle.std.specs.Option.{option_copied};
+ghost use Rattle.fragmenter.specs.Plans.{plan_tree_of, planned_shuffle, shuffle_of};
+
 use rel_base::Items;
 use share_chooser::Shares;
 
@@ -41,6 +45,28 @@ impl Drop for Plan {
             workers: _,
             choices: _,
         } = self;
+    }
+}
+
+impl Plan {
+    /// How the rows of the join of a statement meet: as the first choice for it says, and where
+    /// there is none, one item stays where it is. It takes time by the number of choices.
+    pub fn how(&self, statement: u32) -> How
+        ensures { shuffle_of result ≡ planned_shuffle (plan_tree_of self.now) statement }
+    {
+        match self.first_choice(statement) {
+            Some(choice) => choice.how,
+            None => How::Br,
+        }
+    }
+
+    /// The first choice for a statement.
+    fn first_choice(&self, statement: u32) -> Option<&Choice>
+        ensures { option_copied result
+            ≡ find (λ (c : Choice). c.statement == statement) self.now.choices }
+    {
+        let choices = self.choices.as_slice();
+        choices.iter().find(|choice| choice.statement == statement)
     }
 }
 
