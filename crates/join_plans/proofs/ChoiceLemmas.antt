@@ -12,19 +12,17 @@ use Rattle.share_chooser.specs.Best.{best_shares}
 use Rattle.share_chooser.proofs.BestLemmas.{best_is_least}
 use Rattle.rel_base.specs.Limits.{most_workers}
 use Rattle.myrial_ast.specs.Combinations.{Rows}
-use Rattle.algebra.specs.declared.settings.Settings.{Settings}
-use Rattle.algebra.specs.declared.settings.ShuffleKind.{ShuffleKind}
-use Rattle.algebra.specs.declared.settings.ShuffleKind.TheVariants as shuffle_kind
 use Rattle.algebra.specs.Trees.{Shape}
 use Rattle.algebra.specs.Shapes.{kept_of, is_acyclic_shape}
 use Rattle.placement.specs.Laws.{IsSharing}
 use Rattle.placement.specs.Layouts.{PlacedRelation, rows_of, reduced_item, reduced_items, joined_items, is_most, staying_atom}
-use Rattle.placement.specs.Plans.{uses_of, kept_sizes, usual_shuffle}
+use Rattle.placement.specs.Plans.{ShuffleRule, LeastLoad, Fixed, uses_of, kept_sizes, ruled_shuffle}
+use Rattle.placement.proofs.RuleLemmas.{fitting-sharing}
 use Rattle.placement.proofs.JoinedLemmas.{reduced_are_kept}
 use Rattle.join_plans.specs.declared.choices.ShuffleChoice.{ShuffleChoice}
 use Rattle.join_plans.specs.declared.choices.ShuffleChoice.TheVariants as choice
 use Rattle.join_plans.specs.declared.sizes.Reduction.TheVariants as reduction
-use Rattle.join_plans.specs.JoinPlans.{shuffle_of, sizes_of, reduction_of, joined_sizes, chosen, staying_of, IsChosenFor, ChosenAreUsual}
+use Rattle.join_plans.specs.JoinPlans.{shuffle_of, sizes_of, reduction_of, joined_sizes, chosen, staying_of, IsChosenFor, ChosenAreRuled}
 use Rattle.join_plans.specs.inner.Lines.{IsFitting}
 
 -- what stands behind the sizes of all atoms is not read
@@ -68,13 +66,12 @@ load-front uses own sizes joined shares same long front =
     ap (λ us. load_of us sizes shares) same ∙ load-taken own sizes shares
     ∙ ap (λ s. load_of own s shares) (ap (λ n. take n sizes) long ∙ front)
 
--- ---- the shuffle of the settings
+-- ---- the shuffle of a rule
 
-pub chosen-usual : (kind : ShuffleKind) (workers : ℕ) (shape : Shape) (given : List Rows)
-    → chosen kind workers shape (kept_sizes shape given) ≡ usual_shuffle kind workers shape given
-chosen-usual shuffle_kind.Hc workers shape given = refl
-chosen-usual shuffle_kind.Rs workers shape given = refl
-chosen-usual shuffle_kind.Br workers shape given = refl
+pub chosen-ruled : (rule : ShuffleRule) (workers : ℕ) (shape : Shape) (given : List Rows)
+    → chosen rule workers shape (kept_sizes shape given) ≡ ruled_shuffle rule workers shape given
+chosen-ruled LeastLoad workers shape given = refl
+chosen-ruled (Fixed shuffle) workers shape given = refl
 
 sizes-long : (shape : Shape) (given : List Rows) → length (kept_sizes shape given) ≡ length given
 sizes-long shape given =
@@ -104,19 +101,17 @@ joined-kept true shape given = by (is_acyclic_shape shape)
     by true = reduced-sizes shape (rows_of given) 0 given
     by false = refl
 
-pub chosen_are_usual : ChosenAreUsual
-chosen_are_usual = record { shuffle = chosen-usual; stays = staying-same; sizes = joined-kept }
+pub chosen_are_ruled : ChosenAreRuled
+chosen_are_ruled = record { shuffle = chosen-ruled; stays = staying-same; sizes = joined-kept }
 
 -- what is chosen has shares that so many workers may have
-pub chosen-shares : (settings : Settings) (shape : Shape) (joined : List ℕ) (made : ShuffleChoice) → 1 ≤ settings.workers
-    → IsChosenFor settings shape joined made → IsSharing settings.workers shape (shuffle_of made)
-chosen-shares settings shape joined made some is =
-    subst (IsSharing settings.workers shape) (sym is.shuffle) (shares settings.shuffle)
+pub chosen-shares : (rule : ShuffleRule) (workers : ℕ) (shape : Shape) (joined : List ℕ) (made : ShuffleChoice) → 1 ≤ workers
+    → IsChosenFor rule workers shape joined made → IsSharing workers shape (shuffle_of made)
+chosen-shares rule workers shape joined made some is = subst (IsSharing workers shape) (sym is.shuffle) (shares rule)
   where
-    shares : (kind : ShuffleKind) → IsSharing settings.workers shape (chosen kind settings.workers shape joined)
-    shares shuffle_kind.Hc = (best_is_least (uses_of shape) joined (length shape.variables) settings.workers some).0.vector
-    shares shuffle_kind.Rs = tt
-    shares shuffle_kind.Br = tt
+    shares : (rule : ShuffleRule) → IsSharing workers shape (chosen rule workers shape joined)
+    shares LeastLoad = (best_is_least (uses_of shape) joined (length shape.variables) workers some).0.vector
+    shares (Fixed shuffle) = fitting-sharing workers shape shuffle
 
 found-below : (p : ℕ → Bool) (d m a n : ℕ) → d < m → a + n ≤ m → unwrap_or (find p (range_with_len a n)) d < m
 found-below p d m a zero low room = low
@@ -131,18 +126,18 @@ staying-inside : (joined : List ℕ) → 0 < length joined → staying_of joined
 staying-inside joined some = found-below (is_most joined) 0 (length joined) 0 (length joined) some (omega arith)
 
 -- what is chosen fits
-pub chosen-fits : (settings : Settings) (shape : Shape) (joined : List ℕ) (made : ShuffleChoice) → 1 ≤ settings.workers
-    → settings.workers ≤ most_workers → length joined ≡ length shape.atoms → 0 < length shape.atoms
-    → IsChosenFor settings shape joined made → IsFitting shape made
-chosen-fits settings shape joined (choice.Cells shares) some few long here is =
-    let vector = chosen-shares settings shape joined (choice.Cells shares) some is in
+pub chosen-fits : (rule : ShuffleRule) (workers : ℕ) (shape : Shape) (joined : List ℕ) (made : ShuffleChoice) → 1 ≤ workers
+    → workers ≤ most_workers → length joined ≡ length shape.atoms → 0 < length shape.atoms
+    → IsChosenFor rule workers shape joined made → IsFitting shape made
+chosen-fits rule workers shape joined (choice.Cells shares) some few long here is =
+    let vector = chosen-shares rule workers shape joined (choice.Cells shares) some is in
     record {
       one_each = vector.one_each;
       positive = vector.positive;
       cells = omega (arith, vector.cells, few);
     }
-chosen-fits settings shape joined choice.Keys some few long here is = tt
-chosen-fits settings shape joined (choice.Broadcast stays) some few long here is =
+chosen-fits rule workers shape joined choice.Keys some few long here is = tt
+chosen-fits rule workers shape joined (choice.Broadcast stays) some few long here is =
     omega (arith, is.stays, staying-inside joined (omega (arith, long, here)), long)
 
 -- ---- the atom that stays

@@ -9,14 +9,14 @@ use Rattle.algebra.specs.declared.settings.Settings.{Settings}
 use Rattle.algebra.specs.Trees.{Shape}
 use Rattle.algebra.specs.Shapes.{kept_of, is_acyclic_shape}
 use Rattle.placement.specs.Layouts.{PlacedRelation, rows_of, reduced_items, joined_items}
-use Rattle.placement.specs.Plans.{pushed_of, kept_sizes, item_notes, reduce_notes, variable_notes, shuffle_note, join_notes, usual_shuffle, usual_placing}
+use Rattle.placement.specs.Plans.{pushed_of, kept_sizes, item_notes, reduce_notes, variable_notes, shuffle_note, join_notes, ShuffleRule, ruled_shuffle, ruled_placing}
 use Rattle.join_plans.specs.declared.choices.ShuffleChoice.{ShuffleChoice}
 use Rattle.join_plans.specs.declared.choices.ShuffleChoice.TheVariants as choice
 use Rattle.join_plans.specs.declared.sizes.JoinSizes.{JoinSizes}
 use Rattle.join_plans.specs.declared.sizes.Reduction.{Reduction}
 use Rattle.join_plans.specs.declared.sizes.Reduction.TheVariants as reduction
 use Rattle.join_plans.specs.JoinPlans.{shuffle_of, sizes_of, reduction_of, joined_sizes, AreSizes, chosen, IsStaying, IsChosenFor}
-use Rattle.join_plans.proofs.ChoiceLemmas.{chosen-usual, staying-same, joined-kept}
+use Rattle.join_plans.proofs.ChoiceLemmas.{chosen-ruled, staying-same, joined-kept}
 use Rattle.join_plans.specs.inner.Lines.{item_line, item_lines, reduce_lines, choice_line, join_lines}
 
 lines-from : (shape : Shape) (n : ℕ) (given : List Rows)
@@ -49,22 +49,22 @@ reduce-same true shape given joined is = by (is_acyclic_shape shape) is
     by false are = refl
 
 -- the lines of several items
-lines-of : (settings : Settings) (local : JoinKind) (shape : Shape) (given : List PlacedRelation) (joined : List ℕ)
+lines-of : (settings : Settings) (rule : ShuffleRule) (local : JoinKind) (shape : Shape) (given : List PlacedRelation) (joined : List ℕ)
     (choice : ShuffleChoice)
-    → joined_sizes (reduction_of settings.reduce shape) shape given ≡ joined → IsChosenFor settings shape joined choice
+    → joined_sizes (reduction_of settings.reduce shape) shape given ≡ joined → IsChosenFor rule settings.workers shape joined choice
     → item_lines shape (sizes_of (rows_of given)) (kept_sizes shape (rows_of given))
     ++ reduce_lines (reduction_of settings.reduce shape) joined ++ variable_notes (shuffle_of choice) shape
     ++ choice_line choice local shape joined ∷ []
     ≡ (let items = rows_of (joined_items settings.reduce shape given) in
-    let shuffle = usual_shuffle settings.shuffle settings.workers shape items in
+    let shuffle = ruled_shuffle rule settings.workers shape items in
     item_notes shape (rows_of given) ++ reduce_notes settings.reduce shape items ++ variable_notes shuffle shape
     ++ shuffle_note shuffle local shape items ∷ [])
-lines-of settings local shape given joined choice are is =
+lines-of settings rule local shape given joined choice are is =
     let items = rows_of (joined_items settings.reduce shape given) in
     let same : joined ≡ kept_sizes shape (rows_of (joined_items settings.reduce shape given)) =
     sym are ∙ joined-kept settings.reduce shape given in
-    let shuffle = is.shuffle ∙ ap (chosen settings.shuffle settings.workers shape) same
-    ∙ chosen-usual settings.shuffle settings.workers shape items in
+    let shuffle = is.shuffle ∙ ap (chosen rule settings.workers shape) same
+    ∙ chosen-ruled rule settings.workers shape items in
     let last = ap (choice_line choice local shape) same
     ∙ sym (choice-same choice local shape items (subst (λ sizes. IsStaying sizes choice) same is.stays))
     ∙ ap (λ s. shuffle_note s local shape items) shuffle in
@@ -80,15 +80,15 @@ lines-by choice local shape reduction given sizes are =
     (λ i. join_lines choice local shape reduction (sym are.rows i) (sym are.kept i) sizes.joined.now)
 
 -- the lines of a join are those that its plan has, whatever the number of its statement
-pub lines-are-notes : (settings : Settings) (local : JoinKind) (number : ℕ) (shape : Shape) (given : List PlacedRelation)
+pub lines-are-notes : (settings : Settings) (rule : ShuffleRule) (local : JoinKind) (number : ℕ) (shape : Shape) (given : List PlacedRelation)
     (sizes : JoinSizes) (choice : ShuffleChoice)
     → 0 < length sizes.rows.now → AreSizes (reduction_of settings.reduce shape) shape given sizes
-    → IsChosenFor settings shape sizes.joined.now choice
+    → IsChosenFor rule settings.workers shape sizes.joined.now choice
     → join_lines choice local shape (reduction_of settings.reduce shape) sizes.rows.now sizes.kept.now sizes.joined.now
-    ≡ join_notes (usual_placing settings) local number shape given
-lines-are-notes settings local number shape [] sizes choice some are is = absurd (omega (arith, some, ap length are.rows))
-lines-are-notes settings local number shape (one ∷ []) sizes choice some are is =
+    ≡ join_notes (ruled_placing settings rule) local number shape given
+lines-are-notes settings rule local number shape [] sizes choice some are is = absurd (omega (arith, some, ap length are.rows))
+lines-are-notes settings rule local number shape (one ∷ []) sizes choice some are is =
     lines-by choice local shape (reduction_of settings.reduce shape) (one ∷ []) sizes are
-lines-are-notes settings local number shape (one ∷ two ∷ given) sizes choice some are is =
+lines-are-notes settings rule local number shape (one ∷ two ∷ given) sizes choice some are is =
     lines-by choice local shape (reduction_of settings.reduce shape) (one ∷ two ∷ given) sizes are
-    ∙ lines-of settings local shape (one ∷ two ∷ given) sizes.joined.now choice (are.joined (omega arith)) is
+    ∙ lines-of settings rule local shape (one ∷ two ∷ given) sizes.joined.now choice (are.joined (omega arith)) is

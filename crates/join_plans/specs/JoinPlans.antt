@@ -1,32 +1,38 @@
 -- The shuffle that is chosen for a join, and the lines of its plan.
 --
+--   ruled_by by                           the rule that a value in the code says
 --   shuffle_of choice                    how rows come together by this choice
 --   sizes_of given                       the numbers of rows
 --   reduction_of reduce shape            what a reduction comes to, if it is asked for
 --   joined_sizes reduction shape given   the numbers of joined rows
 --   AreSizes reduction shape given sizes the numbers are those of these items
---   chosen kind workers shape joined     what settings ask for with so many joined rows of each atom
+--   chosen rule workers shape joined     what a rule asks for with so many joined rows of each atom
 --   staying_of joined                    the atom with the most joined rows
 --   IsStaying joined choice              the atom whose rows stay is this one
---   IsChosenFor settings shape joined choice   the choice is what settings ask for
---   ChosenAreUsual                       that is the shuffle of the settings
+--   IsChosenFor rule workers shape joined choice   the choice is what the rule asks for
+--   ChosenAreRuled                       that is the shuffle of the rule
 use Rattle.std.specs.Prelude.{◌≡◌, ◌<◌, ⊤, ℕ, Bool, true, false, if◌then◌else◌, List, map, length, find, unwrap_or}
 use Rattle.std.specs.List.{range_with_len}
 use Rattle.myrial_ast.specs.Combinations.{Rows}
-use Rattle.algebra.specs.declared.settings.Settings.{Settings}
-use Rattle.algebra.specs.declared.settings.ShuffleKind.{ShuffleKind}
-use Rattle.algebra.specs.declared.settings.ShuffleKind.TheVariants as shuffle_kind
 use Rattle.algebra.specs.Trees.{Shape}
 use Rattle.algebra.specs.Shapes.{is_acyclic_shape}
 use Rattle.share_chooser.specs.Best.{best_shares}
 use Rattle.share_chooser.specs.Shares.{shares_of}
 use Rattle.placement.specs.Layouts.{PlacedRelation, Shuffle, ByCells, ByKeys, Broadcast, is_most, staying_atom, rows_of, reduced_items, joined_items}
-use Rattle.placement.specs.Plans.{uses_of, kept_sizes, usual_shuffle}
+use Rattle.placement.specs.Plans.{ShuffleRule, LeastLoad, Fixed, fitting_shuffle, uses_of, kept_sizes, ruled_shuffle}
+use Rattle.fragmenter.specs.Plans as plans
 use Rattle.join_plans.specs.declared.choices.ShuffleChoice.{ShuffleChoice}
 use Rattle.join_plans.specs.declared.choices.ShuffleChoice.TheVariants as choice
+use Rattle.join_plans.specs.declared.rules.ShuffleBy.{ShuffleBy}
+use Rattle.join_plans.specs.declared.rules.ShuffleBy.TheVariants as by
 use Rattle.join_plans.specs.declared.sizes.JoinSizes.{JoinSizes}
 use Rattle.join_plans.specs.declared.sizes.Reduction.{Reduction}
 use Rattle.join_plans.specs.declared.sizes.Reduction.TheVariants as reduction
+
+-- the rule that a value in the code says
+abbrev pub ruled_by : ShuffleBy → ShuffleRule
+ruled_by by.LeastLoad = LeastLoad
+ruled_by (by.Fixed how) = Fixed (plans.shuffle_of how)
 
 -- how rows come together by this choice
 abbrev pub shuffle_of : ShuffleChoice → Shuffle
@@ -60,13 +66,12 @@ pub record AreSizes (reduction : Reduction) (shape : Shape) (given : List Placed
 
 -- ---- choices
 
--- what settings ask for with so many joined rows of each atom: cells with the shares of least load, two atoms at a time, or
--- broadcast
-abbrev pub chosen : ShuffleKind → ℕ → Shape → List ℕ → Shuffle
-chosen shuffle_kind.Hc workers shape joined =
+-- what a rule asks for with so many joined rows of each atom: cells with the shares of least load, or so
+abbrev pub chosen : ShuffleRule → ℕ → Shape → List ℕ → Shuffle
+chosen LeastLoad workers shape joined =
     ByCells (best_shares (uses_of shape) joined (length shape.variables) workers)
-chosen shuffle_kind.Rs workers shape joined = ByKeys
-chosen shuffle_kind.Br workers shape joined = Broadcast
+chosen (Fixed shuffle) workers shape joined =
+    fitting_shuffle (length shape.variables) workers shuffle
 
 -- the place of the greatest number, the first of them at a tie
 abbrev pub staying_of : List ℕ → ℕ
@@ -78,17 +83,17 @@ IsStaying joined (choice.Cells shares) = ⊤
 IsStaying joined choice.Keys = ⊤
 IsStaying joined (choice.Broadcast stays) = stays ≡ staying_of joined
 
--- the choice is what settings ask for with so many joined rows of each atom
-pub record IsChosenFor (settings : Settings) (shape : Shape) (joined : List ℕ)
+-- the choice is what a rule asks for with so many joined rows of each atom
+pub record IsChosenFor (rule : ShuffleRule) (workers : ℕ) (shape : Shape) (joined : List ℕ)
     (choice : ShuffleChoice) : Type 0 where
-  pub shuffle : shuffle_of choice ≡ chosen settings.shuffle settings.workers shape joined
+  pub shuffle : shuffle_of choice ≡ chosen rule workers shape joined
   pub stays : IsStaying joined choice
 
--- by the numbers of kept rows of what is joined, it is the shuffle of the settings, and the atom that stays is that of the
+-- by the numbers of kept rows of what is joined, it is the shuffle of the rule, and the atom that stays is that of the
 -- definitions; and these are the numbers of joined rows
-pub record ChosenAreUsual : Type 0 where
-  pub shuffle : (kind : ShuffleKind) (workers : ℕ) (shape : Shape) (items : List Rows)
-      → chosen kind workers shape (kept_sizes shape items) ≡ usual_shuffle kind workers shape items
+pub record ChosenAreRuled : Type 0 where
+  pub shuffle : (rule : ShuffleRule) (workers : ℕ) (shape : Shape) (items : List Rows)
+      → chosen rule workers shape (kept_sizes shape items) ≡ ruled_shuffle rule workers shape items
   pub stays : (shape : Shape) (items : List Rows)
       → staying_of (kept_sizes shape items) ≡ staying_atom shape items
   pub sizes : (reduce : Bool) (shape : Shape) (given : List PlacedRelation)

@@ -1,7 +1,7 @@
 //! The law of plans.
-ghost use Rattle.join_plans.specs.JoinPlans.{ChosenAreUsual};
+ghost use Rattle.join_plans.specs.JoinPlans.{ChosenAreRuled};
 
-/// What is chosen by the numbers of joined rows is the shuffle of the settings.
-pub fn chosen_are_usual()
-    ensures { ChosenAreUsual }
+/// What is chosen by the numbers of joined rows is the shuffle of the rule.
+pub fn chosen_are_ruled()
+    ensures { ChosenAreRuled }
 {}

@@ -9,17 +9,17 @@ use Rattle.algebra.specs.declared.settings.Settings.{Settings}
 use Rattle.hash_partition.specs.Hashing.{home_of}
 use Rattle.placement.specs.Exchanges.{PlacedExchange, row_exchange}
 use Rattle.placement.specs.Layouts.{together}
-use Rattle.placement.specs.Plans.{usual_placing}
 use Rattle.placement.specs.Runs.{size_of}
 use Rattle.routed_joins.specs.PlacedJoins.{placed_rows}
 use Rattle.routed_joins.specs.Listings.{IsLow}
 use Rattle.term_runs.specs.TermRuns.{shown_moves, AreShown, AreMoved, AreFair}
+use Rattle.keyed_terms.specs.KeyedTerms.{keyed_placing}
 use Rattle.keyed_terms.specs.inner.Making.{AreMadeBy}
 
 -- the exchange of both, after which no rows are listed yet
 abbrev pub unlisted_exchange : Settings → List Rows → List Rows → PlacedExchange
 unlisted_exchange s left right =
-    row_exchange (usual_placing s) exchange.Diff (placed_rows left ∷ placed_rows right ∷ []) []
+    row_exchange (keyed_placing s) exchange.Diff (placed_rows left ∷ placed_rows right ∷ []) []
 
 -- the rows that have their home at a worker
 abbrev pub at_home : Settings → List Rows → ℕ → Rows

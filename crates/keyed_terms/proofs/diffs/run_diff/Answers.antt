@@ -7,10 +7,9 @@ use Rattle.hash_partition.specs.Hashing.{home_of}
 use Rattle.placement.specs.Exchanges.{PlacedExchange, row_exchange}
 use Rattle.placement.specs.Layouts.{together}
 use Rattle.row_exchange.specs.Moves.{sent, received}
-use Rattle.placement.specs.Plans.{usual_placing}
 use Rattle.routed_joins.specs.PlacedJoins.{placed_rows}
 use Rattle.term_runs.specs.Notes.{AreSeconds}
-use Rattle.keyed_terms.specs.KeyedTerms.{diff_parts}
+use Rattle.keyed_terms.specs.KeyedTerms.{keyed_placing, diff_parts}
 use Rattle.keyed_terms.proofs.BagLemmas.{difference-made}
 use Rattle.keyed_terms.proofs.ConcludeLemmas.{tables-made, concluded}
 use Rattle.keyed_terms.proofs.MeetLemmas.{met-added}
@@ -37,7 +36,7 @@ returns g c =
     subst (λ (since : List _). AreSeconds totals s.workers before since) (sym c.deref.ensures.value)
     (subst (λ (taps : List _). AreSeconds totals s.workers taps c.in_ok-since.since.items) c.as_slice-2.ensures.value c.in_ok-since.ensures) in
     let rows = difference-made s.workers (λ w row. home row == w) (together left) (together right) met others made x.ok.met_are x.ok.others_are c.in_ok-made.ensures in
-    let e : PlacedExchange = row_exchange (usual_placing s) exchange.Diff (placed_rows left ∷ placed_rows right ∷ []) (diff_parts s left right) in
+    let e : PlacedExchange = row_exchange (keyed_placing s) exchange.Diff (placed_rows left ∷ placed_rows right ∷ []) (diff_parts s left right) in
     concluded s a.statement (diff_parts s left right) e totals tag before middle c.conclude.new.taps.items (sent e.moves) (received e.moves)
     since made c.in_ok-met.receipts room read (met-added s left right totals tag before middle x.ok.moved) (λ u below. refl) (λ w below. refl)
     refl rows.count (tables-made s.workers (λ w. filter (λ row. home row == w) (difference (together left) (together right))) made rows)

@@ -6,7 +6,6 @@ use Rattle.hash_partition.specs.Hashing.{home_of}
 use Rattle.myrial_ast.specs.Bags.{distinct}
 use Rattle.algebra.specs.declared.notes.Exchange.TheVariants as exchange
 use Rattle.placement.specs.Exchanges.{PlacedExchange, row_exchange}
-use Rattle.placement.specs.Plans.{usual_placing}
 use Rattle.placement.specs.Layouts.{together}
 use Rattle.placement.specs.Runs.{size_of}
 use Rattle.routed_joins.specs.PlacedJoins.{placed_rows}
@@ -18,7 +17,7 @@ use Rattle.term_runs.specs.Notes.{AreSeconds, HaveRisen}
 use Rattle.term_runs.specs.TermRuns.{AreShown, no_receipt, a_receipt}
 use Rattle.term_runs.proofs.TapLemmas.{told-fair}
 use Rattle.term_runs.proofs.NoteLemmas.{risen-told}
-use Rattle.keyed_terms.specs.KeyedTerms.{distinct_parts, distinct_exchanges}
+use Rattle.keyed_terms.specs.KeyedTerms.{keyed_placing, distinct_parts, distinct_exchanges}
 use Rattle.keyed_terms.proofs.BagLemmas.{distinct-made}
 use Rattle.keyed_terms.proofs.ConcludeLemmas.{run-refused, tables-made, concluded}
 use Rattle.keyed_terms.proofs.SpreadLemmas.{spread-as, tables-refl, whole-home, whole-columns}
@@ -100,7 +99,7 @@ returns g c =
     (whole-home s.seed s.workers a.width parts c.requires.width)
     (subst (λ (columns : List ℕ). IsSpread s.seed columns parts (size_of s) x.sent_by x.got_by met c.in_ok-met.receipt) c.in_ok-columns.ensures x.ok) in
     let rows = distinct-made s.workers (λ w row. home row == w) (together parts) met made spread.rows c.in_ok-made.ensures in
-    let e : PlacedExchange = row_exchange (usual_placing s) exchange.Distinct (placed_rows parts ∷ []) (distinct_parts s parts) in
+    let e : PlacedExchange = row_exchange (keyed_placing s) exchange.Distinct (placed_rows parts ∷ []) (distinct_parts s parts) in
     concluded s a.statement (distinct_parts s parts) e totals tag before middle c.conclude.new.taps.items x.sent_by x.got_by
     since made c.in_ok-receipts.receipts room read x.told spread.sent_are spread.got_are
     refl rows.count (tables-made s.workers (λ w. filter (λ row. home row == w) (distinct (together parts))) made rows)

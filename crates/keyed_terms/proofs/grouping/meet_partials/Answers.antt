@@ -11,7 +11,6 @@ use Rattle.aggregate_ops.specs.Forms.{merged_fits}
 use Rattle.aggregate_ops.specs.declared.faults.AggFault.TheVariants as fault
 use Rattle.placement.specs.Exchanges.{PlacedExchange, group_exchange}
 use Rattle.placement.specs.Layouts.{together}
-use Rattle.placement.specs.Plans.{usual_placing}
 use Rattle.placement.specs.Runs.{size_of}
 use Rattle.row_exchange.specs.Exchanges.{nothing}
 use Rattle.routed_joins.proofs.RouteLemmas.{told-low}
@@ -22,7 +21,7 @@ use Rattle.term_runs.specs.TermRuns.{AreShown, no_receipt, a_receipt}
 use Rattle.term_runs.proofs.TapLemmas.{told-fair, listed-fair, fair-both}
 use Rattle.term_runs.proofs.NoteLemmas.{risen-told}
 use Rattle.term_runs.proofs.RunLemmas.{run-made}
-use Rattle.keyed_terms.specs.KeyedTerms.{group_parts, group_exchanges, IsGroupFault}
+use Rattle.keyed_terms.specs.KeyedTerms.{keyed_placing, group_parts, group_exchanges, IsGroupFault}
 use Rattle.keyed_terms.specs.inner.Making.{AreMadeBy}
 use Rattle.keyed_terms.proofs.ConcludeLemmas.{run-faulty, tables-made, moved-once, concluded-ok}
 use Rattle.keyed_terms.proofs.GroupLemmas.{partial_home, group_home, partials-same, partials-home, partials-columns, met-wide, groups-made, fits-all}
@@ -230,7 +229,7 @@ returns-clause-run g c listed f =
     let own : Row → ℕ = group_home kinds s.seed n listed f.long f.grouped in
     let rows = groups-made kinds s.seed n listed f.long f.grouped met spread.rows made c.in_ok-made.ensures.rows in
     let tables = tables-made n (λ w. filter (λ row. own row == w) (groups kinds (together listed))) made rows in
-    let e : PlacedExchange = group_exchange (usual_placing s) kinds listed (group_parts s kinds listed) in
+    let e : PlacedExchange = group_exchange (keyed_placing s) kinds listed (group_parts s kinds listed) in
     let shown =
     subst (AreShown (size_of s) (e.moves ∷ [])) (sym c.in_ok-receipts.ensures) (a_receipt e.moves c.in_ok-met.receipt [] [] spread.shows no_receipt) in
     run-made s a.statement (group_parts s kinds listed) (e ∷ []) totals tag (IsGroupFault kinds listed) before after c.in_ok-moved.moved
