@@ -12,6 +12,8 @@ use Rattle.rel_base.specs.declared.relations.Column.{Column}
 use Rattle.rel_base.specs.declared.faults.RunFault.TheVariants as fault
 use Rattle.rel_io.specs.declared.taps.Totals.{Totals}
 use Rattle.myrial_ast.specs.Combinations.{Rows}
+use Rattle.bag_laws.specs.Permuted.{SameTables}
+use Rattle.algebra.specs.declared.notes.PlanNote.TheVariants as note
 use Rattle.algebra.specs.declared.settings.Settings.{Settings}
 use Rattle.algebra.specs.declared.terms.Checked.{Checked}
 use Rattle.algebra.specs.declared.terms.Source.{Source}
@@ -25,10 +27,10 @@ use Rattle.algebra.specs.Rewriting.{AreTables, AreTyped, IsSameTerm, IsRewritten
 use Rattle.algebra.specs.Trees.{Shape, TermTree, Same, Empty, UnionAll, Diff, Distinct, Join, Group, StepTree, CheckedTree}
 use Rattle.placement.specs.Exchanges.{PlacedExchange, term_exchanges, traffic_note}
 use Rattle.placement.specs.Laws.{IsPlaced, IsPlacing, IsReady, HasReadyItems}
-use Rattle.placement.specs.Layouts.{PlacedRelation, Placing, ByKeys, placed_file, placed_stores, rows_of, term_parts}
-use Rattle.placement.specs.Plans.{usual_placing, step_notes}
-use Rattle.placement.proofs.UsualLemmas.{usual_is_placing}
-use Rattle.placement.specs.Runs.{size_of, run_exchanges, faults_by, fault_of}
+use Rattle.placement.specs.Layouts.{PlacedRelation, Placing, ByKeys, placed_file, placed_stores, rows_of, term_parts, together}
+use Rattle.placement.specs.Plans.{ShuffleRule, placing_by, one_rule, plan_kind, step_notes}
+use Rattle.placement.proofs.RuleLemmas.{ruled_is_placing, parts-by_own, exchanges-by_own, notes-by_own}
+use Rattle.placement.specs.Runs.{size_of, run_exchanges, faults_by, faults_at, fault_of}
 use Rattle.routed_joins.specs.PlacedJoins.{placed_rows, placed_items}
 use Rattle.term_runs.specs.declared.moved.Moved.{Moved}
 use Rattle.term_runs.specs.TermRuns.{shown_moves, AreShown, no_receipt, AreMoved, AreFair, IsMoved}
@@ -116,15 +118,42 @@ module _ (own all : Option RunFault) (first : (e : RunFault) → own ≡ Some e 
   fault-of-all (fault.Overflow n) h = first (fault.Overflow n) h
   fault-of-all (fault.AggregateOverflow n) h = first (fault.AggregateOverflow n) h
 
+-- ---- a step that was run by its own rule
+
+-- it looks at no other
+by-own : {T : Type 0} (s : Settings) (rules : ℕ → ShuffleRule) (t : StepTree) (stores : List StoreStep) (later : List StepTree)
+    (held after_held : Held) (noted after_noted : Noted) (totals : T → Totals) (tag : T → ℕ) (before after : List T)
+    → IsStepDone s (one_rule (rules t.statement)) t stores later held after_held noted after_noted totals tag before after
+    → IsStepDone s rules t stores later held after_held noted after_noted totals tag before after
+by-own s rules t stores later held after_held noted after_noted totals tag before after done =
+    let parts = sym (parts-by_own s rules t.statement (value_held held) t.term) in
+    let exchanges = sym (exchanges-by_own s rules t.statement (value_held held) t.term) in
+    let lines = sym (notes-by_own s rules t.statement (value_held held) s.local t.term) in
+    record {
+      made = done.made;
+      receipts = done.receipts;
+      files = done.files;
+      results = done.results;
+      parts = subst (λ ps. SameTables ps done.made) parts done.parts;
+      plan = done.plan
+          ∙ ap (λ ls. noted.plan ++ note.Statement t.statement (plan_kind t.term) (length (together done.made)) ∷ ls) lines;
+      traffic = done.traffic
+          ∙ ap (λ es. noted.traffic ++ map (λ (e : PlacedExchange). traffic_note s.workers (t.statement, e)) es) exchanges;
+      noted_receipts = done.noted_receipts;
+      shown = subst (λ es. AreShown (size_of s) (flat_map shown_moves es) done.receipts) exchanges done.shown;
+      moved = subst (λ es. AreMoved totals tag s.workers es before after) exchanges done.moved;
+      sound = done.sound;
+    }
+
 -- ---- a step more
 
-module _ {T : Type 0} (s : Settings) (files : List File) (c : CheckedTree) (of_files : IsTrue (is_of files c))
+module _ {T : Type 0} (s : Settings) (rules : ℕ → ShuffleRule) (files : List File) (c : CheckedTree) (of_files : IsTrue (is_of files c))
     (typed : AreTyped files) (totals : T → Totals) (tag : T → ℕ) (i : ℕ) (a : StepTree) (l : i < length (needed c))
     (pushed : StepTree) (later : List StepTree) (alike : sources_of (get_or (needed c) i a).term ≡ sources_of pushed.term)
     (held : Held) (noted : Noted) (before middle : List T)
-    (run : AreRun s files c (take i (needed c)) (pushed ∷ later) held noted totals tag before middle) where
+    (run : AreRun s rules files c (take i (needed c)) (pushed ∷ later) held noted totals tag before middle) where
   abbrev p : Placing
-  p = usual_placing s
+  p = placing_by s rules
 
   abbrev x : StepTree
   x = get_or (needed c) i a
@@ -133,7 +162,7 @@ module _ {T : Type 0} (s : Settings) (files : List File) (c : CheckedTree) (of_f
   value = meant p files c
 
   good : IsPlacing p
-  good = usual_is_placing s s.workers_in_range.0
+  good = ruled_is_placing s rules s.workers_in_range.0
 
   there : All (IsHeld held) (sources_of x.term) × IsReadyStep p files c (parts_held held) x
   there =
@@ -154,28 +183,28 @@ module _ {T : Type 0} (s : Settings) (files : List File) (c : CheckedTree) (of_f
     joinable = joinable-by s.workers held x.schema x.term ready.ready ready.typed;
   }
 
-  as-meant : IsSameRun s x.statement value (value_held held) x.term
-  as-meant = terms_are_of_bags s x.statement value (value_held held) x.term ready.same
+  as-meant : IsSameRun s rules x.statement value (value_held held) x.term
+  as-meant = terms_are_of_bags s rules x.statement value (value_held held) x.term ready.same
 
   abbrev own_fault : Option RunFault
-  own_fault = term_fault (faults_by s) x.statement (λ o. (value_held held o).relation.rows) x.term
+  own_fault = term_fault (faults_at s rules x.statement) x.statement (λ o. (value_held held o).relation.rows) x.term
 
   -- its fault is that of the script
-  pub first-fault : (e : RunFault) → IsRunFault own_fault e → IsRunFault (fault_of s files c) e
+  pub first-fault : (e : RunFault) → IsRunFault own_fault e → IsRunFault (fault_of s rules files c) e
   first-fault =
-      fault-of-all own_fault (fault_of s files c)
-      (λ e h. (faults_are_first p files c of_files (λ number. faults_by s)).first i a l run.sound e
-      (as-meant.fault (faults_by s) ∙ h))
+      fault-of-all own_fault (fault_of s rules files c)
+      (λ e h. (faults_are_first p files c of_files (faults_at s rules)).first i a l run.sound e
+      (as-meant.fault (faults_at s rules x.statement) ∙ h))
 
   module _ (after_held : Held) (after_noted : Noted) (after : List T) (fair : AreFair totals tag middle after)
-      (done : IsStepDone s x c.stores later held after_held noted after_noted totals tag middle after) where
+      (done : IsStepDone s rules x c.stores later held after_held noted after_noted totals tag middle after) where
     abbrev exchanges : List PlacedExchange
     exchanges = term_exchanges p x.statement value x.term
 
     abbrev moved_by : Moved
     moved_by = record {
       parts = done.made;
-      traffic = map (λ (e : PlacedExchange). traffic_note s.workers (x.statement, e)) (held_exchanges s held x);
+      traffic = map (λ (e : PlacedExchange). traffic_note s.workers (x.statement, e)) (held_exchanges s rules held x);
       receipts = done.receipts;
     }
 
@@ -183,30 +212,30 @@ module _ {T : Type 0} (s : Settings) (files : List File) (c : CheckedTree) (of_f
         × AreMoved totals tag s.workers exchanges middle after
     moved =
         (run-same totals tag s x.statement (term_parts p x.statement (value_held held) x.term)
-        (term_parts p x.statement value x.term) (held_exchanges s held x) exchanges (λ (e : RunFault). ⊤) middle after (Ok moved_by)
+        (term_parts p x.statement value x.term) (held_exchanges s rules held x) exchanges (λ (e : RunFault). ⊤) middle after (Ok moved_by)
         as-meant.parts as-meant.exchanges (record {
           fair = fair;
           ok = (record { parts = done.parts; traffic = refl; receipts = done.shown }, done.moved);
           err = tt;
         })).ok
 
-    result : IsHeldResult s files c (parts_held held) x done.made
+    result : IsHeldResult s rules files c (parts_held held) x done.made
     result =
-        results_are_held s files c s.workers_in_range.0 of_files typed (parts_held held) i a l ready.same done.made moved.0.parts
+        results_are_held s rules files c s.workers_in_range.0 of_files typed (parts_held held) i a l ready.same done.made moved.0.parts
 
-    numbered : numbered_exchanges s files c (take (i + 1) (needed c))
-        ≡ numbered_exchanges s files c (take i (needed c)) ++ step_exchanges p value x
+    numbered : numbered_exchanges s rules files c (take (i + 1) (needed c))
+        ≡ numbered_exchanges s rules files c (take i (needed c)) ++ step_exchanges p value x
     numbered = flat-more (step_exchanges p value) (needed c) i a l
 
-    bare : bare_exchanges s files c (take (i + 1) (needed c)) ≡ bare_exchanges s files c (take i (needed c)) ++ exchanges
+    bare : bare_exchanges s rules files c (take (i + 1) (needed c)) ≡ bare_exchanges s rules files c (take i (needed c)) ++ exchanges
     bare =
         ap (map (λ (e : ℕ × PlacedExchange). e.1)) numbered
-        ∙ map-append (λ (e : ℕ × PlacedExchange). e.1) (numbered_exchanges s files c (take i (needed c))) (step_exchanges p value x)
-        ∙ ap (λ es. bare_exchanges s files c (take i (needed c)) ++ es)
+        ∙ map-append (λ (e : ℕ × PlacedExchange). e.1) (numbered_exchanges s rules files c (take i (needed c))) (step_exchanges p value x)
+        ∙ ap (λ es. bare_exchanges s rules files c (take i (needed c)) ++ es)
         (map-both (λ (e : ℕ × PlacedExchange). e.1) (λ e. (x.statement, e)) exchanges ∙ map-itself exchanges)
 
     -- with it one step more has run
-    pub one-more : AreRun s files c (take (i + 1) (needed c)) later after_held after_noted totals tag before after
+    pub one-more : AreRun s rules files c (take (i + 1) (needed c)) later after_held after_noted totals tag before after
     one-more = record {
       every = run.every ++ (x.statement, done.made) ∷ [];
       made_as_meant =
@@ -224,37 +253,37 @@ module _ {T : Type 0} (s : Settings) (files : List File) (c : CheckedTree) (of_f
       traffic =
           done.traffic
           ∙ (λ k. run.traffic k ++ (moved.0.traffic ∙ sym (map-both (traffic_note s.workers) (λ e. (x.statement, e)) exchanges)) k)
-          ∙ sym (map-append (traffic_note s.workers) (numbered_exchanges s files c (take i (needed c))) (step_exchanges p value x))
+          ∙ sym (map-append (traffic_note s.workers) (numbered_exchanges s rules files c (take i (needed c))) (step_exchanges p value x))
           ∙ ap (map (traffic_note s.workers)) (sym numbered);
       receipts =
-          subst (AreShown (size_of s) (flat_map shown_moves (bare_exchanges s files c (take (i + 1) (needed c)))))
+          subst (AreShown (size_of s) (flat_map shown_moves (bare_exchanges s rules files c (take (i + 1) (needed c)))))
           (sym done.noted_receipts)
           (subst (λ es. AreShown (size_of s) (flat_map shown_moves es) (noted.receipts ++ done.receipts)) (sym bare)
           (subst (λ ms. AreShown (size_of s) ms (noted.receipts ++ done.receipts))
-          (sym (flat_map-append shown_moves (bare_exchanges s files c (take i (needed c))) exchanges))
-          (joined-runs.receipts (size_of s) (flat_map shown_moves (bare_exchanges s files c (take i (needed c))))
+          (sym (flat_map-append shown_moves (bare_exchanges s rules files c (take i (needed c))) exchanges))
+          (joined-runs.receipts (size_of s) (flat_map shown_moves (bare_exchanges s rules files c (take i (needed c))))
           (flat_map shown_moves exchanges) noted.receipts done.receipts run.receipts moved.0.receipts)));
       moved =
           subst (λ es. AreMoved totals tag s.workers es before after) (sym bare)
-          ((joined-moves totals tag).joined s.workers (bare_exchanges s files c (take i (needed c))) exchanges before middle after
+          ((joined-moves totals tag).joined s.workers (bare_exchanges s rules files c (take i (needed c))) exchanges before middle after
           run.moved moved.1);
       sound =
-          All-more (IsSound p (λ number. faults_by s) files c) (needed c) i a l run.sound
-          (as-meant.fault (faults_by s) ∙ done.sound);
+          All-more (IsSound p (faults_at s rules) files c) (needed c) i a l run.sound
+          (as-meant.fault (faults_at s rules x.statement) ∙ done.sound);
     }
 
 -- ---- letting go
 
 -- a run goes on where results are let go that are used no more
-pub let-go-last : {T : Type 0} (s : Settings) (files : List File) (c : CheckedTree) (steps : List StepTree) (step : StepTree)
+pub let-go-last : {T : Type 0} (s : Settings) (rules : ℕ → ShuffleRule) (files : List File) (c : CheckedTree) (steps : List StepTree) (step : StepTree)
     (later : List StepTree) (held after_held : Held) (noted : Noted) (totals : T → Totals) (tag : T → ℕ) (before after : List T)
-    → AreRun s files c steps later held noted totals tag before after → after_held.files ≡ held.files
+    → AreRun s rules files c steps later held noted totals tag before after → after_held.files ≡ held.files
     → after_held.results.items
     ≡ filter (λ (r : ℕ × List Rows). not (is_last_use r.0 c.stores (step ∷ later))) held.results.items
-    → AreRun s files c steps later after_held noted totals tag before after
-let-go-last s files c steps step later held after_held noted totals tag before after run same_files kept = record {
+    → AreRun s rules files c steps later after_held noted totals tag before after
+let-go-last s rules files c steps step later held after_held noted totals tag before after run same_files kept = record {
   every = run.every;
-  made_as_meant = subst (λ dealt. AreHeld (usual_placing s) files c steps dealt run.every) (sym same_files) run.made_as_meant;
+  made_as_meant = subst (λ dealt. AreHeld (placing_by s rules) files c steps dealt run.every) (sym same_files) run.made_as_meant;
   used =
       subst (UsedAreHeld c.stores later run.every) (sym kept)
       (used-without-last c.stores run.every held.results.items step later run.used);
@@ -339,9 +368,9 @@ module _ (files : List File) (checked : Checked) (of_files : IsTrue (is_of files
             term = subst (λ (t : StepTree). IsSameTerm t.term (term_tree_of pushed.term)) own (at a).same.term;
           }
 
-      module _ {T : Type 0} (s : Settings) (typed : AreTyped files) (totals : T → Totals) (tag : T → ℕ) (held : Held)
+      module _ {T : Type 0} (s : Settings) (rules : ℕ → ShuffleRule) (typed : AreTyped files) (totals : T → Totals) (tag : T → ℕ) (held : Held)
           (noted : Noted) (before middle : List T)
-          (run : AreRun s files script (take i (needed script)) (drop i (map step_tree_of steps)) held noted totals tag before middle)
+          (run : AreRun s rules files script (take i (needed script)) (drop i (map step_tree_of steps)) held noted totals tag before middle)
           (step : Step) (found : Some step ≡ found_step) where
         abbrev later : List StepTree
         later = drop (i + 1) (map step_tree_of steps)
@@ -350,48 +379,54 @@ module _ (files : List File) (checked : Checked) (of_files : IsTrue (is_of files
         behind-left left same =
             ap (drop 1) (ap (map step_tree_of) same ∙ sym (drop-map step_tree_of i steps) ∙ first-left)
 
-        run-from : AreRun s files script (take i (needed script)) (step_tree_of pushed ∷ later) held noted totals tag before middle
+        run-from : AreRun s rules files script (take i (needed script)) (step_tree_of pushed ∷ later) held noted totals tag before middle
         run-from =
-            subst (λ left. AreRun s files script (take i (needed script)) left held noted totals tag before middle)
+            subst (λ left. AreRun s rules files script (take i (needed script)) left held noted totals tag before middle)
             first-left run
 
         pub turn-runnable : IsRunnable s.workers (length step.schema) held (term_tree_of step.term)
         turn-runnable =
             let t = turn step found in
             subst (λ (x : StepTree). IsRunnable s.workers (length x.schema) held x.term) t.own
-            (runnable s files script of_files typed totals tag i (step_tree_of step) t.low (step_tree_of pushed) later t.alike held
+            (runnable s rules files script of_files typed totals tag i (step_tree_of step) t.low (step_tree_of pushed) later t.alike held
             noted before middle run-from)
 
-        pub turn-fault : (e : RunFault)
-            → IsRunFault (term_fault (faults_by s) step.statement (λ o. (value_held held o).relation.rows)
-            (term_tree_of step.term)) e → IsRunFault (fault_of s files script) e
-        turn-fault e =
+        pub turn-fault : (way : ShuffleRule) → way ≡ rules step.statement → (e : RunFault)
+            → IsRunFault (term_fault (faults_by s way) step.statement (λ o. (value_held held o).relation.rows)
+            (term_tree_of step.term)) e → IsRunFault (fault_of s rules files script) e
+        turn-fault way is_way e own =
             let t = turn step found in
-            subst (λ (x : StepTree). IsRunFault (term_fault (faults_by s) x.statement
-            (λ o. (value_held held o).relation.rows) x.term) e → IsRunFault (fault_of s files script) e) t.own
-            (first-fault s files script of_files typed totals tag i (step_tree_of step) t.low (step_tree_of pushed) later t.alike
-            held noted before middle run-from e)
+            let its = subst (λ w. IsRunFault (term_fault (faults_by s w) step.statement (λ o. (value_held held o).relation.rows)
+            (term_tree_of step.term)) e) is_way own in
+            subst (λ (x : StepTree). IsRunFault (term_fault (faults_at s rules x.statement) x.statement
+            (λ o. (value_held held o).relation.rows) x.term) e → IsRunFault (fault_of s rules files script) e) t.own
+            (first-fault s rules files script of_files typed totals tag i (step_tree_of step) t.low (step_tree_of pushed) later t.alike
+            held noted before middle run-from e) its
 
         pub turn-done : (after_held : Held) (after_noted : Noted) (after : List T) → AreFair totals tag middle after
-            → (left : List Step) → left ≡ drop i steps
-            → IsStepDone s (step_tree_of step) planned.stores (drop 1 (map step_tree_of left)) held after_held noted after_noted totals
-            tag middle after
+            → (left : List Step) → left ≡ drop i steps → (way : ShuffleRule) → way ≡ rules step.statement
+            → IsStepDone s (one_rule way) (step_tree_of step) planned.stores (drop 1 (map step_tree_of left)) held after_held noted
+            after_noted totals tag middle after
             → (kept_held : Held) → kept_held.files ≡ after_held.files
             → kept_held.results.items ≡ filter (λ (r : ℕ × List Rows).
             not (is_last_use r.0 planned.stores (map step_tree_of left))) after_held.results.items
-            → AreRun s files script (take (i + 1) (needed script)) later kept_held after_noted totals tag before after
-        turn-done after_held after_noted after fair left same_left done kept_held same_files kept =
+            → AreRun s rules files script (take (i + 1) (needed script)) later kept_held after_noted totals tag before after
+        turn-done after_held after_noted after fair left same_left way is_way own_done kept_held same_files kept =
             let t = turn step found in
+            let behind = drop 1 (map step_tree_of left) in
+            let done = by-own s rules (step_tree_of step) planned.stores behind held after_held noted after_noted totals tag middle after
+            (subst (λ w. IsStepDone s (one_rule w) (step_tree_of step) planned.stores behind held after_held noted after_noted totals tag
+            middle after) is_way own_done) in
             let of_left : List StoreStep → List StepTree → List (ℕ × List Rows) =
             λ stores left. filter (λ (r : ℕ × List Rows). not (is_last_use r.0 stores left)) after_held.results.items in
-            let-go-last s files script (take (i + 1) (needed script)) (step_tree_of pushed) later after_held kept_held after_noted totals
+            let-go-last s rules files script (take (i + 1) (needed script)) (step_tree_of pushed) later after_held kept_held after_noted totals
             tag before after
-            (one-more s files script of_files typed totals tag i (step_tree_of step) t.low (step_tree_of pushed) later t.alike held
+            (one-more s rules files script of_files typed totals tag i (step_tree_of step) t.low (step_tree_of pushed) later t.alike held
             noted before middle run-from after_held after_noted after fair
-            (subst (λ x. IsStepDone s x script.stores later held after_held noted after_noted totals tag middle after) (sym t.own)
-            (subst (λ behind. IsStepDone s (step_tree_of step) script.stores behind held after_held noted after_noted totals tag middle
+            (subst (λ x. IsStepDone s rules x script.stores later held after_held noted after_noted totals tag middle after) (sym t.own)
+            (subst (λ behind. IsStepDone s rules (step_tree_of step) script.stores behind held after_held noted after_noted totals tag middle
             after) (behind-left left same_left)
-            (subst (λ stores. IsStepDone s (step_tree_of step) stores (drop 1 (map step_tree_of left)) held after_held noted after_noted
+            (subst (λ stores. IsStepDone s rules (step_tree_of step) stores (drop 1 (map step_tree_of left)) held after_held noted after_noted
             totals tag middle after) same-stores done))))
             same_files
             (kept ∙ ap (λ (stores : List StoreStep). of_left stores (map step_tree_of left)) same-stores
@@ -399,23 +434,23 @@ module _ (files : List File) (checked : Checked) (of_files : IsTrue (is_of files
 
 -- ---- the first step
 
-pub none-run : {T : Type 0} (s : Settings) (files : List File) (c : CheckedTree) (left : List StepTree) (held : Held)
+pub none-run : {T : Type 0} (s : Settings) (rules : ℕ → ShuffleRule) (files : List File) (c : CheckedTree) (left : List StepTree) (held : Held)
     (noted : Noted) (totals : T → Totals) (tag : T → ℕ) (taps : List T)
     → held.files ≡ map (λ (f : File). (placed_file s.workers f.1).parts) files → held.results.items ≡ []
-    → noted.plan ≡ [] → noted.traffic ≡ [] → noted.receipts ≡ [] → AreRun s files c [] left held noted totals tag taps taps
-none-run s files c left held noted totals tag taps dealt results plan traffic receipts = record {
+    → noted.plan ≡ [] → noted.traffic ≡ [] → noted.receipts ≡ [] → AreRun s rules files c [] left held noted totals tag taps taps
+none-run s rules files c left held noted totals tag taps dealt results plan traffic receipts = record {
   every = [];
   made_as_meant = record {
     files_dealt = dealt;
     numbers = refl;
-    rows = All-nil (IsHeldStep (usual_placing s) files c (parts_in held.files []));
+    rows = All-nil (IsHeldStep (placing_by s rules) files c (parts_in held.files []));
   };
   used = subst (UsedAreHeld c.stores left []) (sym results) (λ number h. refl);
   plan = plan;
   traffic = traffic;
   receipts = subst (AreShown (size_of s) []) (sym receipts) no_receipt;
   moved = (joined-moves totals tag).none s.workers taps;
-  sound = All-nil (IsSound (usual_placing s) (λ number. faults_by s) files c);
+  sound = All-nil (IsSound (placing_by s rules) (faults_at s rules) files c);
 }
 
 -- ---- stores, and the end
@@ -434,36 +469,36 @@ module _ (p : Placing) (files : List File) (c : CheckedTree) (held : Held) where
       })
       (each-stored ts (All-tail (IsHeldStore p files c held.files held.results.items) t ts h))
 
-module _ {T : Type 0} (s : Settings) (files : List File) (c : CheckedTree) (of_files : IsTrue (is_of files c)) (held : Held)
+module _ {T : Type 0} (s : Settings) (rules : ℕ → ShuffleRule) (files : List File) (c : CheckedTree) (of_files : IsTrue (is_of files c)) (held : Held)
     (noted : Noted) (totals : T → Totals) (tag : T → ℕ) (before after : List T)
-    (run : AreRun s files c (needed c) [] held noted totals tag before after) where
-  stores-held : All (IsHeldStore (usual_placing s) files c held.files held.results.items) c.stores
+    (run : AreRun s rules files c (needed c) [] held noted totals tag before after) where
+  stores-held : All (IsHeldStore (placing_by s rules) files c held.files held.results.items) c.stores
   stores-held =
-      stores-among held.files run.every held.results.items (usual_placing s) files c run.used
-      (stores_are_held (usual_placing s) files c of_files held.files run.every run.made_as_meant)
+      stores-among held.files run.every held.results.items (placing_by s rules) files c run.used
+      (stores_are_held (placing_by s rules) files c of_files held.files run.every run.made_as_meant)
 
   -- what is stored is held
   pub sources-held : All (λ (t : StoreStep). IsHeld held t.source) c.stores
   sources-held =
-      All-weaker (IsHeldStore (usual_placing s) files c held.files held.results.items) (λ (t : StoreStep). IsHeld held t.source)
+      All-weaker (IsHeldStore (placing_by s rules) files c held.files held.results.items) (λ (t : StoreStep). IsHeld held t.source)
       (λ t h. h.there) c.stores stores-held
 
   -- where all steps have run, the script has
   pub all-ran : (ran : Ran) → ran.stored ≡ map (held_store files c held) c.stores → ran.plan ≡ noted.plan
       → ran.traffic ≡ noted.traffic → ran.receipts ≡ noted.receipts
-      → IsRan s files c ran × AreMoved totals tag s.workers (run_exchanges s files c) before after
+      → IsRan s rules files c ran × AreMoved totals tag s.workers (run_exchanges s rules files c) before after
   all-ran ran stored plan traffic receipts =
-      let steps = scripts_are_of_steps (usual_placing s) files c in (
+      let steps = scripts_are_of_steps (placing_by s rules) files c in (
         record {
-          sound = (faults_are_first (usual_placing s) files c of_files (λ number. faults_by s)).none run.sound;
+          sound = (faults_are_first (placing_by s rules) files c of_files (faults_at s rules)).none run.sound;
           stored =
-              subst (λ made. AreStoredAt made (placed_stores (usual_placing s) files c)) (sym stored)
+              subst (λ made. AreStoredAt made (placed_stores (placing_by s rules) files c)) (sym stored)
               (subst (AreStoredAt (map (held_store files c held) c.stores)) (sym steps.placed)
-              (each-stored (usual_placing s) files c held c.stores stores-held));
+              (each-stored (placing_by s rules) files c held c.stores stores-held));
           plan = plan ∙ run.plan ∙ sym (steps.plan s.local);
           traffic = traffic ∙ run.traffic ∙ ap (map (traffic_note s.workers)) (sym steps.exchanges);
           receipts =
-              subst (AreShown (size_of s) (flat_map shown_moves (run_exchanges s files c))) (sym receipts)
+              subst (AreShown (size_of s) (flat_map shown_moves (run_exchanges s rules files c))) (sym receipts)
               (subst (λ (es : List (ℕ × PlacedExchange)). AreShown (size_of s)
               (flat_map shown_moves (map (λ (e : ℕ × PlacedExchange). e.1) es)) noted.receipts)
               (sym steps.exchanges) run.receipts);

@@ -25,7 +25,7 @@ use Rattle.algebra.specs.declared.terms.Term.{Term}
 use Rattle.algebra.specs.declared.terms.Term.TheVariants as term
 use Rattle.placement.specs.Exchanges.{PlacedExchange, join_exchanges, row_exchange, group_exchange}
 use Rattle.placement.specs.Layouts.{PlacedRelation, by_worker, together, rows_of, listed_parts, parts_by_row, parts_by_key}
-use Rattle.placement.specs.Plans.{usual_placing, join_notes, group_note, term_notes}
+use Rattle.placement.specs.Plans.{ShuffleRule, ruled_placing, join_notes, group_note, term_notes}
 use Rattle.placement.specs.Runs.{size_of, faults_by}
 use Rattle.routed_joins.specs.PlacedJoins.{placed_rows, placed_items}
 use Rattle.term_runs.specs.declared.moved.Moved.{Moved}
@@ -102,10 +102,10 @@ few-united number a b few =
     ap (λ many. if many then Some (fault.TooManyRows number) else None)
     (le-ltb most_rows (length (a ++ b)) (omega (arith, few, length-append a b)))
 
-module _ {T : Type 0} (s : Settings) (number : ℕ) (held : Held) (totals : T → Totals) (tag : T → ℕ) where
+module _ {T : Type 0} (s : Settings) (way : ShuffleRule) (number : ℕ) (held : Held) (totals : T → Totals) (tag : T → ℕ) where
   -- what running a term does
   abbrev pub Runs : Term → List T → List T → Result Moved RunFault → Type 0
-  Runs t before after answer = IsStepRun s number (value_held held) (term_tree_of t) totals tag before after answer
+  Runs t before after answer = IsStepRun s way number (value_held held) (term_tree_of t) totals tag before after answer
 
   -- rows that lie where they were made, by no exchange
   rested : (parts : List Rows) (own : Option RunFault) (taps : List T) (made : Moved) → own ≡ None → made.parts ≡ parts
@@ -168,13 +168,13 @@ module _ {T : Type 0} (s : Settings) (number : ℕ) (held : Held) (totals : T �
 
     pub diff-run : {F : Type 0} (IsFault : F → Type 0) (left right : Source) → t ≡ term.Diff left right → (a b : List Rows)
         → a ≡ parts_held held left → b ≡ parts_held held right → (before after : List T) (made : Moved)
-        → IsTermRun s number (parts_by_row (usual_placing s) (difference (together a) (together b)))
-        (row_exchange (usual_placing s) exchange.Diff (placed_rows a ∷ placed_rows b ∷ [])
-        (parts_by_row (usual_placing s) (difference (together a) (together b))) ∷ [])
+        → IsTermRun s number (parts_by_row (ruled_placing s way) (difference (together a) (together b)))
+        (row_exchange (ruled_placing s way) exchange.Diff (placed_rows a ∷ placed_rows b ∷ [])
+        (parts_by_row (ruled_placing s way) (difference (together a) (together b))) ∷ [])
         totals tag IsFault before after (Ok made)
         → Runs t before after (Ok made)
     diff-run IsFault left right e a b is_left is_right before after made run =
-        let p = usual_placing s in
+        let p = ruled_placing s way in
         let parts : List Rows → List Rows → List Rows = λ l r. parts_by_row p (difference (together l) (together r)) in
         let exchanges : List Rows → List Rows → List PlacedExchange =
         λ l r. row_exchange p exchange.Diff (placed_rows l ∷ placed_rows r ∷ []) (parts l r) ∷ [] in
@@ -187,13 +187,13 @@ module _ {T : Type 0} (s : Settings) (number : ℕ) (held : Held) (totals : T �
 
     pub distinct-run : {F : Type 0} (IsFault : F → Type 0) (source : Source) → t ≡ term.Distinct source → (a : List Rows)
         → a ≡ parts_held held source → (before after : List T) (made : Moved)
-        → IsTermRun s number (parts_by_row (usual_placing s) (distinct (together a)))
-        (row_exchange (usual_placing s) exchange.Distinct (placed_rows a ∷ [])
-        (parts_by_row (usual_placing s) (distinct (together a))) ∷ [])
+        → IsTermRun s number (parts_by_row (ruled_placing s way) (distinct (together a)))
+        (row_exchange (ruled_placing s way) exchange.Distinct (placed_rows a ∷ [])
+        (parts_by_row (ruled_placing s way) (distinct (together a))) ∷ [])
         totals tag IsFault before after (Ok made)
         → Runs t before after (Ok made)
     distinct-run IsFault source e a is_source before after made run =
-        let p = usual_placing s in
+        let p = ruled_placing s way in
         let parts : List Rows → List Rows = λ l. parts_by_row p (distinct (together l)) in
         let exchanges : List Rows → List PlacedExchange =
         λ l. row_exchange p exchange.Distinct (placed_rows l ∷ []) (parts l) ∷ [] in
@@ -202,15 +202,16 @@ module _ {T : Type 0} (s : Settings) (number : ℕ) (held : Held) (totals : T �
         (made-alike (parts a) (exchanges a) None IsFault before after made refl run))
 
     -- a join that is the term's own, over the rows of its sources
-    module _ (sources : List Source) (shape drawn : JoinShape) (own : ℕ) (parts : List (List Rows)) (is_own : own ≡ number)
-        (is_drawn : drawn ≡ shape) (are : parts ≡ map (parts_held held) sources) where
+    module _ (sources : List Source) (shape drawn : JoinShape) (own : ℕ) (parts : List (List Rows)) (own_way : ShuffleRule)
+        (is_way : own_way ≡ way) (is_own : own ≡ number) (is_drawn : drawn ≡ shape) (are : parts ≡ map (parts_held held) sources) where
       pub join-run : t ≡ term.Join shape sources → (before after : List T) (answer : Result Moved RunFault)
-          → IsStepJoin s own (shape_tree_of drawn) parts totals tag before after answer → Runs t before after answer
-      join-run e before after answer run =
-          let p = usual_placing s in
+          → IsStepJoin s own_way own (shape_tree_of drawn) parts totals tag before after answer → Runs t before after answer
+      join-run e before after answer own_run =
+          let run = subst (λ w. IsStepJoin s w own (shape_tree_of drawn) parts totals tag before after answer) is_way own_run in
+          let p = ruled_placing s way in
           let told : ℕ → JoinShape → List PlacedRelation → List Rows → Type 0 =
           λ n x items given. IsTold s n (listed_parts p n (shape_tree_of x) items) (join_exchanges p n (shape_tree_of x) items)
-          (shape_fault (faults_by s) n (shape_tree_of x) [] given) totals tag before after answer in
+          (shape_fault (faults_by s way) n (shape_tree_of x) [] given) totals tag before after answer in
           subst (λ u. Runs u before after answer) (sym e)
           (subst (λ (given : List Rows). told number shape (map (value_held held) sources) given) (rows-held held sources)
           (subst (λ (items : List PlacedRelation). told number shape items (rows_of items))
@@ -219,12 +220,13 @@ module _ {T : Type 0} (s : Settings) (number : ℕ) (held : Held) (totals : T �
           (subst (λ (n : ℕ). told n drawn (placed_items parts) (rows_of (placed_items parts))) is_own run))))
 
       pub join-lines : t ≡ term.Join shape sources → (answer : Result Moved RunFault) (lines more : List PlanNote)
-          → OnOk answer (more ≡ lines ++ join_notes (usual_placing s) s.local own (shape_tree_of drawn) (placed_items parts))
-          → OnOk answer (more ≡ lines ++ term_notes (usual_placing s) s.local number (value_held held) (term_tree_of t))
-      join-lines e answer lines more h =
+          → OnOk answer (more ≡ lines ++ join_notes (ruled_placing s own_way) s.local own (shape_tree_of drawn) (placed_items parts))
+          → OnOk answer (more ≡ lines ++ term_notes (ruled_placing s way) s.local number (value_held held) (term_tree_of t))
+      join-lines e answer lines more own_lines =
+          let h = subst (λ w. OnOk answer (more ≡ lines ++ join_notes (ruled_placing s w) s.local own (shape_tree_of drawn) (placed_items parts))) is_way own_lines in
           let told : ℕ → JoinShape → List PlacedRelation → Type 0 =
-          λ n x items. OnOk answer (more ≡ lines ++ join_notes (usual_placing s) s.local n (shape_tree_of x) items) in
-          subst (λ u. OnOk answer (more ≡ lines ++ term_notes (usual_placing s) s.local number (value_held held) (term_tree_of u)))
+          λ n x items. OnOk answer (more ≡ lines ++ join_notes (ruled_placing s way) s.local n (shape_tree_of x) items) in
+          subst (λ u. OnOk answer (more ≡ lines ++ term_notes (ruled_placing s way) s.local number (value_held held) (term_tree_of u)))
           (sym e)
           (subst (λ (items : List PlacedRelation). told number shape items) (ap placed_items are ∙ items-held held sources)
           (subst (λ (x : JoinShape). told number x (placed_items parts)) is_drawn
@@ -232,10 +234,11 @@ module _ {T : Type 0} (s : Settings) (number : ℕ) (held : Held) (totals : T �
 
       module _ (emits : List EmitKind) (e : t ≡ term.Group shape sources emits) where
         pub group-run : (before after : List T) (answer : Result Moved RunFault)
-            → IsStepGroup s own (shape_tree_of drawn) (map kind_of_emit emits) parts totals tag before after answer
+            → IsStepGroup s own_way own (shape_tree_of drawn) (map kind_of_emit emits) parts totals tag before after answer
             → Runs t before after answer
-        group-run before after answer run =
-            let p = usual_placing s in
+        group-run before after answer own_run =
+            let run = subst (λ w. IsStepGroup s w own (shape_tree_of drawn) (map kind_of_emit emits) parts totals tag before after answer) is_way own_run in
+            let p = ruled_placing s way in
             let kinds = map kind_of_emit emits in
             let made : JoinShape → List Rows → List Rows =
             λ x given. parts_by_key p kinds (groups kinds (listed_of (shape_tree_of x) given)) in
@@ -243,7 +246,7 @@ module _ {T : Type 0} (s : Settings) (number : ℕ) (held : Held) (totals : T �
             λ n x items given. IsTold s n (made x given)
             (join_exchanges p n (shape_tree_of x) items
             ++ group_exchange p kinds (listed_parts p n (shape_tree_of x) items) (made x given) ∷ [])
-            (shape_fault (faults_by s) n (shape_tree_of x) kinds given) totals tag before after answer in
+            (shape_fault (faults_by s way) n (shape_tree_of x) kinds given) totals tag before after answer in
             subst (λ u. Runs u before after answer) (sym e)
             (subst (λ (given : List Rows). told number shape (map (value_held held) sources) given) (rows-held held sources)
             (subst (λ (items : List PlacedRelation). told number shape items (rows_of items))
@@ -252,16 +255,18 @@ module _ {T : Type 0} (s : Settings) (number : ℕ) (held : Held) (totals : T �
             (subst (λ (n : ℕ). told n drawn (placed_items parts) (rows_of (placed_items parts))) is_own run))))
 
         pub group-lines : (answer : Result Moved RunFault) (lines more : List PlanNote)
-            → OnOk answer (more ≡ lines ++ (join_notes (usual_placing s) s.local own (shape_tree_of drawn) (placed_items parts)
+            → OnOk answer (more ≡ lines ++ (join_notes (ruled_placing s own_way) s.local own (shape_tree_of drawn) (placed_items parts)
             ++ group_note (map kind_of_emit emits) ∷ []))
-            → OnOk answer (more ≡ lines ++ term_notes (usual_placing s) s.local number (value_held held) (term_tree_of t))
-        group-lines answer lines more h =
+            → OnOk answer (more ≡ lines ++ term_notes (ruled_placing s way) s.local number (value_held held) (term_tree_of t))
+        group-lines answer lines more own_lines =
+            let h = subst (λ w. OnOk answer (more ≡ lines ++ (join_notes (ruled_placing s w) s.local own (shape_tree_of drawn) (placed_items parts)
+            ++ group_note (map kind_of_emit emits) ∷ []))) is_way own_lines in
             let told : ℕ → JoinShape → List PlacedRelation → Type 0 =
             λ n x items. OnOk answer
-            (more ≡ lines ++ (join_notes (usual_placing s) s.local n (shape_tree_of x) items
+            (more ≡ lines ++ (join_notes (ruled_placing s way) s.local n (shape_tree_of x) items
             ++ group_note (map kind_of_emit emits) ∷ [])) in
             subst (λ u. OnOk answer
-            (more ≡ lines ++ term_notes (usual_placing s) s.local number (value_held held) (term_tree_of u))) (sym e)
+            (more ≡ lines ++ term_notes (ruled_placing s way) s.local number (value_held held) (term_tree_of u))) (sym e)
             (subst (λ (items : List PlacedRelation). told number shape items) (ap placed_items are ∙ items-held held sources)
             (subst (λ (x : JoinShape). told number x (placed_items parts)) is_drawn
             (subst (λ (n : ℕ). told n drawn (placed_items parts)) is_own h)))

@@ -2,7 +2,8 @@
 //!
 //! Stands on `plan_rewrite` for the steps that a store needs, on `placement` and `run_laws` for
 //! what each of them means at workers and by whose laws rows are held in whatever order they came,
-//! on `semijoin_reducer` for rows that are in no answer, and on `join_plans`, `join_runs` and
+//! on `semijoin_reducer` for rows that are in no answer, on `fragmenter` for plans that are given, and
+//! on `join_plans`, `join_runs` and
 //! `keyed_terms` for the plans and the terms.
 //! Files are dealt to the workers, each result stays where it was made until its last use, and a
 //! step runs over what is held of its sources.
@@ -29,5 +30,5 @@ mod runs;
 mod steps;
 mod terms;
 
-pub use running::run_script;
+pub use running::{run_planned, run_script};
 pub use runs::{Ran, SpreadStore, SpreadStores};

@@ -2,7 +2,8 @@
 ghost use Rattle.std.specs.Prelude.{◌≡◌, ◌*◌, ◌≤◌, length, vec_len};
 ghost use Rattle.algebra.specs.CheckedTrees.{step_tree_of, term_tree_of};
 ghost use Rattle.algebra.specs.Rewriting.{IsSameTerm};
-ghost use Rattle.placement.specs.Plans.{plan_kind};
+ghost use Rattle.placement.specs.Plans.{one_rule, plan_kind};
+ghost use Rattle.join_plans.specs.JoinPlans.{ruled_by};
 ghost use Rattle.engine.specs.inner.Held.{IsRunnable};
 ghost use Rattle.engine.specs.inner.Steps.{IsStep};
 ghost use Rattle.engine.specs.inner.Terms.{later_in};
@@ -36,9 +37,9 @@ pub(crate) fn run_step<R: Threads + Wait + Sync, T: Tap + Send>(
     requires same { IsSameTerm (term_tree_of run.now.step.now.term)
         (term_tree_of run.now.pushed.now.term) }
     requires taps { 2 * settings.now.workers ≤ vec_len taps.old }
-    ensures { IsStep settings.now (step_tree_of run.now.step.now) run.now.stores.now
-        (later_in run.now) held.old held.new noted.old noted.new T.totals T.tag taps.old.items
-        taps.new.items result }
+    ensures { IsStep settings.now (one_rule (ruled_by run.now.by)) (step_tree_of run.now.step.now)
+        run.now.stores.now (later_in run.now) held.old held.new noted.old noted.new T.totals T.tag
+        taps.old.items taps.new.items result }
 {
     let mut lines = PlanNotes::new(alloc);
     let Moved {

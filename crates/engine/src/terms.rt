@@ -4,7 +4,8 @@ ghost use Rattle.rel_base.specs.Limits.{most_rows};
 ghost use Rattle.algebra.specs.CheckedTrees.{term_tree_of};
 ghost use Rattle.algebra.specs.Rewriting.{IsSameTerm};
 ghost use Rattle.placement.specs.Layouts.{by_worker, together};
-ghost use Rattle.placement.specs.Plans.{usual_placing, term_notes};
+ghost use Rattle.placement.specs.Plans.{ruled_placing, term_notes};
+ghost use Rattle.join_plans.specs.JoinPlans.{ruled_by};
 ghost use Rattle.engine.specs.inner.Held.{IsHeld, IsRunnable, UsedAreHeld, parts_held, value_held};
 ghost use Rattle.engine.specs.inner.Terms.{IsStepRun, IsUnionFault, later_in};
 
@@ -12,6 +13,7 @@ use crate::groups::run_step_group;
 use crate::held::Held;
 use crate::joins::{StepJoin, at_rest, rows_in, run_step_join};
 use algebra::{JoinShape, PlanNotes, Settings, Sources, Step, Stores, Term};
+use join_plans::ShuffleBy;
 use keyed_terms::{Operands, empty_parts, run_diff, run_distinct, union_parts};
 use rel_base::{Duplicate, MOST_ROWS, Memory, RunFault, Spread};
 use rel_io::Tap;
@@ -27,6 +29,8 @@ pub(crate) struct RunStep<'a> {
     pub(crate) step: &'a Step,
     /// The same step, in whose join the tests of one atom are that atom's keeps.
     pub(crate) pushed: &'a Step,
+    /// By which rule the rows of its join come together.
+    pub(crate) by: ShuffleBy,
     /// What is stored when all steps have run.
     pub(crate) stores: &'a Stores,
     /// The steps from this one on, with tests pushed.
@@ -56,11 +60,12 @@ pub(crate) fn run_term<R: Threads + Wait + Sync, T: Tap + Send>(
     ensures files { held.new.files ≡ held.old.files }
     ensures used { UsedAreHeld run.now.stores.now (later_in run.now)
         held.old.results.items held.new.results.items }
-    ensures run { IsStepRun settings.now run.now.step.now.statement (value_held held.old)
-        (term_tree_of run.now.step.now.term) T.totals T.tag taps.old.items taps.new.items result }
+    ensures run { IsStepRun settings.now (ruled_by run.now.by) run.now.step.now.statement
+        (value_held held.old) (term_tree_of run.now.step.now.term) T.totals T.tag taps.old.items
+        taps.new.items result }
     ensures lines { OnOk result (lines.new ≡ lines.old
-        ++ term_notes (usual_placing settings.now) settings.now.local run.now.step.now.statement
-        (value_held held.old) (term_tree_of run.now.step.now.term)) }
+        ++ term_notes (ruled_placing settings.now (ruled_by run.now.by)) settings.now.local
+        run.now.step.now.statement (value_held held.old) (term_tree_of run.now.step.now.term)) }
 {
     let statement = run.step.statement;
     match (&run.step.term, &run.pushed.term) {
@@ -92,11 +97,11 @@ pub(crate) fn run_term<R: Threads + Wait + Sync, T: Tap + Send>(
             Ok(moved)
         }
         (Term::Join(shape, sources), Term::Join(pushed, _)) => {
-            let join = join_over(alloc, held, statement, shape, pushed, sources)?;
+            let join = join_over(alloc, held, run, shape, pushed, sources)?;
             run_step_join(rt, alloc, &join, settings, lines, taps)
         }
         (Term::Group(shape, sources, kinds), Term::Group(pushed, _, _)) => {
-            let join = join_over(alloc, held, statement, shape, pushed, sources)?;
+            let join = join_over(alloc, held, run, shape, pushed, sources)?;
             run_step_group(rt, alloc, &join, kinds, settings, lines, taps)
         }
         _ => unreachable!(),
@@ -107,20 +112,22 @@ pub(crate) fn run_term<R: Threads + Wait + Sync, T: Tap + Send>(
 fn join_over<'a>(
     alloc: Global,
     held: &Held,
-    statement: u32,
+    run: &RunStep<'_>,
     shape: &'a JoinShape,
     pushed: &'a JoinShape,
     sources: &Sources,
 ) -> Result<StepJoin<'a>, Memory>
     requires { All (IsHeld held.now) sources.now }
-    ensures statement { IfOk result (λ made. made.statement ≡ statement) }
+    ensures statement { IfOk result (λ made. made.statement ≡ run.now.step.now.statement) }
+    ensures by { IfOk result (λ made. made.by ≡ run.now.by) }
     ensures shape { IfOk result (λ made. made.shape.now ≡ shape.now) }
     ensures pushed { IfOk result (λ made. made.pushed.now ≡ pushed.now) }
     ensures parts { IfOk result (λ made. made.parts ≡ map (parts_held held.now) sources.now) }
 {
     let parts = held.parts_of_each(alloc, sources)?;
     Ok(StepJoin {
-        statement,
+        statement: run.step.statement,
+        by: run.by,
         shape,
         pushed,
         parts,

@@ -1,11 +1,13 @@
 -- Steps, and how far a run has come.
 --
+--   rules_by s plan            the rule of each statement
 --   IsStepDone ..              what running a step does on Ok: its result is held, and what it did is noted
 --   IsStep ..                  what it does, whatever it answers
 --   AreRun ..                  some steps have run and others are left: what is held and noted is what they mean
 --   schema_at files c o        the columns of what a source stands for
 --   held_store files c held t  what a store stores, where its rows are held
-use Rattle.std.specs.Prelude.{◌≡◌, ⊤, ℕ, List, [], ◌∷◌, ◌++◌, map, length, All, None, Result, IfErr, OnOk}
+use Rattle.std.specs.Prelude.{◌≡◌, ⊤, ℕ, List, [], ◌∷◌, ◌++◌, map, length, All, Option, Some, None, Result, IfErr, OnOk}
+use Rattle.std.specs.Borrow.{Bor}
 use Rattle.std.specs.List.{flat_map}
 use Rattle.rel_base.specs.Keys.{File}
 use Rattle.rel_base.specs.declared.relations.Column.{Column}
@@ -22,8 +24,10 @@ use Rattle.algebra.specs.Meanings.{found, no_relation, relations_of, step_relati
 use Rattle.algebra.specs.Trees.{StepTree, CheckedTree}
 use Rattle.placement.specs.Layouts.{together, term_parts}
 use Rattle.placement.specs.Exchanges.{PlacedExchange, term_exchanges, traffic_note}
-use Rattle.placement.specs.Plans.{usual_placing, plan_kind, term_notes, step_notes}
-use Rattle.placement.specs.Runs.{size_of, faults_by}
+use Rattle.placement.specs.Plans.{ShuffleRule, usual_rules, placing_by, plan_kind, term_notes, step_notes}
+use Rattle.placement.specs.Runs.{size_of, faults_at}
+use Rattle.fragmenter.specs.declared.plans.Plan.{Plan}
+use Rattle.fragmenter.specs.Plans.{plan_tree_of, planned_rules}
 use Rattle.term_runs.specs.TermRuns.{shown_moves, AreShown, AreMoved, AreFair}
 use Rattle.run_laws.specs.Values.{meant}
 use Rattle.run_laws.specs.Scripts.{step_exchanges, IsSound}
@@ -34,77 +38,85 @@ use Rattle.engine.specs.declared.runs.SpreadStore.{SpreadStore}
 use Rattle.engine.specs.Runs.{IsRunFault}
 use Rattle.engine.specs.inner.Held.{parts_held, value_held, UsedAreHeld}
 
+-- the rule of each statement: that of a plan, or, where there is none, that of the settings
+abbrev pub rules_by : Settings → Option (Bor Plan) → ℕ → ShuffleRule
+rules_by s None = usual_rules s
+rules_by s (Some plan) = planned_rules (plan_tree_of plan.now)
+
 -- ---- one step
 
 -- the exchanges of a step over what is held
-abbrev pub held_exchanges : Settings → Held → StepTree → List PlacedExchange
-held_exchanges s held t = term_exchanges (usual_placing s) t.statement (value_held held) t.term
+abbrev pub held_exchanges : Settings → (ℕ → ShuffleRule) → Held → StepTree → List PlacedExchange
+held_exchanges s rules held t =
+    term_exchanges (placing_by s rules) t.statement (value_held held) t.term
 
 -- the result of a step is held, as bags, with those that a store or a later step uses; its line
 -- with its rows and the lines below it, the notes and the receipts of its exchanges stand behind
 -- those before; and the taps rose by its exchanges
-pub record IsStepDone {T : Type 0} (s : Settings) (t : StepTree) (stores : List StoreStep)
-    (later : List StepTree) (held after_held : Held) (noted after_noted : Noted)
+pub record IsStepDone {T : Type 0} (s : Settings) (rules : ℕ → ShuffleRule) (t : StepTree)
+    (stores : List StoreStep) (later : List StepTree) (held after_held : Held) (noted after_noted : Noted)
     (totals : T → Totals) (tag : T → ℕ) (before after : List T) : Type 0 where
   pub made : List Rows
   pub receipts : List ReceiptState
   pub files : after_held.files ≡ held.files
   pub results : UsedAreHeld stores later (held.results.items ++ (t.statement, made) ∷ [])
       after_held.results.items
-  pub parts : SameTables (term_parts (usual_placing s) t.statement (value_held held) t.term) made
+  pub parts : SameTables (term_parts (placing_by s rules) t.statement (value_held held) t.term) made
   pub plan : after_noted.plan ≡ noted.plan
       ++ note.Statement t.statement (plan_kind t.term) (length (together made))
-      ∷ term_notes (usual_placing s) s.local t.statement (value_held held) t.term
+      ∷ term_notes (placing_by s rules) s.local t.statement (value_held held) t.term
   pub traffic : after_noted.traffic ≡ noted.traffic
       ++ map (λ (e : PlacedExchange). traffic_note s.workers (t.statement, e))
-      (held_exchanges s held t)
+      (held_exchanges s rules held t)
   pub noted_receipts : after_noted.receipts ≡ noted.receipts ++ receipts
-  pub shown : AreShown (size_of s) (flat_map shown_moves (held_exchanges s held t)) receipts
-  pub moved : AreMoved totals tag s.workers (held_exchanges s held t) before after
-  pub sound : term_fault (faults_by s) t.statement (λ o. (value_held held o).relation.rows) t.term
+  pub shown : AreShown (size_of s) (flat_map shown_moves (held_exchanges s rules held t)) receipts
+  pub moved : AreMoved totals tag s.workers (held_exchanges s rules held t) before after
+  pub sound : term_fault (faults_at s rules t.statement) t.statement
+      (λ o. (value_held held o).relation.rows) t.term
       ≡ None
 
 -- what running a step over what is held does
-pub record IsStep {T : Type 0} (s : Settings) (t : StepTree) (stores : List StoreStep)
-    (later : List StepTree) (held after_held : Held) (noted after_noted : Noted)
+pub record IsStep {T : Type 0} (s : Settings) (rules : ℕ → ShuffleRule) (t : StepTree)
+    (stores : List StoreStep) (later : List StepTree) (held after_held : Held) (noted after_noted : Noted)
     (totals : T → Totals) (tag : T → ℕ) (before after : List T) (answer : Result ⊤ RunFault)
     : Type 0 where
   pub fair : AreFair totals tag before after
   pub ok : OnOk answer
-      (IsStepDone s t stores later held after_held noted after_noted totals tag before after)
+      (IsStepDone s rules t stores later held after_held noted after_noted totals tag before after)
   pub err : IfErr answer
-      (IsRunFault (term_fault (faults_by s) t.statement
+      (IsRunFault (term_fault (faults_at s rules t.statement) t.statement
       (λ o. (value_held held o).relation.rows) t.term))
 
 -- ---- the steps so far
 
 -- the exchanges of some steps of a script, each with the number of its statement, and without
-abbrev pub numbered_exchanges : Settings → List File → CheckedTree → List StepTree
-    → List (ℕ × PlacedExchange)
-numbered_exchanges s files c steps =
-    flat_map (step_exchanges (usual_placing s) (meant (usual_placing s) files c)) steps
+abbrev pub numbered_exchanges : Settings → (ℕ → ShuffleRule) → List File → CheckedTree
+    → List StepTree → List (ℕ × PlacedExchange)
+numbered_exchanges s rules files c steps =
+    flat_map (step_exchanges (placing_by s rules) (meant (placing_by s rules) files c)) steps
 
-abbrev pub bare_exchanges : Settings → List File → CheckedTree → List StepTree → List PlacedExchange
-bare_exchanges s files c steps =
-    map (λ (e : ℕ × PlacedExchange). e.1) (numbered_exchanges s files c steps)
+abbrev pub bare_exchanges : Settings → (ℕ → ShuffleRule) → List File → CheckedTree
+    → List StepTree → List PlacedExchange
+bare_exchanges s rules files c steps =
+    map (λ (e : ℕ × PlacedExchange). e.1) (numbered_exchanges s rules files c steps)
 
 -- some steps have run and others are left: the rows of each result that is still used lie where they are placed, as bags; the
 -- plan, the traffic and the receipts are those of the steps that have run, the taps rose by their exchanges, and nothing is wrong
 -- with them
-pub record AreRun {T : Type 0} (s : Settings) (files : List File) (c : CheckedTree)
-    (steps left : List StepTree)
+pub record AreRun {T : Type 0} (s : Settings) (rules : ℕ → ShuffleRule) (files : List File)
+    (c : CheckedTree) (steps left : List StepTree)
     (held : Held) (noted : Noted) (totals : T → Totals) (tag : T → ℕ)
     (before after : List T) : Type 0 where
   pub every : List (ℕ × List Rows)
-  pub made_as_meant : AreHeld (usual_placing s) files c steps held.files every
+  pub made_as_meant : AreHeld (placing_by s rules) files c steps held.files every
   pub used : UsedAreHeld c.stores left every held.results.items
   pub plan : noted.plan
-      ≡ flat_map (step_notes (usual_placing s) s.local (meant (usual_placing s) files c)) steps
-  pub traffic : noted.traffic ≡ map (traffic_note s.workers) (numbered_exchanges s files c steps)
+      ≡ flat_map (step_notes (placing_by s rules) s.local (meant (placing_by s rules) files c)) steps
+  pub traffic : noted.traffic ≡ map (traffic_note s.workers) (numbered_exchanges s rules files c steps)
   pub receipts : AreShown (size_of s)
-      (flat_map shown_moves (bare_exchanges s files c steps)) noted.receipts
-  pub moved : AreMoved totals tag s.workers (bare_exchanges s files c steps) before after
-  pub sound : All (IsSound (usual_placing s) (λ _. faults_by s) files c) steps
+      (flat_map shown_moves (bare_exchanges s rules files c steps)) noted.receipts
+  pub moved : AreMoved totals tag s.workers (bare_exchanges s rules files c steps) before after
+  pub sound : All (IsSound (placing_by s rules) (faults_at s rules) files c) steps
 
 -- ---- stores
 

@@ -15,7 +15,7 @@ use Rattle.algebra.specs.Trees.{StepTree, TermTree}
 use Rattle.algebra.specs.Meanings.{term_fault}
 use Rattle.placement.specs.Exchanges.{term_exchanges}
 use Rattle.placement.specs.Layouts.{PlacedRelation, term_parts}
-use Rattle.placement.specs.Plans.{usual_placing}
+use Rattle.placement.specs.Plans.{ShuffleRule, ruled_placing}
 use Rattle.placement.specs.Runs.{faults_by}
 use Rattle.term_runs.specs.declared.moved.Moved.{Moved}
 use Rattle.engine.specs.declared.terms.RunStep.{RunStep}
@@ -27,13 +27,13 @@ IsUnionFault statement rows fault.Memory = ⊤
 IsUnionFault statement rows other = (most_rows < rows) × (other ≡ fault.TooManyRows statement)
 
 -- what running a term does, where its sources stand for these rows
-abbrev pub IsStepRun : {T : Type 0} → Settings → ℕ → (Source → PlacedRelation) → TermTree
+abbrev pub IsStepRun : {T : Type 0} → Settings → ShuffleRule → ℕ → (Source → PlacedRelation) → TermTree
     → (T → Totals) → (T → ℕ) → List T
     → List T → Result Moved RunFault → Type 0
-IsStepRun s number value t totals tag before after answer =
-    let p = usual_placing s in
+IsStepRun s rule number value t totals tag before after answer =
+    let p = ruled_placing s rule in
     IsTold s number (term_parts p number value t) (term_exchanges p number value t)
-    (term_fault (faults_by s) number (λ o. (value o).relation.rows) t) totals tag before after
+    (term_fault (faults_by s rule) number (λ o. (value o).relation.rows) t) totals tag before after
     answer
 
 -- the steps behind the one that is run

@@ -1,7 +1,8 @@
 use Rattle.std.proofs.Common.{rules, [], ◌∷◌, ◌++◌, ◌∙◌, ap, append_assoc}
 use Rattle.algebra.specs.CheckedTrees.{term_tree_of}
 use Rattle.algebra.specs.declared.notes.PlanNote.TheVariants as note
-use Rattle.placement.specs.Plans.{usual_placing, term_notes}
+use Rattle.placement.specs.Plans.{ruled_placing, term_notes}
+use Rattle.join_plans.specs.JoinPlans.{ruled_by}
 use Rattle.engine.specs.inner.Held.{value_held}
 use Rattle.engine.specs.inner.Terms.{later_in}
 use Rattle.engine.proofs.UsedLemmas.{used_with_more}
@@ -17,7 +18,7 @@ returns g c =
     let x = c.in_ok-parts.ensures in
     let moved = x.run.run.ok in
     let notes =
-    term_notes (usual_placing s) s.local step.statement (value_held c.args.held.now) (term_tree_of step.term) in
+    term_notes (ruled_placing s (ruled_by run.by)) s.local step.statement (value_held c.args.held.now) (term_tree_of step.term) in
     record {
       fair = x.run.run.fair;
       ok = record {
