@@ -1,5 +1,5 @@
 -- Words that a user types, worked by computing.
-use Rattle.std.proofs.Common.{◌≡◌, Bool, true, false, not, is_some, List, ℕ, [], ◌∷◌, Some, codes, refl}
+use Rattle.std.proofs.Common.{◌≡◌, Bool, true, false, not, is_some, List, ℕ, [], ◌∷◌, Some, None, codes, refl}
 use Rattle.std.specs.List.{list_all}
 use Rattle.algebra.specs.declared.settings.ShuffleKind.TheVariants as shuffle
 use Rattle.algebra.specs.declared.settings.JoinKind.TheVariants as join
@@ -13,7 +13,7 @@ usual = record { workers = 4; capacity = 16; batch = 256; seed = 0; shuffle = sh
 
 -- a run of the script q with what is usual
 abbrev plain : Asked
-plain = record { mode = mode.Run; settings = usual; plan = false; traffic = false; size = 1000; script = codes "q" }
+plain = record { mode = mode.Run; settings = usual; plan = false; traffic = false; size = 1000; from = None; script = codes "q" }
 
 abbrev myria : List (List ℕ) → List (List ℕ)
 myria words = codes "myria" ∷ words
@@ -37,7 +37,8 @@ eight_workers_and_plan = refl
 -- all of them, the script first
 pub every_option : asked (myria (codes "q" ∷ codes "--traffic" ∷ codes "--mode" ∷ codes "explain" ∷ codes "--workers" ∷ codes "64"
     ∷ codes "--capacity" ∷ codes "1024" ∷ codes "--batch" ∷ codes "4096" ∷ codes "--seed" ∷ codes "18446744073709551615"
-    ∷ codes "--shuffle" ∷ codes "br" ∷ codes "--join" ∷ codes "hj" ∷ codes "--size" ∷ codes "100000" ∷ codes "--plan" ∷ codes "--reduce" ∷ []))
+    ∷ codes "--shuffle" ∷ codes "br" ∷ codes "--join" ∷ codes "hj" ∷ codes "--size" ∷ codes "100000" ∷ codes "--plan" ∷ codes "--reduce"
+    ∷ codes "--from" ∷ codes "p.json" ∷ []))
     ≡ Some (record {
       mode = mode.Explain;
       settings = record {
@@ -52,6 +53,7 @@ pub every_option : asked (myria (codes "q" ∷ codes "--traffic" ∷ codes "--mo
       plan = true;
       traffic = true;
       size = 100000;
+      from = Some (codes "p.json");
       script = codes "q";
     })
 unfolding clap_on_literals command
@@ -72,6 +74,14 @@ pub other_choices : (asked (with_text (codes "--mode") (codes "check")) ≡ Some
     × (asked (with_text (codes "--join") (codes "tj")) ≡ Some plain)
 unfolding clap_on_literals command
 other_choices = (refl, refl, refl, refl, refl, refl)
+
+-- a plan is exported, or replayed from a file; a name without a replay changes nothing but the request
+pub plans_and_names : (asked (with_text (codes "--mode") (codes "export")) ≡ Some (record plain { mode = mode.Export }))
+    × (asked (myria (codes "--mode" ∷ codes "replay" ∷ codes "--from" ∷ codes "p.json" ∷ codes "q" ∷ []))
+    ≡ Some (record plain { mode = mode.Replay; from = Some (codes "p.json") }))
+    × (asked (with_text (codes "--from") (codes "p.json")) ≡ Some (record plain { from = Some (codes "p.json") }))
+unfolding clap_on_literals command
+plans_and_names = (refl, refl, refl)
 
 -- zeros may lead; a text may stand behind an equals sign; behind two hyphens a script may begin with one; help is a script
 pub other_forms : (asked (with_text (codes "--workers") (codes "007")) ≡ Some (record plain { settings = record usual { workers = 7 } }))
@@ -101,7 +111,8 @@ pub bad_choices : list_all refuses (with_text (codes "--shuffle") (codes "HC") �
 unfolding clap_on_literals command
 bad_choices = refl
 
--- words that clap refuses: no script, two, an option or a flag twice, a flag with a text, a request for help
+-- words that clap refuses: no script, two, an option or a flag twice, a flag with a text, a request for help; and a replay that
+-- names no plan
 pub bad_words : list_all (λ words. refuses (myria words)) (
     []
     ∷ (codes "--" ∷ [])
@@ -113,6 +124,8 @@ pub bad_words : list_all (λ words. refuses (myria words)) (
     ∷ (codes "--reduce=x" ∷ codes "q" ∷ [])
     ∷ (codes "q" ∷ codes "--workers" ∷ [])
     ∷ (codes "--rows" ∷ codes "4" ∷ codes "q" ∷ [])
+    ∷ (codes "--mode" ∷ codes "replay" ∷ codes "q" ∷ [])
+    ∷ (codes "--from" ∷ codes "p" ∷ codes "--from" ∷ codes "p" ∷ codes "q" ∷ [])
     ∷ (codes "--help" ∷ [])
     ∷ (codes "-h" ∷ [])
     ∷ (codes "--version" ∷ [])

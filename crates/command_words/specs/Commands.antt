@@ -1,6 +1,6 @@
 -- The command of the program, as what clap reads of it.
 --
---   command          eight options that take one text, three flags, and the script
+--   command          nine options that take one text, three flags, and the script
 --   is_read words    whether clap reads the words, by its own definition of what fails
 use Rattle.std.specs.Prelude.{◌==◌, Bool, List, Some, true, codes, length}
 use Rattle.clap.specs.declared.builder.action.ArgAction.TheVariants.{Set, SetTrue}
@@ -33,7 +33,8 @@ command =
     (with_option (codes "shuffle") (with_option (codes "seed") sized)) in
     let printed = with_flag (codes "traffic") (with_flag (codes "plan") joined) in
     let reduced = with_flag (codes "reduce") printed in
-    with_rule (with_option (codes "size") reduced) (word_rule (codes "script"))
+    let named = with_option (codes "from") (with_option (codes "size") reduced) in
+    with_rule named (word_rule (codes "script"))
 
 -- the words are those of the command line, the program's name first
 abbrev pub is_read : List Text → Bool

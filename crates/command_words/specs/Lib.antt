@@ -2,5 +2,6 @@
 pub mod Commands
 pub mod Faults
 pub mod Limits
+pub mod Modes
 pub mod Texts
 pub mod Requests

@@ -1,6 +1,6 @@
 -- What the words of the command line ask for.
 --
---   Asked               a mode, the settings of a run, what is printed, the size of a trial and a script
+--   Asked               a mode, the settings of a run, what is printed, the size of a trial, a plan's name and a script
 --   asked_in rows       what the command's matches ask for
 --   asked words         what the words ask for; none exactly where they are refused
 --   asked_of request    what a request holds
@@ -19,6 +19,7 @@ use Rattle.command_words.specs.declared.requests.Mode.TheVariants.{Run}
 use Rattle.command_words.specs.declared.requests.Request.{Request}
 use Rattle.command_words.specs.Limits.{most_seed, most_size}
 use Rattle.command_words.specs.Commands.{command, is_read}
+use Rattle.command_words.specs.Modes.{has_its_plan}
 use Rattle.command_words.specs.Texts.{number_within, mode_of, shuffle_of, join_of}
 
 -- the settings of a run, each within its limits where the words are read
@@ -37,6 +38,7 @@ pub record Asked : Type 0 where
   pub plan : Bool
   pub traffic : Bool
   pub size : ℕ
+  pub from : Option (List ℕ)
   pub script : List ℕ
 
 -- an option that is not given has its usual value, and one that is given has what its text says
@@ -92,21 +94,27 @@ settings_given rows =
 
 -- what is asked for where each of its parts is told
 abbrev pub asked_from : Option Mode → Option AskedSettings → Option ℕ → Option (List ℕ) → Bool
-    → Bool → Option Asked
-asked_from mode settings size script plan traffic =
+    → Bool → Option (List ℕ) → Option Asked
+asked_from mode settings size script plan traffic from =
     option_and_then (λ m. option_and_then (λ s. option_and_then (λ n. option_map (λ t. record {
       mode = m;
       settings = s;
       plan = plan;
       traffic = traffic;
       size = n;
+      from = from;
       script = t;
     }) script) size) settings) mode
 
+-- a replay without the name of its plan is refused
+abbrev pub with_its_plan : Asked → Option Asked
+with_its_plan a = if has_its_plan a.mode a.from then Some a else None
+
 abbrev pub asked_in : List Row → Option Asked
 asked_in rows =
-    asked_from (mode_given rows) (settings_given rows) (size_given rows) (first_of (codes "script") rows)
-    (is_flag_given (codes "plan") rows) (is_flag_given (codes "traffic") rows)
+    option_and_then with_its_plan (asked_from (mode_given rows) (settings_given rows)
+    (size_given rows) (first_of (codes "script") rows) (is_flag_given (codes "plan") rows)
+    (is_flag_given (codes "traffic") rows) (first_of (codes "from") rows))
 
 abbrev pub asked : List Text → Option Asked
 asked words = if is_read words then asked_in (matches_of command words) else None
@@ -130,5 +138,6 @@ asked_of r = record {
   plan = r.plan;
   traffic = r.traffic;
   size = r.size;
+  from = r.from;
   script = r.script;
 }

@@ -13,7 +13,7 @@ use Rattle.algebra.specs.declared.settings.ShuffleKind.TheVariants.{Hc, Rs, Br}
 use Rattle.algebra.specs.declared.settings.JoinKind.{JoinKind}
 use Rattle.algebra.specs.declared.settings.JoinKind.TheVariants.{Tj, Hj}
 use Rattle.command_words.specs.declared.requests.Mode.{Mode}
-use Rattle.command_words.specs.declared.requests.Mode.TheVariants.{Run, Check, Explain, Trial}
+use Rattle.command_words.specs.declared.requests.Mode.TheVariants.{Run, Check, Explain, Trial, Export, Replay}
 
 abbrev pub is_numeral : List ℕ → Bool
 is_numeral text = not (length text == 0) && list_all is_ascii_digit text
@@ -33,6 +33,8 @@ mode_of text =
     else if bytes_eq text (codes "check") then Some Check
     else if bytes_eq text (codes "explain") then Some Explain
     else if bytes_eq text (codes "trial") then Some Trial
+    else if bytes_eq text (codes "export") then Some Export
+    else if bytes_eq text (codes "replay") then Some Replay
     else None
 
 abbrev pub shuffle_of : List ℕ → Option ShuffleKind

@@ -48,6 +48,7 @@ fn command<'a>(alloc: Global) -> Result<Command<'a>, AllocError>
         .arg(flag(alloc, "traffic"))?
         .arg(flag(alloc, "reduce"))?
         .arg(option(alloc, "size"))?
+        .arg(option(alloc, "from"))?
         .arg(word(alloc, "script"))
 }
 

@@ -1,5 +1,5 @@
 //! The words of the command line as what they ask for: a mode, the settings of a run, what is
-//! printed beside the stored relations, the size of a trial, and the script.
+//! printed beside the stored relations, the size of a trial, the plan of a replay, and the script.
 //!
 //! Stands on `clap`, which reads the words, `algebra` for the settings and `rel_base` for texts
 //! and limits. Reads nothing else and waits for nobody.

@@ -42,6 +42,14 @@ pub fn script_in<'a>(matches: &ArgMatches<'a>) -> Option<&'a str>
     matches.get_str("script")
 }
 
+/// The name of the plan, where one is named.
+pub fn plan_name_in<'a>(matches: &ArgMatches<'a>) -> Option<&'a str>
+    ensures { option_map (λ text. text.now) result
+        ≡ first_of (codes "from") (rows_of (found_of matches.now)) }
+{
+    matches.get_str("from")
+}
+
 /// The mode.
 pub fn mode_in(matches: &ArgMatches<'_>) -> Option<Mode>
     ensures { result ≡ spec.mode_given (rows_of (found_of matches.now)) }

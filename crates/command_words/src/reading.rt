@@ -1,11 +1,12 @@
 //! Reads the words.
-ghost use Rattle.std.specs.Prelude.{◌≡◌, IfOk, Err, Some, None, map};
-ghost use Rattle.clap.specs.Words.{found_of, rows_of};
+ghost use Rattle.std.specs.Prelude.{◌≡◌, IfOk, Err, Some, None, true, false, codes, map};
+ghost use Rattle.clap.specs.Words.{first_of, found_of, rows_of};
+ghost use Rattle.command_words.specs.Modes.{has_its_plan};
 ghost use Rattle.command_words.specs.Requests as spec;
 
 use crate::commands::matches_in;
-use crate::matches::{count_in, is_flag_in, mode_in, script_in, settings_in};
-use crate::{MOST_SIZE, Request, WordsFault};
+use crate::matches::{count_in, is_flag_in, mode_in, plan_name_in, script_in, settings_in};
+use crate::{MOST_SIZE, Mode, Request, WordsFault};
 use clap::ArgMatches;
 use rel_base::{Memory, Text};
 use std::alloc::Global;
@@ -52,12 +53,29 @@ fn request_in(alloc: Global, matches: &ArgMatches<'_>) -> Result<Request, WordsF
     let Some(script) = script_in(matches) else {
         return Err(WordsFault::Usage);
     };
+    let from = plan_of(alloc, matches, mode)?;
     Ok(Request {
         mode,
         settings,
         plan: is_flag_in(matches, "plan"),
         traffic: is_flag_in(matches, "traffic"),
         size,
+        from,
         script: Text::of(alloc, script)?,
     })
+}
+
+/// The name of the plan, where one is named; a replay has to name one.
+fn plan_of(alloc: Global, matches: &ArgMatches<'_>, mode: Mode) -> Result<Option<Text>, WordsFault>
+    ensures named { IfOk result
+        (λ name. first_of (codes "from") (rows_of (found_of matches.now)) ≡ name) }
+    ensures allowed { IfOk result (λ name. has_its_plan mode name ≡ true) }
+    ensures usage { result ≡ Err WordsFault.Usage
+        → has_its_plan mode (first_of (codes "from") (rows_of (found_of matches.now))) ≡ false }
+{
+    match plan_name_in(matches) {
+        Some(name) => Ok(Some(Text::of(alloc, name)?)),
+        None if mode == Mode::Replay => Err(WordsFault::Usage),
+        None => Ok(None),
+    }
 }

@@ -1,6 +1,7 @@
 //! What the words ask for, and why they are refused.
-ghost use Rattle.std.specs.Prelude.{◌≤◌};
+ghost use Rattle.std.specs.Prelude.{◌≡◌, ◌≤◌, true};
 ghost use Rattle.command_words.specs.Limits.{most_size};
+ghost use Rattle.command_words.specs.Modes.{has_its_plan};
 
 use algebra::Settings;
 use rel_base::{Memory, Text};
@@ -22,6 +23,10 @@ pub enum Mode {
     Explain,
     /// Runs a script of its own over relations that it makes.
     Trial,
+    /// Runs it at workers and prints how the rows of each of its joins met, as a plan.
+    Export,
+    /// Runs it at workers with its joins as a plan says, and prints what it stores.
+    Replay,
 }
 
 /// What the words of the command line ask for.
@@ -36,9 +41,12 @@ pub struct Request {
     pub traffic: bool,
     /// The rows of each relation of a trial, 1 to 100,000.
     pub size: u32,
+    /// The name of the plan, where one is named; a replay names one.
+    pub from: Option<Text>,
     /// The name of the script; any word where the mode is `Trial`.
     pub script: Text,
     pub ghost size_in_range: { (1 ≤ size) × (size ≤ most_size) },
+    pub ghost plan_named: { has_its_plan mode from ≡ true },
 }
 
 // Written out, since a derived drop is proved anew at each place where a value is let go.
@@ -50,6 +58,7 @@ impl Drop for Request {
             plan: _,
             traffic: _,
             size: _,
+            from: _,
             script: _,
         } = self;
     }

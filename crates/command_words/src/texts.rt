@@ -46,6 +46,8 @@ pub fn mode_of(text: &str) -> Option<Mode>
         "check" => Some(Mode::Check),
         "explain" => Some(Mode::Explain),
         "trial" => Some(Mode::Trial),
+        "export" => Some(Mode::Export),
+        "replay" => Some(Mode::Replay),
         _ => None,
     }
 }

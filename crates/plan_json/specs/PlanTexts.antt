@@ -7,6 +7,7 @@
 --   choice_in d                             the choice that a value is
 --   plan_in d                               the plan that a value is
 --   plan_of_text bytes                      the plan that a text is
+--   most_plan_bytes                         no file of a plan may have more bytes
 --   choice_data choice, plan_data plan      the value of a choice, and that of a plan
 --   written plan                            the text of a plan
 use Rattle.std.specs.Prelude.{ℕ, ◌==◌, ◌&&◌, nat_le, if◌then◌else◌, Bool, false, List, [], ◌∷◌, ◌++◌, map, length, codes, Option, Some, None, option_map, option_and_then}
@@ -107,6 +108,10 @@ value_in bytes = if is_utf8 bytes then read bytes else None
 -- the plan that a text is
 abbrev pub plan_of_text : List ℕ → Option PlanTree
 plan_of_text bytes = option_and_then plan_in (value_in bytes)
+
+-- no file of a plan may have more bytes
+abbrev pub most_plan_bytes : ℕ
+most_plan_bytes = 65536
 
 -- ---- what is written
 

@@ -19,5 +19,5 @@ mod values;
 mod writing;
 
 pub use laws::written_is_read;
-pub use reading::{PlanFault, read_plan};
+pub use reading::{MOST_PLAN_BYTES, PlanFault, read_plan};
 pub use writing::write_plan;

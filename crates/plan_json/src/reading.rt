@@ -14,6 +14,9 @@ use rel_base::{MOST_PIECES, MOST_WORKERS, Memory};
 use serde_json::Value;
 use std::alloc::Global;
 
+/// No file of a plan may have more bytes.
+pub const MOST_PLAN_BYTES: usize = 65_536;
+
 /// Why no plan was read.
 #[derive(Clone, Copy, Debug, PartialEq, Eq)]
 pub enum PlanFault {

@@ -9,7 +9,7 @@ ghost use Rattle.plan_json.specs.PlanTexts.{shuffle_by, shuffle_in};
 ghost use Rattle.plan_json.specs.PlanTexts.{statement_in};
 
 use crate::values::{has_members, items_within, number_in};
-use fragmenter::{Choice, How, no_shares, with_share};
+use fragmenter::{Choice, How};
 use rel_base::{MOST_PIECES, MOST_VARIABLES, MOST_WORKERS};
 use serde_json::Value;
 use share_chooser::Shares;
@@ -88,9 +88,9 @@ fn shares_of(values: &[Value]) -> Option<Shares>
     ensures { option_map shares_of result
         ≡ each_of (number_in 1 most_workers) (map view values.now) }
 {
-    let mut shares = no_shares();
+    let mut shares = Shares::empty();
     for value in values {
-        shares = with_share(shares, number_in(1, MOST_WORKERS, value)?);
+        shares = shares.with(number_in(1, MOST_WORKERS, value)?);
     }
     Some(shares)
 }

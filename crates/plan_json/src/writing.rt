@@ -8,7 +8,7 @@ ghost use Rattle.plan_json.specs.PlanTexts.{step_data};
 ghost use Rattle.placement.specs.Layouts.{ByCells};
 ghost use Rattle.share_chooser.specs.Shares.{shares_of};
 
-use fragmenter::{Choice, How, Plan, listed};
+use fragmenter::{Choice, How, Plan};
 use rel_base::Memory;
 use serde_json::{Value, json};
 use share_chooser::Shares;
@@ -81,7 +81,7 @@ fn value_of_cells(alloc: Global, statement: u32, shares: &Shares) -> Result<Valu
     ensures { IfOk result (λ value. view value
         ≡ step_data statement (ByCells (shares_of shares.now))) }
 {
-    let shares = value_of_shares(alloc, listed(shares))?;
+    let shares = value_of_shares(alloc, shares.as_slice())?;
     let value = json!(in alloc; {"shares": shares, "shuffle": "hc", "statement": statement})?;
     Ok(value)
 }

@@ -38,10 +38,24 @@ fn words_are_read(rt: HostRuntime) -> Result<(), Fail> {
 }
 
 #[test]
-fn bad_words_are_refused(rt: HostRuntime) -> Result<(), Fail> {
-    let words = ["myria", "--mode", "check", "--workers", "65", "q"];
+fn a_replay_has_the_name_of_its_plan(rt: HostRuntime) -> Result<(), Fail> {
+    let words = ["myria", "--mode=replay", "--from", "p.json", "q"];
     let texts = texts_of(rt.alloc(), words.as_slice())?;
-    let fault = read_words(rt.alloc(), texts.as_slice()).err();
-    assert_eq!(rt; fault, Some(WordsFault::Usage));
+    let request = read_words(rt.alloc(), texts.as_slice())?;
+    assert_eq!(rt; request.mode, Mode::Replay);
+    let name = request.from.as_ref().map(|name| name.as_str());
+    assert_eq!(rt; name, Some("p.json"));
+    Ok(())
+}
+
+#[test]
+fn bad_words_are_refused(rt: HostRuntime) -> Result<(), Fail> {
+    let many = ["myria", "--mode", "check", "--workers", "65", "q"];
+    let no_plan = ["myria", "--mode", "replay", "q"];
+    for words in [many.as_slice(), no_plan.as_slice()] {
+        let texts = texts_of(rt.alloc(), words)?;
+        let fault = read_words(rt.alloc(), texts.as_slice()).err();
+        assert_eq!(rt; fault, Some(WordsFault::Usage));
+    }
     Ok(())
 }

@@ -17,4 +17,5 @@ returns c =
     let traffic = added c.in_ok-arg-8.field-0 c.in_ok-arg-9.field-0 c.flag-2.result _ _ c.in_ok-arg-9.ensures c.flag-2.ensures.local plan c.flag-2.ensures.rule in
     let reduce = added c.in_ok-arg-9.field-0 c.in_ok-arg-10.field-0 c.flag-3.result _ _ c.in_ok-arg-10.ensures c.flag-3.ensures.local traffic c.flag-3.ensures.rule in
     let size = added c.in_ok-arg-10.field-0 c.in_ok-arg-11.field-0 c.option-8.result _ _ c.in_ok-arg-11.ensures c.option-8.ensures.local reduce c.option-8.ensures.rule in
-    IfOk-weaker c.arg-12.result _ _ (λ made h. added c.in_ok-arg-11.field-0 made c.word.result _ _ h c.word.ensures.local size c.word.ensures.rule) c.arg-12.ensures
+    let from = added c.in_ok-arg-11.field-0 c.in_ok-arg-12.field-0 c.option-9.result _ _ c.in_ok-arg-12.ensures c.option-9.ensures.local size c.option-9.ensures.rule in
+    IfOk-weaker c.arg-13.result _ _ (λ made h. added c.in_ok-arg-12.field-0 made c.word.result _ _ h c.word.ensures.local from c.word.ensures.rule) c.arg-13.ensures

@@ -22,6 +22,6 @@ loop-value-preserved c =
     let value = c.value-item.result in
     let more : take (k + 1) values ≡ take k values ++ value ∷ [] = search (rules, take_more) in (
       each_more (number_in 1 most_workers) values k value more c.loop-value.invariant.0 (sym c.in_ok-number_in.ensures)
-          ∙ ap Some (sym c.with_share-shares.ensures.shares),
-      omega (arith, c.with_share-shares.ensures.count, c.loop-value.invariant.1),
+          ∙ ap Some (sym c.with-shares.ensures.shares),
+      omega (arith, c.with-shares.ensures.count, c.loop-value.invariant.1),
     )
