@@ -1,5 +1,5 @@
 -- What was read of each file by itself allows the answer.
-use Rattle.std.proofs.Common.{◌≡◌, ◌<◌, ◌+◌, ℕ, suc, List, [], ◌∷◌, length, get_or, take, drop, sym, subst, Ok, Err, Result}
+use Rattle.std.proofs.Common.{◌≡◌, ◌<◌, ◌+◌, ℕ, suc, List, [], ◌∷◌, length, get_or, take, drop, sym, subst, inl, inr, Ok, Err, Result}
 use Rattle.std.specs.Prelude.{All, IfErr}
 use Rattle.std.proofs.lemmas.List.Elements.{All-append, All-cons, All-nil}
 use Rattle.rel_base.specs.Relations.{RelationState}
@@ -17,7 +17,7 @@ use Rattle.myria_top.specs.Reading.{AgreesRefused, Meets, RefusesBy}
 use Rattle.myria_top.specs.Runs.{relation_verdict}
 use Rattle.myria_top.specs.Scripts.{ScriptComesTo}
 use Rattle.myria_top.specs.Verdicts.{Verdict, untold, refused, passes, IfTold}
-use Rattle.myria_top.specs.inner.Working.{HasFirstBad, IsAllowed, IsOfKey, IsOfRun, IsOfScript}
+use Rattle.myria_top.specs.inner.Working.{HasFirstBad, IsAllowed, IsOfKey, IsOfPlan, IsOfReplay, IsOfRun, IsOfScript}
 use Rattle.myria_top.proofs.FetchLemmas.{split_at, take_more}
 use Rattle.myria_top.proofs.VerdictLemmas.{step_met}
 
@@ -110,6 +110,21 @@ module _ (content : List ℕ → Content) (name : List ℕ) (script : List State
     refusal-allowed (outcome.AggregateOverflow statement) own = need (All (MayBeGood content)) good
     refusal-allowed outcome.Memory own = tt
     refusal-allowed answer own = absurd own
+
+    plan-allowed : (answer : Outcome) → IsOfPlan answer → Allows content name answer
+    plan-allowed outcome.NoPlan own = need (All (MayBeGood content)) good
+    plan-allowed outcome.PlanTooLong own = need (All (MayBeGood content)) good
+    plan-allowed outcome.BadPlan own = need (All (MayBeGood content)) good
+    plan-allowed (outcome.PlanWorkers workers) own = need (All (MayBeGood content)) good
+    plan-allowed (outcome.PlanMisfit statement) own = need (All (MayBeGood content)) good
+    plan-allowed (outcome.ReadFault file) own = tt
+    plan-allowed outcome.Memory own = tt
+    plan-allowed answer own = absurd own
+
+    pub replay_allowed : (result : Result Unprinted Outcome) → IfErr result IsOfReplay → IsAllowed content name result
+    replay_allowed (Ok unprinted) own = need (All (MayBeGood content)) good
+    replay_allowed (Err answer) (inl own) = refusal-allowed answer own
+    replay_allowed (Err answer) (inr own) = plan-allowed answer own
 
     pub run_allowed : (result : Result Unprinted Outcome) → IfErr result IsOfRun → IsAllowed content name result
     run_allowed (Ok unprinted) own = need (All (MayBeGood content)) good

@@ -20,7 +20,7 @@ use Rattle.myrial_ast.specs.CandidateFaults.{too_many, PrefixRule, Counted, Unco
 use Rattle.myrial_meaning.specs.Environments.{nothing_yet}
 use Rattle.myrial_meaning.specs.Meaning.{RelationEnvironment, item_relation, tables_of, after}
 use Rattle.myrial_meaning.specs.Needed.{is_needed}
-use Rattle.myrial_meaning.specs.Faults.{widths_of, relation_fault, statement_fault, fault_from}
+use Rattle.myrial_meaning.specs.Faults.{widths_of, relation_fault, statement_fault, in_each, fault_from}
 use Rattle.placement.proofs.CellLemmas.{each, combinations-filter}
 use Rattle.placement.proofs.MemberLemmas.{filter-twice}
 use Rattle.myria_top.specs.Reducing.{ReducingAddsNoFault}
@@ -185,12 +185,12 @@ module _ (prefixes : PrefixRule) (files : List File) where
   both-none (Some f) later h = absurd (cc)
 
   first-none : (number : ℕ) (env : RelationEnvironment) (script : List StatementTree)
-      → fault_from (rule false) files number env script ≡ None → fault_from (rule true) files number env script ≡ None
+      → fault_from (in_each (rule false)) files number env script ≡ None → fault_from (in_each (rule true)) files number env script ≡ None
   first-none number env [] none = refl
   first-none number env (s ∷ rest) none =
       let next = after files env s in
-      let parts = both-none (own_fault false number env s rest) (fault_from (rule false) files (suc number) next rest) none in
-      ap (λ own. or_later own (fault_from (rule true) files (suc number) next rest)) (own-none number env s rest parts.0)
+      let parts = both-none (own_fault false number env s rest) (fault_from (in_each (rule false)) files (suc number) next rest) none in
+      ap (λ own. or_later own (fault_from (in_each (rule true)) files (suc number) next rest)) (own-none number env s rest parts.0)
       ∙ first-none (suc number) next rest parts.1
 
 pub reducing_adds_no_fault : ReducingAddsNoFault

@@ -13,6 +13,9 @@ mod PrintedLemmas
 mod RunLemmas
 mod CheckedLemmas
 mod MoveLemmas
+mod ReplayLemmas
+mod ExportLemmas
 mod WordsLemmas
 mod TrialAnswerLemmas
 mod WorkedRows
+mod WorkedPlans

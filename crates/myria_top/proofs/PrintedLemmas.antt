@@ -16,7 +16,7 @@ use Rattle.output_texts.proofs.StoreLemmas.{stores-text, stores-trial, unplaced}
 use Rattle.command_words.specs.declared.requests.Mode.{Mode}
 use Rattle.command_words.specs.declared.requests.Mode.TheVariants as mode
 use Rattle.command_words.specs.declared.requests.Request.{Request}
-use Rattle.myria_top.specs.Printed.{notes_text, text_in, text_of_mode}
+use Rattle.myria_top.specs.Printed.{asked_traffic, notes_text, text_in, text_of_mode}
 
 text-same : (m : Mode) (r : Request) (stored others : List File) (plan : List PlanNote) (traffic : List Traffic)
     → output_text stored ≡ output_text others → trial_text r.size (all_rows stored) ≡ trial_text r.size (all_rows others)
@@ -25,6 +25,8 @@ text-same mode.Run r stored others plan traffic same trial = ap (λ text. text +
 text-same mode.Check r stored others plan traffic same trial = same
 text-same mode.Explain r stored others plan traffic same trial = refl
 text-same mode.Trial r stored others plan traffic same trial = ap (λ text. text ++ notes_text r plan traffic) trial
+text-same mode.Export r stored others plan traffic same trial = refl
+text-same mode.Replay r stored others plan traffic same trial = ap (λ text. text ++ asked_traffic r traffic) same
 
 pub text-placed : (r : Request) (n : ℕ) (stored : List SpreadStore) (placed : List (Key × PlacedRelation)) (plan : List PlanNote)
     (traffic : List Traffic) → AreStoredAt stored placed → All (λ (p : Key × PlacedRelation). IsPlaced n p.1) placed

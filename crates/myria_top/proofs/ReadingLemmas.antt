@@ -49,7 +49,7 @@ module _ {X : Type 0} (most : ℕ) (if_missing if_long : Outcome) (read : List �
       subst (λ (s : Verdict X). IfTold s (λ t. t ≡ refused if_long)) (sym is) refl
 
   -- no more came, so the bytes are the whole file
-  whole : (file bytes : List ℕ) → bytes ≡ take (most + 1) file → length bytes ≤ most → step (outside.there file) ≡ read bytes
+  pub whole : (file bytes : List ℕ) → bytes ≡ take (most + 1) file → length bytes ≤ most → step (outside.there file) ≡ read bytes
   whole file bytes given short =
       let size : length bytes ≡ min (most + 1) (length file) = ap length given ∙ length-take (most + 1) file in
       let fits : length file ≤ most = omega arith in

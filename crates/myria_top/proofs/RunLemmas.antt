@@ -1,5 +1,5 @@
 -- What a script comes to over its files, and what is asked for and the files come to.
-use Rattle.std.proofs.Common.{◌≡◌, ℕ, true, false, List, Option, Some, Ok, Err, Result, refl, sym, ap, subst, inl, inr, arith}
+use Rattle.std.proofs.Common.{◌≡◌, ℕ, true, false, List, Option, Some, None, Ok, Err, Result, refl, sym, ap, subst, inl, inr, arith}
 use Rattle.std.specs.Prelude.{IfErr}
 use Rattle.rel_base.specs.Keys.{File}
 use Rattle.exchange_channels.specs.Wirings.{ReceiptState}
@@ -19,38 +19,50 @@ use Rattle.algebra.specs.Trees.{CheckedTree}
 use Rattle.rel_io.specs.Shelves.{CallCounts}
 use Rattle.trial_gen.specs.TrialScript.{trial_script}
 use Rattle.command_words.specs.declared.requests.Request.{Request}
+use Rattle.command_words.specs.Modes.{is_replay}
 use Rattle.command_words.specs.Requests.{Asked}
 use Rattle.myria_top.specs.declared.outcomes.Outcome.{Outcome}
 use Rattle.myria_top.specs.declared.outcomes.Outcome.TheVariants as outcome
-use Rattle.myria_top.specs.Headline.{Run, Decides, IsInPlace, Explains, IsAskedOf, TellsLine, of_untold, a_relation}
+use Rattle.myria_top.specs.Headline.{Run, Decides, IsInPlace, Explains, IsAskedOf, TellsLine, of_untold, a_relation, the_plan}
 use Rattle.myria_top.specs.Reading.{Agrees, AgreesBy, AgreesRefused, HasCause, Meets, ReadsBy, ReadsStep, RefusesBy}
+use Rattle.myria_top.specs.Plans.{plan_named}
 use Rattle.myria_top.specs.Requests.{Asks, is_trial, script_asked}
 use Rattle.myria_top.specs.Scripts.{ScriptComesTo, TextComesTo, not_text, bad_token, bad_piece, a_script, not_told, no_script, too_long, short}
 use Rattle.myria_top.specs.Verdicts.{Verdict, untold, refused, passes, and_then, IfTold}
-use Rattle.myria_top.specs.Runs.{ComesTo, of_script, of_trial, IsFileOf, files_verdict, printed_verdict, run_verdict, trial_verdict, typed_verdict, typing_answer, when_typed}
+use Rattle.myria_top.specs.Runs.{ComesTo, of_script, of_trial, IsReadFor, of_file, of_plan, files_verdict, plain_verdict, planned_verdict, printed_verdict, run_verdict, trial_verdict, typed_verdict, typing_answer, when_typed}
 use Rattle.myria_top.proofs.OneAnswerLemmas.{comes_to_one}
-use Rattle.myria_top.proofs.RequestLemmas.{script-named}
+use Rattle.myria_top.proofs.RequestLemmas.{script-named, plan-asked, unplanned}
 use Rattle.myria_top.proofs.VerdictLemmas.{LiesWithin, HasCause-part, met, met_further, goes_second, passes-one, step_met, meets_step, refused_first, refused_second}
 
 -- ---- the run of a script
 
 module _ (r : Request) (script : List StatementTree) (files : List File) where
   -- a script that is typed comes to its run
-  pub typed_runs : (c : CheckedTree) → checked_of files script ≡ Ok c → run_verdict r script files ≡ typed_verdict r script files c
-  typed_runs c e = ap (λ (t : Result CheckedTree TypeFault). when_typed t (typed_verdict r script files)) e
+  pub typed_runs : (c : CheckedTree) → checked_of files script ≡ Ok c → plain_verdict r script files ≡ typed_verdict r script files c None
+  typed_runs c e = ap (λ (t : Result CheckedTree TypeFault). when_typed t (λ d. typed_verdict r script files d None)) e
+
+  -- where it goes by no plan, it does so whatever the files are
+  pub unplanned_runs : (content : List ℕ → Content) → is_replay r.mode ≡ false → run_verdict r content script files ≡ plain_verdict r script files
+  unplanned_runs content other =
+      λ i. when_typed (checked_of files script) (λ c. and_then (unplanned r content c other i) (typed_verdict r script files c))
+
+  -- in a replay it comes to its plan, and then to its run
+  pub replay_runs : (content : List ℕ → Content) (c : CheckedTree) → checked_of files script ≡ Ok c
+      → run_verdict r content script files ≡ planned_verdict r content script files c
+  replay_runs content c e = ap (λ (t : Result CheckedTree TypeFault). when_typed t (planned_verdict r content script files)) e
 
   -- and one that isn't to the answer of its fault
-  typing_refuses_at : (typing : Result CheckedTree TypeFault) (number : ℕ) (kind : TypeKind) → typing ≡ Err (refusal.At number kind)
-      → AgreesRefused (when_typed typing (typed_verdict r script files)) (outcome.Typing number kind)
-  typing_refuses_at typing number kind e =
+  typing_refuses_at : (further : CheckedTree → Verdict (List ℕ)) (typing : Result CheckedTree TypeFault) (number : ℕ) (kind : TypeKind)
+      → typing ≡ Err (refusal.At number kind) → AgreesRefused (when_typed typing further) (outcome.Typing number kind)
+  typing_refuses_at further typing number kind e =
       meets_step _ (refused (outcome.Typing number kind))
-      (subst (λ t. IfTold (when_typed t (typed_verdict r script files)) (λ s. s ≡ refused (outcome.Typing number kind))) (sym e) refl)
+      (subst (λ t. IfTold (when_typed t further) (λ s. s ≡ refused (outcome.Typing number kind))) (sym e) refl)
 
-  pub typing_refuses : (why : TypeFault) (answer : Outcome) → answer ≡ typing_answer why → IsFault why (checked_of files script)
-      → AgreesRefused (run_verdict r script files) answer
-  typing_refuses (refusal.At number kind) answer is h =
-      subst (AgreesRefused (run_verdict r script files)) (sym is) (typing_refuses_at (checked_of files script) number kind h)
-  typing_refuses refusal.Memory answer is h = subst (AgreesRefused (run_verdict r script files)) (sym is) tt
+  pub typing_refuses : (further : CheckedTree → Verdict (List ℕ)) (why : TypeFault) (answer : Outcome) → answer ≡ typing_answer why
+      → IsFault why (checked_of files script) → AgreesRefused (when_typed (checked_of files script) further) answer
+  typing_refuses further (refusal.At number kind) answer is h =
+      subst (AgreesRefused (when_typed (checked_of files script) further)) (sym is) (typing_refuses_at further (checked_of files script) number kind h)
+  typing_refuses further refusal.Memory answer is h = subst (AgreesRefused (when_typed (checked_of files script) further)) (sym is) tt
 
 -- ---- one step, and then another
 
@@ -63,16 +75,16 @@ agrees_behind s f x (Err answer) read h = refused_second s f x answer read h
 -- what the run comes to over the files that were read
 pub run_agrees : (r : Request) (content : List ℕ → Content) (script : List StatementTree) (needed : List Fetch) (files : List File)
     (result : Result (List ℕ) Outcome) → needed ≡ fetches script → Meets (λ s. s ≡ files_verdict content needed) (passes files)
-    → Agrees (run_verdict r script files) result → Agrees (printed_verdict r content script) result
+    → Agrees (run_verdict r content script files) result → Agrees (printed_verdict r content script) result
 run_agrees r content script needed files result same read h =
     let told = subst (λ fs. IfTold (files_verdict content fs) (λ s. s ≡ passes files)) same (step_met (files_verdict content needed) (passes files) read) in
-    agrees_behind (files_verdict content (fetches script)) (run_verdict r script) files result told h
+    agrees_behind (files_verdict content (fetches script)) (run_verdict r content script) files result told h
 
 -- and where the files refuse
 pub files_refuse : (r : Request) (content : List ℕ → Content) (script : List StatementTree) (needed : List Fetch) (answer : Outcome)
     → needed ≡ fetches script → AgreesRefused (files_verdict content needed) answer → AgreesRefused (printed_verdict r content script) answer
 files_refuse r content script needed answer same h =
-    refused_first (files_verdict content (fetches script)) (run_verdict r script) answer
+    refused_first (files_verdict content (fetches script)) (run_verdict r content script) answer
     (subst (λ fs. AgreesRefused (files_verdict content fs) answer) same h)
 
 -- a relation is met by a step that comes to what was met before it
@@ -130,8 +142,9 @@ module _ (asked : Option Asked) (content : List ℕ → Content) (r : Request) (
         met_further (ScriptComesTo (content r.script)) (ComesTo asked content) (printed_verdict r content) script-comes answer h
 
     is_asked : (script : List StatementTree) (file : List ℕ) → Meets (ScriptComesTo (content r.script)) (passes script)
-        → IsFileOf (fetches script) file → IsAskedOf asked content file
-    is_asked script file m f = told m.step m.comes m.is
+        → IsReadFor r (fetches script) file → IsAskedOf asked content file
+    is_asked script file m (of_plan replay f) = subst (IsAskedOf asked content) (sym f) (the_plan (plan_named r) (plan-asked asked r asks replay))
+    is_asked script file m (of_file f) = told m.step m.comes m.is
       where
         told : (s : Verdict (List StatementTree)) → ScriptComesTo (content r.script) s → IfTold s (λ t. t ≡ passes script) → IsAskedOf asked content file
         told untold comes is = of_untold r.script file named (not_told_is (content r.script) comes)
@@ -143,7 +156,7 @@ module _ (asked : Option Asked) (content : List ℕ → Content) (r : Request) (
 
     cause_on : (script : List StatementTree) (part run : CallCounts) (result : Result (List ℕ) Outcome)
         → Meets (ScriptComesTo (content r.script)) (passes script) → LiesWithin part run
-        → IfErr result (HasCause part (IsFileOf (fetches script))) → IfErr result (HasCause run (IsAskedOf asked content))
+        → IfErr result (HasCause part (IsReadFor r (fetches script))) → IfErr result (HasCause run (IsAskedOf asked content))
     cause_on script part run (Ok text) m within h = tt
     cause_on script part run (Err answer) m within h =
         HasCause-part part run _ (IsAskedOf asked content) answer within (λ file f. is_asked script file m f) h
@@ -151,7 +164,7 @@ module _ (asked : Option Asked) (content : List ℕ → Content) (r : Request) (
     -- the script was read, and then its run was prepared on the same content
     pub reads_on : (script : List StatementTree) (same : List ℕ → Content) (part run : CallCounts) (result : Result (List ℕ) Outcome)
         → Meets (ScriptComesTo (content r.script)) (passes script) → same ≡ content → LiesWithin part run
-        → ReadsStep (printed_verdict r same script) part (IsFileOf (fetches script)) result
+        → ReadsStep (printed_verdict r same script) part (IsReadFor r (fetches script)) result
         → ReadsBy (ComesTo asked content) run (IsAskedOf asked content) result
     reads_on script same part run result m is within h = record {
       agrees =

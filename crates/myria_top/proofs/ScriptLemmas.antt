@@ -28,7 +28,7 @@ module _ {X : Type 0} (Comes Further : Verdict X → Type 0) (further : (s : Ver
   refused_further outcome.Memory h = tt
   refused_further answer h = met (refused answer) h
 
-  agrees_further : (r : Result X Outcome) → AgreesBy Comes r → AgreesBy Further r
+  pub agrees_further : (r : Result X Outcome) → AgreesBy Comes r → AgreesBy Further r
   agrees_further (Ok x) h = met (passes x) h
   agrees_further (Err answer) h = refused_further answer h
 
@@ -44,7 +44,7 @@ module _ {X : Type 0} (Comes Further : Verdict X → Type 0) (further : Further 
   refused_untold outcome.Memory h = tt
   refused_untold answer h = met_untold (refused answer)
 
-  agrees_untold : (r : Result X Outcome) → AgreesBy Comes r → AgreesBy Further r
+  pub agrees_untold : (r : Result X Outcome) → AgreesBy Comes r → AgreesBy Further r
   agrees_untold (Ok x) h = met_untold (passes x)
   agrees_untold (Err answer) h = refused_untold answer h
 
@@ -82,7 +82,7 @@ of_text counts P (outcome.TooMany statement what) h = tt
 of_text counts P outcome.Memory h = tt
 of_text counts P answer h = absurd h
 
-of_run : (counts : CallCounts) (P : List ℕ → Type 0) (answer : Outcome) → IsOfRun answer → HasCause counts P answer
+pub of_run : (counts : CallCounts) (P : List ℕ → Type 0) (answer : Outcome) → IsOfRun answer → HasCause counts P answer
 of_run counts P (outcome.Typing statement kind) h = tt
 of_run counts P (outcome.TooManyRows statement) h = tt
 of_run counts P (outcome.Overflow statement) h = tt

@@ -15,9 +15,9 @@ use Rattle.myria_top.specs.Verdicts.{Verdict, passes, refused}
 use Rattle.myria_top.specs.Requests.{script_asked}
 use Rattle.myria_top.specs.Scripts.{a_script}
 use Rattle.myria_top.specs.Runs.{of_trial, run_answer, trial_verdict, typed_verdict, when_typed}
-use Rattle.myria_top.specs.Headline.{Run, IsAskedOf, the_script, of_untold, a_relation, Explains, IsInPlace, IsDone, Decides}
+use Rattle.myria_top.specs.Headline.{Run, IsAskedOf, the_script, of_untold, a_relation, the_plan, Explains, IsInPlace, IsDone, Decides}
 use Rattle.myria_top.specs.TrialAnswers.{IsOfTrial, TrialsAreOfTheirRun}
-use Rattle.myria_top.proofs.RequestLemmas.{no-script, none-some}
+use Rattle.myria_top.proofs.RequestLemmas.{no-plan, no-script, none-some}
 
 -- ---- no file is asked for
 
@@ -26,6 +26,7 @@ module _ (run : Run) (none : script_asked run.asked ≡ None) where
   unasked name (the_script _ named) = none-some (sym none ∙ named)
   unasked name (of_untold _ _ named untold) = none-some (sym none ∙ named)
   unasked name (a_relation _ _ _ named read is_one) = none-some (sym none ∙ named)
+  unasked name (the_plan _ named) = no-plan run.asked name none named
 
   -- so nothing could not be read
   in_place : (answer : Outcome) → Explains run answer → IsInPlace answer → IsOfTrial answer
@@ -47,6 +48,11 @@ module _ (run : Run) (none : script_asked run.asked ≡ None) where
   in_place (outcome.Overflow statement) why is = absurd is
   in_place (outcome.AggregateOverflow statement) why is = absurd is
   in_place outcome.WriteFault why is = absurd is
+  in_place outcome.NoPlan why is = absurd is
+  in_place outcome.PlanTooLong why is = absurd is
+  in_place outcome.BadPlan why is = absurd is
+  in_place (outcome.PlanWorkers workers) why is = absurd is
+  in_place (outcome.PlanMisfit statement) why is = absurd is
 
   -- ---- its run is done or has a fault
 
@@ -75,6 +81,11 @@ module _ (run : Run) (none : script_asked run.asked ≡ None) where
   done (outcome.ReadFault name) is = absurd is
   done outcome.WriteFault is = absurd is
   done outcome.Memory is = absurd is
+  done outcome.NoPlan is = absurd is
+  done outcome.PlanTooLong is = absurd is
+  done outcome.BadPlan is = absurd is
+  done (outcome.PlanWorkers workers) is = absurd is
+  done (outcome.PlanMisfit statement) is = absurd is
 
   decided : (answer : Outcome) → Explains run answer → (found : Option RunFault) (text : List ℕ)
       → Decides (option_map_or (λ f. refused (run_answer f)) found (passes text)) answer → IsOfTrial answer
@@ -88,7 +99,7 @@ pub trial-answers : ReadsAs trial_script trial_trees → ((n : ℕ) → checked_
     → TrialsAreOfTheirRun
 trial-answers read typed run err answer r kept asks trial =
     let comes = of_trial r (passes trial_trees) asks trial (a_script read.tokens trial_trees read.are read.is) in
-    let same : trial_verdict r trial_trees ≡ typed_verdict r trial_trees (trial_files r.size) trial_checked =
-    ap (λ c. when_typed c (typed_verdict r trial_trees (trial_files r.size))) (typed r.size) in
+    let same : trial_verdict r trial_trees ≡ typed_verdict r trial_trees (trial_files r.size) trial_checked None =
+    ap (λ c. when_typed c (λ d. typed_verdict r trial_trees (trial_files r.size) d None)) (typed r.size) in
     decided run (no-script run.asked r asks trial) answer kept.explained _ _
     (subst (λ (s : Verdict (List ℕ)). Decides s answer) same (kept.decided (trial_verdict r trial_trees) comes))

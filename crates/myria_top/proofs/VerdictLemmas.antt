@@ -1,5 +1,6 @@
 -- Steps one after another, and what calls that came to them show.
-use Rattle.std.proofs.Common.{◌≡◌, ℕ, ◌≤◌, List, [], ◌∷◌, ◌++◌, fold, refl, sym, ap, subst, arith}
+use Rattle.std.proofs.Common.{◌≡◌, ℕ, ◌≤◌, List, [], ◌∷◌, ◌++◌, fold, Result, Ok, Err, refl, sym, ap, subst, arith}
+use Rattle.std.specs.Prelude.{IfErr}
 use Rattle.rel_base.specs.Keys.{File}
 use Rattle.rel_base.specs.Relations.{RelationState}
 use Rattle.rel_io.specs.Outside.{Content}
@@ -125,12 +126,19 @@ pub record LiesWithin (part run : CallCounts) : Type 0 where
 -- a cause in a part of a run is a cause in the run
 pub HasCause-part : (part run : CallCounts) (P Q : List ℕ → Type 0) (answer : Outcome) → LiesWithin part run → ((name : List ℕ) → P name → Q name) → HasCause part P answer → HasCause run Q answer
 HasCause-part part run P Q outcome.NoScript w f h = Rose-part _ _ _ _ w.misses_from w.misses_on w.misses_to h
+HasCause-part part run P Q outcome.NoPlan w f h = Rose-part _ _ _ _ w.misses_from w.misses_on w.misses_to h
 HasCause-part part run P Q (outcome.NoRelation key) w f h =
     (Rose-part _ _ _ _ w.misses_from w.misses_on w.misses_to h.0, f (file_name_of key) h.1)
 HasCause-part part run P Q (outcome.RelTooLong key) w f h = f (file_name_of key) h
 HasCause-part part run P Q (outcome.BadRelation key fault) w f h = f (file_name_of key) h
 HasCause-part part run P Q (outcome.ReadFault name) w f h = (Rose-part _ _ _ _ w.faults_from w.faults_on w.faults_to h.0, f name h.1)
 HasCause-part part run P Q answer w f h = tt
+
+-- and so it is where a call may have refused
+pub HasCause-within : {X : Type 0} (part run : CallCounts) (P Q : List ℕ → Type 0) (r : Result X Outcome) → LiesWithin part run
+    → ((name : List ℕ) → P name → Q name) → IfErr r (HasCause part P) → IfErr r (HasCause run Q)
+HasCause-within part run P Q (Ok x) w f h = tt
+HasCause-within part run P Q (Err answer) w f h = HasCause-part part run P Q answer w f h
 
 -- a run is a part of itself
 pub within_itself : (counts : CallCounts) → counts.before.faults ≤ counts.after.faults → counts.before.misses ≤ counts.after.misses → LiesWithin counts counts

@@ -59,7 +59,7 @@ unread-at run err fault none silent told =
       words_exactly = (unread-usage run fault none, λ e. unread-answer fault);
       decided = decided run (words_answer fault) explained;
       each_file = unread-each run fault none;
-      told = subst (TellsLine err) (unnamed-line fault [] (name_given run.asked)) told;
+      told = subst (TellsLine err) (unnamed-line fault [] (name_given run.asked (words_answer fault))) told;
     }
 
 pub headline-unread : (run : Run) (err : Written) (fault : WordsFault) (answer : Outcome) → answer ≡ words_answer fault
@@ -99,7 +99,8 @@ read-each run r answer asks each name named = by (is_trial r.mode) refl
 
 pub headline-read : (run : Run) (err : Written) (r : Request) (answer : Outcome) → Asks run.asked r
     → Explains (record run { asked = Some (asked_of r) }) answer → (is_trial r.mode ≡ false → Allows run.content r.script answer)
-    → answer ≢ outcome.Usage → TellsLine err (line_of r.script answer) → Headline run err answer
+    → answer ≢ outcome.Usage → TellsLine err (line_of (name_given (Some (asked_of r)) answer) answer)
+    → Headline run err answer
 headline-read run err r answer asks explained each no_usage told =
     let own : Explains run answer = subst (λ (a : Option Asked). Explains (record run { asked = a }) answer) (sym asks) explained in
     record {
@@ -107,7 +108,7 @@ headline-read run err r answer asks explained each no_usage told =
       words_exactly = (λ usage. absurd (no_usage usage), λ none. absurd (read-asks run.asked r none asks));
       decided = decided run answer own;
       each_file = read-each run r answer asks each;
-      told = subst (λ (a : Option Asked). TellsLine err (line_of (name_given a) answer)) (sym asks) told;
+      told = subst (λ (a : Option Asked). TellsLine err (line_of (name_given a answer) answer)) (sym asks) told;
     }
 
 pub moved-read : {T : Type 0} (asked : Option Asked) (r : Request) (content : List ℕ → Content) (totals : T → Totals) (tag : T → ℕ)

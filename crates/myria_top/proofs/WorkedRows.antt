@@ -17,7 +17,6 @@ use Rattle.clap.proofs.OnLiterals.{clap_on_literals}
 use Rattle.share_chooser.specs.Load as load
 use Rattle.command_words.specs.Commands.{command}
 use Rattle.command_words.specs.Requests.{asked}
-use Rattle.command_words.specs.declared.requests.Mode.{Mode}
 use Rattle.command_words.specs.declared.requests.Mode.TheVariants as mode
 use Rattle.command_words.specs.declared.requests.Request.{Request}
 use Rattle.myrial_ast.specs.Loads.{load_key}
@@ -44,7 +43,7 @@ use Rattle.myria_top.specs.Requests.{script_asked, takes_workers}
 use Rattle.myria_top.specs.Runs.{files_verdict, printed_verdict, trial_verdict}
 use Rattle.myria_top.specs.Scripts.{ScriptComesTo, TextComesTo, no_script, too_long, short, not_text, bad_token, bad_piece, a_script}
 
-abbrev adhoc : Name → Key
+abbrev pub adhoc : Name → Key
 adhoc name = record { user = codes "public"; program = codes "adhoc"; name = name }
 
 -- a shelf of one file
@@ -70,15 +69,14 @@ usual = record {
   plan = false;
   traffic = false;
   size = 1000;
+  from = None;
   script = codes "q";
   size_in_range = (omega arith, omega arith);
+  plan_named = refl;
 }
 
-abbrev in_mode : Mode → Request
-in_mode m = record usual { mode = m }
-
 -- two workers, by this shuffle, with the plan and the traffic
-abbrev two_workers : ShuffleKind → Request
+abbrev pub two_workers : ShuffleKind → Request
 two_workers kind = record usual {
   settings = record usual.settings {
     workers = 2;
@@ -91,7 +89,7 @@ two_workers kind = record usual {
 
 -- ---- the script that words ask for
 
-abbrev myria : List (List ℕ) → List (List ℕ)
+abbrev pub myria : List (List ℕ) → List (List ℕ)
 myria words = codes "myria" ∷ words
 
 pub asked-script : script_asked (asked (myria (codes "q" ∷ []))) ≡ Some (codes "q")
@@ -192,7 +190,7 @@ printed-bad_file_of_a_join = refl
 
 -- ---- a join in other modes, and its plan and traffic
 
-pub printed-check : printed_verdict (in_mode mode.Check) edges (join_with (codes "y"))
+pub printed-check : printed_verdict (record usual { mode = mode.Check }) edges (join_with (codes "y"))
     ≡ passes (codes "-- store public:adhoc:Out 5 rows\nx:int,y:int\n1,3\n1,3\n2,1\n2,1\n3,2\n")
 unfolding files_on_literals
 printed-check = refl
@@ -201,7 +199,7 @@ abbrev keys : List ℕ → Content
 keys = shelf_of (codes "public:adhoc:R.csv") (codes "x:int\n0\n1\n2\n3\n")
 
 -- J = [from scan(R) as a, scan(R) as b where a.x = b.x emit a.x]; store(J, Out);
-abbrev join_of_keys : List StatementTree
+abbrev pub join_of_keys : List StatementTree
 join_of_keys =
     Assign (codes "J") (From (item (codes "a") ∷ item (codes "b") ∷ []) (Some (Bin op.Eq (column (codes "a") (codes "x")) (column (codes "b") (codes "x"))))
     (One (column (codes "a") (codes "x")) None ∷ [])) ∷ Store (codes "J") (adhoc (codes "Out")) ∷ []
@@ -235,7 +233,7 @@ unfolding files_on_literals digits load.comes_before load.load_of
 printed-trial = refl
 
 -- the plan alone
-pub printed-plan : printed_verdict (in_mode mode.Explain) (shelf_of (codes "public:adhoc:R.csv") (codes "x:int,y:int\n3,1\n1,2\n2,5\n")) scan_and_store
+pub printed-plan : printed_verdict (record usual { mode = mode.Explain }) (shelf_of (codes "public:adhoc:R.csv") (codes "x:int,y:int\n3,1\n1,2\n2,5\n")) scan_and_store
     ≡ passes (codes "-- plan 1 copy rows 3\n")
 unfolding files_on_literals digits
 printed-plan = refl

@@ -18,7 +18,7 @@ use Rattle.myria_top.specs.declared.outcomes.Outcome.{Outcome}
 use Rattle.myria_top.specs.declared.outcomes.Outcome.TheVariants as outcome
 use Rattle.myria_top.specs.Outcomes.{line_of}
 use Rattle.myria_top.specs.Reading.{HasCause, RefusesBy}
-use Rattle.myria_top.specs.Requests.{name_given, script_asked}
+use Rattle.myria_top.specs.Requests.{name_given, plan_asked, script_asked}
 use Rattle.myria_top.specs.Scripts.{ScriptComesTo}
 use Rattle.myria_top.specs.Verdicts.{Verdict, untold, refused, passes, IfTold}
 use Rattle.myria_top.specs.Runs.{ComesTo}
@@ -36,7 +36,7 @@ pub record OfText (run : Run) (P : List ℕ → Type 0) : Type 0 where
   pub comes : ComesTo run.asked run.content step
   pub holds : IfTold step (λ s. (text : List ℕ) × (s ≡ passes text) × P text)
 
--- a file that a run reads: the script that is asked for, or one that the script scans or loads
+-- a file that a run reads: the script that is asked for, one that the script scans or loads, or the plan of a replay
 pub data IsAskedOf (asked : Option Asked) (content : List ℕ → Content) : List ℕ → Type 0 where
   the_script : (name : List ℕ) → script_asked asked ≡ Some name → IsAskedOf asked content name
   of_untold : (name file : List ℕ) → script_asked asked ≡ Some name
@@ -44,6 +44,7 @@ pub data IsAskedOf (asked : Option Asked) (content : List ℕ → Content) : Lis
   a_relation : (name : List ℕ) (trees : List StatementTree) (fetch : Fetch)
       → script_asked asked ≡ Some name → ScriptComesTo (content name) (passes trees)
       → Contains (fetches trees) fetch → IsAskedOf asked content (file_name_of fetch.key)
+  the_plan : (name : List ℕ) → plan_asked asked ≡ Some name → IsAskedOf asked content name
 
 -- a refusal before the output: it is what the words and the files come to, a count shows its cause, and nothing is printed
 pub record ExplainsRefusal (run : Run) (answer : Outcome) : Type 0 where
@@ -85,7 +86,7 @@ Decides (passes text) answer = IsDone answer ⊎ (answer ≡ outcome.WriteFault)
 pub record Headline (run : Run) (err : Written) (answer : Outcome) : Type 0 where
   -- Each answer has its cause. After `Done` the output took exactly the text of the mode: of the script's
   -- meaning for each store its line, its header, and the rows of the bag in ascending order, and then
-  -- the plan and the traffic that are asked for; or the plan alone; or what a trial counts. After any
+  -- the plan and the traffic that are asked for; or the plan alone, as lines or as JSON; or what a trial counts. After any
   -- other answer it took nothing, or, where writing itself was refused, a beginning of that text.
   pub explained : Explains run answer
   -- Words that aren't read are refused so, unless there is no memory for them, and no others are.
@@ -99,4 +100,4 @@ pub record Headline (run : Run) (err : Written) (answer : Outcome) : Type 0 wher
   pub each_file : (name : List ℕ) → script_asked run.asked ≡ Some name
       → Allows run.content name answer
   -- Standard error took the line of the answer.
-  pub told : TellsLine err (line_of (name_given run.asked) answer)
+  pub told : TellsLine err (line_of (name_given run.asked answer) answer)

@@ -5,6 +5,7 @@ pub mod Verdicts
 pub mod Reading
 pub mod Scripts
 pub mod Requests
+pub mod Plans
 pub mod Printed
 pub mod Runs
 pub mod EachFile
@@ -12,5 +13,6 @@ pub mod Headline
 pub mod TrialAnswers
 pub mod OneAnswer
 pub mod Reducing
+pub mod Exports
 pub mod Moves
 pub mod inner

@@ -1,7 +1,7 @@
 -- The answers of a run, as the program's user sees them.
 --
 --   status_of a        the exit status
---   line_of name a     the line on standard error, by the name that the words gave; none after `Done`
+--   line_of name a     the line on standard error, by the name that is told; none after `Done`
 use Rattle.std.specs.Prelude.{ℕ, List, [], ◌++◌, codes}
 use Rattle.std.specs.Borrow.{Bor}
 use Rattle.std.specs.Fmt.{decimal}
@@ -36,6 +36,11 @@ status_of (outcome.AggregateOverflow statement) = 10
 status_of (outcome.ReadFault name) = 11
 status_of outcome.WriteFault = 12
 status_of outcome.Memory = 13
+status_of outcome.NoPlan = 15
+status_of outcome.PlanTooLong = 15
+status_of outcome.BadPlan = 16
+status_of (outcome.PlanWorkers workers) = 17
+status_of (outcome.PlanMisfit statement) = 17
 
 -- what breaks the token rules, in words
 abbrev pub lexical_words : LexWhat → List ℕ
@@ -84,6 +89,13 @@ missing_line key = line_with (codes "no relation " ++ key_words key)
 abbrev pub relation_line : Key → List ℕ → List ℕ
 relation_line key words = line_with (of_relation key words)
 
+-- the lines of a plan for so many workers, and of one that doesn't fit a statement
+abbrev pub workers_line : ℕ → List ℕ
+workers_line workers = line_with (codes "plan is for " ++ decimal workers ++ codes " workers")
+
+abbrev pub misfit_line : ℕ → List ℕ
+misfit_line statement = line_with (codes "plan does not fit statement " ++ decimal statement)
+
 -- what the answer says, in words
 abbrev pub message_of : List ℕ → Outcome → List ℕ
 message_of name (outcome.Done receipts) = []
@@ -106,6 +118,13 @@ message_of name (outcome.AggregateOverflow statement) =
 message_of given (outcome.ReadFault name) = codes "cannot read " ++ name
 message_of name outcome.WriteFault = codes "cannot write"
 message_of name outcome.Memory = codes "out of memory"
+message_of name outcome.NoPlan = codes "no plan " ++ name
+message_of name outcome.PlanTooLong = codes "plan too long"
+message_of name outcome.BadPlan = codes "bad plan"
+message_of name (outcome.PlanWorkers workers) =
+    codes "plan is for " ++ decimal workers ++ codes " workers"
+message_of name (outcome.PlanMisfit statement) =
+    codes "plan does not fit statement " ++ decimal statement
 
 -- the line on standard error
 abbrev pub line_of : List ℕ → Outcome → List ℕ

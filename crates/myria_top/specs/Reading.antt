@@ -34,6 +34,7 @@ HasFetchCause counts content refusal.Memory = ⊤
 -- a refusal of the shelf has its cause in a count that rose, and what it names is one of these files
 abbrev pub HasCause : CallCounts → (List ℕ → Type 0) → Outcome → Type 0
 HasCause counts IsAsked outcome.NoScript = Rose counts.before.misses counts.after.misses
+HasCause counts IsAsked outcome.NoPlan = Rose counts.before.misses counts.after.misses
 HasCause counts IsAsked (outcome.NoRelation key) =
     Rose counts.before.misses counts.after.misses × IsAsked (file_name_of key)
 HasCause counts IsAsked (outcome.RelTooLong key) = IsAsked (file_name_of key)

@@ -10,7 +10,8 @@ use Rattle.rel_base.specs.Keys.{File}
 use Rattle.rel_io.specs.Outside.{Content}
 use Rattle.myrial_ast.specs.Trees.{StatementTree}
 use Rattle.myrial_ast.specs.CandidateFaults.{PrefixRule, Uncounted, joins_alone}
-use Rattle.myrial_meaning.specs.Faults.{run_fault}
+use Rattle.myrial_meaning.specs.Faults.{in_each, run_fault}
+use Rattle.placement.specs.Plans.{usual_rule}
 use Rattle.placement.specs.Runs.{prefixes_of}
 use Rattle.command_words.specs.declared.requests.Mode.TheVariants as mode
 use Rattle.command_words.specs.declared.requests.Request.{Request}
@@ -28,13 +29,13 @@ StoresAlone r = (r.mode ≡ mode.Run) × (r.plan ≡ false) × (r.traffic ≡ fa
 abbrev pub ReducingKeepsFaults : Type 0
 ReducingKeepsFaults =
     (reduce : Bool) (files : List File) (script : List StatementTree)
-    → run_fault (record { prefixes = Uncounted; reduce = reduce }) files script
-    ≡ run_fault joins_alone files script
+    → run_fault (in_each (record { prefixes = Uncounted; reduce = reduce })) files script
+    ≡ run_fault (in_each joins_alone) files script
 
 -- and the words and the files come to the same
 abbrev pub ReducingKeepsAnswers : Type 0
 ReducingKeepsAnswers =
-    (r : Request) (reduce : Bool) → StoresAlone r → prefixes_of r.settings.shuffle ≡ Uncounted
+    (r : Request) (reduce : Bool) → StoresAlone r → prefixes_of (usual_rule r.settings.shuffle) ≡ Uncounted
     → (content : List ℕ → Content) (script : List StatementTree)
     → printed_verdict (reducing r reduce) content script ≡ printed_verdict r content script
 
@@ -42,5 +43,5 @@ ReducingKeepsAnswers =
 abbrev pub ReducingAddsNoFault : Type 0
 ReducingAddsNoFault =
     (prefixes : PrefixRule) (files : List File) (script : List StatementTree)
-    → run_fault (record { prefixes = prefixes; reduce = false }) files script ≡ None
-    → run_fault (record { prefixes = prefixes; reduce = true }) files script ≡ None
+    → run_fault (in_each (record { prefixes = prefixes; reduce = false })) files script ≡ None
+    → run_fault (in_each (record { prefixes = prefixes; reduce = true })) files script ≡ None

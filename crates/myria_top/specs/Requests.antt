@@ -6,17 +6,17 @@
 --   takes_workers asked       whether what is asked for takes workers
 --   script_asked asked        the name of the script that is asked for; none where the words are
 --                             refused, or ask for a trial
---   name_given asked          the name as it was given, for the line on standard error
---   faults_in mode settings   what counts as a fault
-use Rattle.std.specs.Prelude.{◌≡◌, ℕ, Bool, true, false, not, List, [], Option, Some, None, option_and_then, if◌then◌else◌}
+--   plan_asked asked          the name of the plan that is replayed, where one is
+--   name_given asked answer   the name that an answer tells, as it was given
+use Rattle.std.specs.Prelude.{◌≡◌, ℕ, Bool, true, false, not, List, [], Option, Some, None, option_and_then, unwrap_or, if◌then◌else◌}
 use Rattle.std.specs.Option.{option_map_or}
-use Rattle.myrial_ast.specs.CandidateFaults.{FaultRule, joins_alone}
-use Rattle.algebra.specs.declared.settings.Settings.{Settings}
-use Rattle.placement.specs.Runs.{faults_by}
 use Rattle.command_words.specs.declared.requests.Mode.{Mode}
 use Rattle.command_words.specs.declared.requests.Mode.TheVariants as mode
 use Rattle.command_words.specs.declared.requests.Request.{Request}
+use Rattle.command_words.specs.Modes.{is_replay}
 use Rattle.command_words.specs.Requests.{Asked, asked_of}
+use Rattle.myria_top.specs.declared.outcomes.Outcome.{Outcome}
+use Rattle.myria_top.specs.declared.outcomes.Outcome.TheVariants as outcome
 
 -- the request is what is asked for
 abbrev pub Asks : Option Asked → Request → Type 0
@@ -40,10 +40,14 @@ takes_workers asked = option_map_or (λ a. not (is_check a.mode)) asked false
 abbrev pub script_asked : Option Asked → Option (List ℕ)
 script_asked asked = option_and_then (λ a. if is_trial a.mode then None else Some a.script) asked
 
--- the name as it was given, whatever the mode
-abbrev pub name_given : Option Asked → List ℕ
-name_given asked = option_map_or (λ a. a.script) asked []
+-- the name of the plan that is replayed, where one is
+abbrev pub plan_asked : Option Asked → Option (List ℕ)
+plan_asked asked = option_and_then (λ a. if is_replay a.mode then a.from else None) asked
 
--- where workers run the script, its settings say what counts; a check neither joins two items at a time nor reduces
-abbrev pub faults_in : Mode → Settings → FaultRule
-faults_in m settings = if is_check m then joins_alone else faults_by settings
+-- the name that an answer tells, as it was given: that of the plan, or else that of the script, whatever the mode
+abbrev pub name_told : Asked → Outcome → List ℕ
+name_told a outcome.NoPlan = unwrap_or a.from []
+name_told a answer = a.script
+
+abbrev pub name_given : Option Asked → Outcome → List ℕ
+name_given asked answer = option_map_or (λ a. name_told a answer) asked []

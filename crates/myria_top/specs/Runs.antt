@@ -3,7 +3,9 @@
 --   relation_verdict fetch content     what the file of a relation comes to: the relation
 --   files_verdict content fetches      what these files come to, one after another
 --   IsFetchedBy fetches file           a file has the key of one of these fetches, the columns of its form, and typed rows
---   run_verdict r script files         what the script comes to over its files: the text that is printed
+--   IsReadFor r fetches name           the file of one of these fetches, or that of the plan of a replay
+--   typed_verdict r script files c plan   what a typed script comes to over its files, by a plan or without
+--   run_verdict r content script files    what the script comes to over its files: the text that is printed
 --   printed_verdict r content script   what it comes to over the files that are told
 --   ComesTo asked content step         what the words and the files come to
 use Rattle.std.specs.Prelude.{◌≡◌, ℕ, true, false, List, [], ◌∷◌, ◌++◌, fold, All, Contains, IsTrue, Option, Some, None, Result, Ok, Err}
@@ -33,13 +35,16 @@ use Rattle.trial_gen.specs.TrialScript.{trial_script}
 use Rattle.command_words.specs.declared.requests.Request.{Request}
 use Rattle.command_words.specs.declared.requests.WordsFault.{WordsFault}
 use Rattle.command_words.specs.declared.requests.WordsFault.TheVariants as words
+use Rattle.fragmenter.specs.Plans.{PlanTree}
+use Rattle.command_words.specs.Modes.{is_replay}
 use Rattle.command_words.specs.Requests.{Asked}
 use Rattle.myria_top.specs.FileNames.{file_name_of}
 use Rattle.myria_top.specs.declared.outcomes.Outcome.{Outcome}
 use Rattle.myria_top.specs.declared.outcomes.Outcome.TheVariants as outcome
 use Rattle.myria_top.specs.Printed.{printed_text}
 use Rattle.myria_top.specs.Reading.{file_verdict}
-use Rattle.myria_top.specs.Requests.{Asks, is_trial, faults_in}
+use Rattle.myria_top.specs.Plans.{plan_named, asked_plan, faults_asked}
+use Rattle.myria_top.specs.Requests.{Asks, is_trial}
 use Rattle.myria_top.specs.Scripts.{ScriptComesTo, TextComesTo}
 use Rattle.myria_top.specs.Verdicts.{Verdict, refused, passes, and_then}
 
@@ -88,6 +93,11 @@ pub record IsFileOf (fetches : List Fetch) (name : List ℕ) : Type 0 where
   pub is_one : Contains fetches fetch
   pub is_named : name ≡ file_name_of fetch.key
 
+-- the name is that of one of these files, or, in a replay, that of the plan
+pub data IsReadFor (r : Request) (fetches : List Fetch) (name : List ℕ) : Type 0 where
+  of_file : IsFileOf fetches name → IsReadFor r fetches name
+  of_plan : is_replay r.mode ≡ true → name ≡ plan_named r → IsReadFor r fetches name
+
 -- the answer to a fault of typing
 abbrev pub typing_answer : TypeFault → Outcome
 typing_answer (typing.At statement kind) = outcome.Typing statement kind
@@ -110,25 +120,39 @@ abbrev pub when_typed : {X Y : Type 0} → Result X TypeFault → (X → Verdict
 when_typed (Ok checked) further = further checked
 when_typed (Err why) further = refused (typing_answer why)
 
--- what a typed script comes to over its files: the fault of its run, or the text that is printed
-abbrev pub typed_verdict : Request → List StatementTree → List File → CheckedTree → Verdict (List ℕ)
-typed_verdict r script files c =
+-- what a typed script comes to over its files, by a plan or without: the fault of its run, or the text that is printed
+abbrev pub typed_verdict : Request → List StatementTree → List File → CheckedTree
+    → Option PlanTree → Verdict (List ℕ)
+typed_verdict r script files c plan =
     option_map_or (λ found. refused (run_answer found))
-    (run_fault (faults_in r.mode r.settings) files script)
-    (passes (printed_text r (stored_relations files script) files c))
+    (run_fault (faults_asked r plan) files script)
+    (passes (printed_text r plan (stored_relations files script) files c))
 
--- what a script comes to over its files: each statement is typed, and then its run
-abbrev pub run_verdict : Request → List StatementTree → List File → Verdict (List ℕ)
-run_verdict r script files = when_typed (checked_of files script) (typed_verdict r script files)
+-- the plan of a replay, and then the run
+abbrev pub planned_verdict : Request → (List ℕ → Content) → List StatementTree → List File
+    → CheckedTree → Verdict (List ℕ)
+planned_verdict r content script files c =
+    and_then (asked_plan r content c) (typed_verdict r script files c)
+
+-- what a script comes to: each statement is typed, and then its run
+abbrev pub run_verdict : Request → (List ℕ → Content) → List StatementTree → List File
+    → Verdict (List ℕ)
+run_verdict r content script files =
+    when_typed (checked_of files script) (planned_verdict r content script files)
+
+-- what it comes to without a plan
+abbrev pub plain_verdict : Request → List StatementTree → List File → Verdict (List ℕ)
+plain_verdict r script files =
+    when_typed (checked_of files script) (λ c. typed_verdict r script files c None)
 
 -- what a script comes to: its files, one after another, and then its run over them
 abbrev pub printed_verdict : Request → (List ℕ → Content) → List StatementTree → Verdict (List ℕ)
 printed_verdict r content script =
-    and_then (files_verdict content (fetches script)) (run_verdict r script)
+    and_then (files_verdict content (fetches script)) (run_verdict r content script)
 
 -- what a trial's script comes to over the relations of a trial of this size
 abbrev pub trial_verdict : Request → List StatementTree → Verdict (List ℕ)
-trial_verdict r script = run_verdict r script (trial_files r.size)
+trial_verdict r script = plain_verdict r script (trial_files r.size)
 
 -- what the words and the files come to: the text that is printed, or an answer that refuses
 pub data ComesTo (asked : Option Asked) (content : List ℕ → Content)

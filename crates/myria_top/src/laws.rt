@@ -1,8 +1,10 @@
 //! Laws of the headline.
+ghost use Rattle.myria_top.specs.Exports.{ExportsAreRead};
 ghost use Rattle.myria_top.specs.OneAnswer.{ComesToOne, PrintsWhatItComesTo};
 ghost use Rattle.myria_top.specs.Reducing.{ReducingKeepsFaults, ReducingKeepsAnswers, ReducingAddsNoFault};
 ghost use Rattle.myria_top.specs.TrialAnswers.{TrialsAreOfTheirRun};
 
+use myrial_types::steps_are_of_the_files;
 use trial_laws::{trial_is_read, trial_is_typed};
 
 /// Law: a trial is never refused for its script or for a file. It does nothing.
@@ -28,3 +30,11 @@ pub fn reducing_keeps_answers()
     ensures answers { ReducingKeepsAnswers }
     ensures adds { ReducingAddsNoFault }
 {}
+
+/// Law: what an export writes of a script of no more than 256 statements is read as the plan that
+/// its run was done by, and fits the script. It does nothing.
+pub fn exports_are_read()
+    ensures { ExportsAreRead }
+{
+    steps_are_of_the_files();
+}

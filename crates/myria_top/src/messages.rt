@@ -19,7 +19,8 @@ use relation_csv::RelFault;
 
 /// Writes the line of an answer, and nothing after `Done`. Takes no memory of the program's own.
 ///
-/// The name is that of the script as the words give it. A fault of the sink stops the line.
+/// The name is that of the script as the words give it, or of the plan where there is none such. A
+/// fault of the sink stops the line.
 pub fn tell<E: Sink>(err: &mut E, name: &str, answer: &Outcome) -> Result<(), SinkFault>
     ensures { Offers (written_of E.Sink err.old err.new)
         (outcomes.line_of name.now answer.now) result }
@@ -51,7 +52,32 @@ pub fn tell<E: Sink>(err: &mut E, name: &str, answer: &Outcome) -> Result<(), Si
         }
         Outcome::WriteFault => offer_all(err, &["myria: cannot write\n"]),
         Outcome::Memory => offer_all(err, &["myria: out of memory\n"]),
+        Outcome::NoPlan => offer_all(err, &["myria: no plan ", name, "\n"]),
+        Outcome::PlanTooLong => offer_all(err, &["myria: plan too long\n"]),
+        Outcome::BadPlan => offer_all(err, &["myria: bad plan\n"]),
+        Outcome::PlanWorkers { workers } => tell_workers(err, *workers),
+        Outcome::PlanMisfit { statement } => tell_misfit(err, *statement),
     }
+}
+
+/// The line of a plan for so many workers, which is another number.
+fn tell_workers<E: Sink>(err: &mut E, workers: u32) -> Result<(), SinkFault>
+    ensures { Offers (written_of E.Sink err.old err.new) (outcomes.workers_line workers) result }
+{
+    let mut buffer = Buffer::new();
+    offer_all(
+        err,
+        &["myria: plan is for ", buffer.format(workers), " workers\n"],
+    )
+}
+
+/// The line of a plan that doesn't fit a statement.
+fn tell_misfit<E: Sink>(err: &mut E, statement: u32) -> Result<(), SinkFault>
+    ensures { Offers (written_of E.Sink err.old err.new) (outcomes.misfit_line statement) result }
+{
+    let mut buffer = Buffer::new();
+    let number = buffer.format(statement);
+    offer_all(err, &["myria: plan does not fit statement ", number, "\n"])
 }
 
 /// The line of a fault on a line of the script.

@@ -93,6 +93,22 @@ pub enum Outcome {
     WriteFault,
     /// Memory was refused.
     Memory,
+    /// There is no such plan.
+    NoPlan,
+    /// The file of the plan is longer than the most bytes of one.
+    PlanTooLong,
+    /// The file of the plan is no plan.
+    BadPlan,
+    /// The plan is for another number of workers.
+    PlanWorkers {
+        /// The number that it is for.
+        workers: u32,
+    },
+    /// The plan has no choice for a join, or one that isn't for it, or one too many.
+    PlanMisfit {
+        /// The number of the first such statement, from 1.
+        statement: u32,
+    },
 }
 
 impl Outcome {
@@ -125,6 +141,11 @@ impl Outcome {
             Outcome::ReadFault { name: _ } => 11,
             Outcome::WriteFault => 12,
             Outcome::Memory => 13,
+            Outcome::NoPlan => 15,
+            Outcome::PlanTooLong => 15,
+            Outcome::BadPlan => 16,
+            Outcome::PlanWorkers { workers: _ } => 17,
+            Outcome::PlanMisfit { statement: _ } => 17,
         }
     }
 }

@@ -1,5 +1,5 @@
 //! A request as the text that its run prints.
-ghost use Rattle.std.specs.Prelude.{◌≡◌, ◌≢◌, ℕ, List, Some, Ok, Err, true, false, IfOk, IfErr, IsTrue, vec_len};
+ghost use Rattle.std.specs.Prelude.{◌≡◌, ◌≢◌, ℕ, List, Option, Some, Ok, Err, true, false, IfOk, IfErr, IsTrue, vec_len};
 ghost use Rattle.rel_base.specs.Keys.{File};
 ghost use Rattle.rel_base.specs.Limits.{taps as tap_count};
 ghost use Rattle.rel_io.specs.Outside.{Content};
@@ -14,13 +14,16 @@ ghost use Rattle.myria_top.specs.Headline.{IsAskedOf};
 ghost use Rattle.myria_top.specs.Moves.{HasMoved};
 ghost use Rattle.myria_top.specs.Reading as read;
 ghost use Rattle.myria_top.specs.Requests.{is_check, is_trial};
-ghost use Rattle.myria_top.specs.Runs.{ComesTo, IsFileOf, files_verdict, printed_verdict};
+ghost use Rattle.fragmenter.specs.Plans.{PlanTree};
+ghost use Rattle.myria_top.specs.Plans.{asked_plan};
+ghost use Rattle.myria_top.specs.Runs.{ComesTo, IsReadFor, files_verdict, printed_verdict};
 ghost use Rattle.myria_top.specs.Scripts.{ScriptComesTo};
 ghost use Rattle.myria_top.specs.Verdicts.{passes};
 ghost use Rattle.myria_top.specs.inner.Working.{text_of, IsAllowed, MovesAs, MovesNothing, NeedsNoCount};
 
 use crate::Outcome;
 use crate::reading::{read_files, read_script, script_of_text};
+use crate::replaying::text_of_replay;
 use crate::unprinted::{Unprinted, text_of_run};
 use command_words::{Mode, Request};
 use myrial_ast::Script;
@@ -55,7 +58,7 @@ pub fn prepared<R: Threads + Wait + Sync, F: Shelf, T: Tap + Send>(
 {
     match request.mode {
         Mode::Trial => prepared_trial(rt, alloc, request, taps),
-        Mode::Run | Mode::Check | Mode::Explain => {
+        Mode::Run | Mode::Check | Mode::Explain | Mode::Export | Mode::Replay => {
             prepared_script(rt, alloc, request, shelf, taps)
         }
     }
@@ -131,7 +134,7 @@ fn prepared_files<R: Threads + Wait + Sync, F: Shelf, T: Tap + Send>(
     ensures read { read.ReadsStep
         (printed_verdict request.now (F.content shelf.old) (trees_of script.now))
         (counts_of F.Shelf shelf.old shelf.new)
-        (IsFileOf (fetches (trees_of script.now))) (text_of result) }
+        (IsReadFor request.now (fetches (trees_of script.now))) (text_of result) }
     ensures each { (name : List ℕ)
         → read.Meets (ScriptComesTo (F.content shelf.old name)) (passes (trees_of script.now))
         → IsAllowed (F.content shelf.old) name result }
@@ -140,9 +143,12 @@ fn prepared_files<R: Threads + Wait + Sync, F: Shelf, T: Tap + Send>(
         → MovesNothing taps.old.items taps.new.items result }
     ensures fair { AreFair T.totals T.tag taps.old.items taps.new.items }
     ensures moved { IfOk result (λ made. (files : List File) (c : CheckedTree)
+        (plan : Option PlanTree)
         → files_verdict (F.content shelf.old) (fetches (trees_of script.now)) ≡ passes files
         → checked_of files (trees_of script.now) ≡ Ok c
-        → HasMoved request.now files c T.totals T.tag taps.old.items taps.new.items made.receipts) }
+        → asked_plan request.now (F.content shelf.old) c ≡ passes plan
+        → HasMoved request.now plan files c T.totals T.tag taps.old.items taps.new.items
+        made.receipts) }
 {
     let needed = match fetches(alloc, script) {
         Ok(needed) => needed,
@@ -152,7 +158,12 @@ fn prepared_files<R: Threads + Wait + Sync, F: Shelf, T: Tap + Send>(
         Ok(files) => files,
         Err(refusal) => return Err(refusal),
     };
-    text_of_run(rt, alloc, request, script, files, taps)
+    match request.mode {
+        Mode::Replay => text_of_replay(rt, alloc, request, script, files, shelf, taps),
+        Mode::Run | Mode::Check | Mode::Explain | Mode::Trial | Mode::Export => {
+            text_of_run(rt, alloc, request, script, files, taps)
+        }
+    }
 }
 
 /// In how many jobs a long file is read: as many as there are workers, and one in a check, which
@@ -160,6 +171,8 @@ fn prepared_files<R: Threads + Wait + Sync, F: Shelf, T: Tap + Send>(
 fn reading_jobs(request: &Request) -> u32 {
     match request.mode {
         Mode::Check => 1,
-        Mode::Run | Mode::Explain | Mode::Trial => request.settings.workers,
+        Mode::Run | Mode::Explain | Mode::Trial | Mode::Export | Mode::Replay => {
+            request.settings.workers
+        }
     }
 }

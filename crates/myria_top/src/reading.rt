@@ -39,10 +39,10 @@ pub fn read_script<F: Shelf>(alloc: Global, shelf: &mut F, name: &Text) -> Resul
     ensures content { F.content shelf.new ≡ F.content shelf.old }
 {
     let most = MOST_SCRIPT_BYTES as u64 + 1;
-    let bytes = match fetched(alloc, shelf, name, most) {
+    let bytes = match fetched(alloc, shelf, name.as_str(), most) {
         Ok(bytes) => bytes,
         Err(ShelfFault::Absent) => return Err(Outcome::NoScript),
-        Err(ShelfFault::Failed) => return Err(read_fault(alloc, name)),
+        Err(ShelfFault::Failed) => return Err(read_fault(alloc, name.as_str())),
         Err(ShelfFault::Memory) => return Err(Outcome::Memory),
     };
     if bytes.len() > MOST_SCRIPT_BYTES {
@@ -136,10 +136,10 @@ pub fn read_fetched<R: Threads + Sync, F: Shelf>(
         Err(_) => return Err(Outcome::Memory),
     };
     let most = MOST_RELATION_BYTES as u64 + 1;
-    let file = match fetched(alloc, shelf, &name, most) {
+    let file = match fetched(alloc, shelf, name.as_str(), most) {
         Ok(file) => file,
         Err(ShelfFault::Absent) => return Err(no_relation(alloc, key)),
-        Err(ShelfFault::Failed) => return Err(read_fault(alloc, &name)),
+        Err(ShelfFault::Failed) => return Err(read_fault(alloc, name.as_str())),
         Err(ShelfFault::Memory) => return Err(Outcome::Memory),
     };
     if file.len() > MOST_RELATION_BYTES {
@@ -195,10 +195,10 @@ fn bad_relation(alloc: Global, key: &Key, fault: RelFault) -> Outcome
 }
 
 /// The first `most` bytes of a file, or all of a shorter one.
-fn fetched<F: Shelf>(
+pub(crate) fn fetched<F: Shelf>(
     alloc: Global,
     shelf: &mut F,
-    name: &Text,
+    name: &str,
     most: u64,
 ) -> Result<Vec<u8>, ShelfFault>
     ensures ok { IfOk result (λ bytes. IsGiven (F.content shelf.old name.now) most bytes.items) }
@@ -208,15 +208,15 @@ fn fetched<F: Shelf>(
     ensures kept { HaveNotFallen (counts_of F.Shelf shelf.old shelf.new) }
 {
     let mut bytes = Vec::new(alloc);
-    shelf.fetch(name.as_str(), most, &mut bytes)?;
+    shelf.fetch(name, most, &mut bytes)?;
     Ok(bytes)
 }
 
 /// The answer to a fault of the shelf, or of memory where the name can't be kept.
-fn read_fault(alloc: Global, name: &Text) -> Outcome
+pub(crate) fn read_fault(alloc: Global, name: &str) -> Outcome
     ensures { (result ≡ Outcome.ReadFault name.now) ⊎ (result ≡ Outcome.Memory) }
 {
-    match name.copy(alloc) {
+    match Text::of(alloc, name) {
         Ok(name) => Outcome::ReadFault { name },
         Err(_) => Outcome::Memory,
     }

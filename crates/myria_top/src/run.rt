@@ -9,7 +9,8 @@ ghost use Rattle.command_words.specs.Requests.{asked, asked_of};
 ghost use Rattle.myria_top.specs.EachFile.{Allows};
 ghost use Rattle.myria_top.specs.Headline.{Headline, Explains};
 ghost use Rattle.myria_top.specs.Moves.{HasMovedAfter, IsStill};
-ghost use Rattle.myria_top.specs.Requests.{is_check, is_trial, script_asked, takes_workers};
+ghost use Rattle.myria_top.specs.Plans.{plan_named};
+ghost use Rattle.myria_top.specs.Requests.{is_check, is_trial, name_given, script_asked, takes_workers};
 
 use crate::Outcome;
 use crate::messages::tell;
@@ -65,8 +66,28 @@ pub fn run_words<R: Threads + Wait + Sync, F: Shelf, O: Sink, E: Sink, T: Tap + 
         }
     };
     let answer = answer(rt, alloc, &request, shelf, out, taps);
-    let _ = tell(err, request.script.as_str(), &answer);
+    let _ = tell(err, name_told(&request, &answer), &answer);
     answer
+}
+
+/// The name that an answer tells, as the words give it: that of the plan, or else that of the script.
+fn name_told<'a>(request: &'a Request, answer: &Outcome) -> &'a str
+    ensures { result.now ≡ name_given (Some (asked_of request.now)) answer.now }
+{
+    match answer {
+        Outcome::NoPlan => plan_name(request),
+        _ => request.script.as_str(),
+    }
+}
+
+/// The name of the plan, where one is named.
+pub(crate) fn plan_name(request: &Request) -> &str
+    ensures { result.now ≡ plan_named request.now }
+{
+    match &request.from {
+        Some(name) => name.as_str(),
+        None => "",
+    }
 }
 
 /// The answer to a request, once its text is printed.

@@ -1,5 +1,5 @@
 //! What a run comes to before anything is printed.
-ghost use Rattle.std.specs.Prelude.{◌≡◌, ◌++◌, [], map, All, IsTrue, Ok, true, false, IfOk, IfErr, OnOk, vec_len};
+ghost use Rattle.std.specs.Prelude.{◌≡◌, ◌++◌, [], map, All, IsTrue, None, Ok, true, false, IfOk, IfErr, OnOk, vec_len};
 ghost use Rattle.rel_base.specs.Limits.{taps as tap_count};
 ghost use Rattle.myrial_ast.specs.Trees.{trees_of};
 ghost use Rattle.myrial_meaning.specs.Runnable.{has_meaning};
@@ -10,21 +10,26 @@ ghost use Rattle.algebra.specs.Conditions.{is_of};
 ghost use Rattle.algebra.specs.Rewriting.{AreTyped};
 ghost use Rattle.algebra.specs.Trees.{CheckedTree};
 ghost use Rattle.term_runs.specs.TermRuns.{AreFair};
+ghost use Rattle.fragmenter.specs.NotedPlans.{noted_plan};
+ghost use Rattle.plan_json.specs.PlanTexts.{written};
+ghost use Rattle.engine.specs.Runs.{IsRun};
 ghost use Rattle.plan_printer.specs.TrafficTexts.{IsWhole};
 ghost use Rattle.output_texts.specs.Stores.{whole_store};
 ghost use Rattle.myria_top.specs.Moves.{HasMoved};
-ghost use Rattle.myria_top.specs.Printed.{notes_text, text_in};
+ghost use Rattle.myria_top.specs.Plans.{rules_by};
+ghost use Rattle.myria_top.specs.Printed.{asked_traffic, notes_text, text_in};
 ghost use Rattle.myria_top.specs.Reading as read;
 ghost use Rattle.myria_top.specs.Requests.{is_check};
-ghost use Rattle.myria_top.specs.Runs.{run_verdict};
-ghost use Rattle.myria_top.specs.inner.Working.{text_of, checked_verdict, evaluated_verdict};
+ghost use Rattle.myria_top.specs.Runs.{plain_verdict};
+ghost use Rattle.myria_top.specs.inner.Working.{text_of, checked_verdict, evaluated_verdict, plan_tree};
 ghost use Rattle.myria_top.specs.inner.Working.{IsOfRun, MovesNothing};
 
 use crate::Outcome;
-use algebra::Checked;
+use algebra::{Checked, Settings};
 use command_words::{Mode, Request};
-use engine::{Ran, run_script};
+use engine::{Ran, run_planned, run_script};
 use exchange_channels::Receipts;
+use fragmenter::{Plan, plan_of};
 use myrial_ast::Script;
 use myrial_meaning::evaluate;
 use myrial_types::{
@@ -32,7 +37,8 @@ use myrial_types::{
     typed_scripts_have_meaning,
 };
 use output_texts::{Pieces, sorted_lines_are_the_text};
-use rel_base::{Files, Memory};
+use plan_json::write_plan;
+use rel_base::{Files, Memory, RunFault};
 use rel_io::Tap;
 use std::alloc::Global;
 use std::sync::Wait;
@@ -47,7 +53,7 @@ pub struct Unprinted {
     pub receipts: Receipts,
 }
 
-/// What the run of a script over its files comes to.
+/// What the run of a script over its files comes to, by the settings.
 ///
 /// The files are let go before the text is made, which may then stand where they stood: what is
 /// stored shares the rows that it needs.
@@ -62,7 +68,7 @@ pub fn text_of_run<R: Threads + Wait + Sync, T: Tap + Send>(
     requires formed { IsTrue (have_forms files (trees_of script.now)) }
     requires typed { AreTyped files }
     requires taps { vec_len taps.old ≡ tap_count }
-    ensures agrees { read.Agrees (run_verdict request.now (trees_of script.now) files)
+    ensures agrees { read.Agrees (plain_verdict request.now (trees_of script.now) files)
         (text_of result) }
     ensures kind { IfErr result IsOfRun }
     ensures still { is_check request.now.mode ≡ true
@@ -70,7 +76,7 @@ pub fn text_of_run<R: Threads + Wait + Sync, T: Tap + Send>(
     ensures fair { AreFair T.totals T.tag taps.old.items taps.new.items }
     ensures moved { IfOk result (λ made. (c : CheckedTree)
         → checked_of files (trees_of script.now) ≡ Ok c
-        → HasMoved request.now files c T.totals T.tag taps.old.items taps.new.items
+        → HasMoved request.now None files c T.totals T.tag taps.old.items taps.new.items
         made.receipts) }
 {
     let checked = match check(alloc, script, &files) {
@@ -83,12 +89,12 @@ pub fn text_of_run<R: Threads + Wait + Sync, T: Tap + Send>(
             typed_scripts_have_meaning();
             text_of_evaluation(alloc, script, files)
         }
-        Mode::Run | Mode::Explain | Mode::Trial => {
+        Mode::Run | Mode::Explain | Mode::Trial | Mode::Export | Mode::Replay => {
             // Laws: the steps are well formed, they store what the script stores, and their fault is the script's.
             steps_are_of_the_files();
             steps_mean_the_script();
             steps_have_the_fault();
-            text_at_workers(rt, alloc, request, &checked, files, taps)
+            text_at_workers(rt, alloc, request, &checked, files, None, taps)
         }
     }
 }
@@ -114,13 +120,14 @@ fn text_of_evaluation(alloc: Global, script: &Script, files: Files) -> Result<Un
     Ok(Unprinted { text, receipts })
 }
 
-/// What the run of a typed script over its files comes to at workers.
-fn text_at_workers<R: Threads + Wait + Sync, T: Tap + Send>(
+/// What the run of a typed script over its files comes to at workers, by a plan or by the settings.
+pub(crate) fn text_at_workers<R: Threads + Wait + Sync, T: Tap + Send>(
     rt: &R,
     alloc: Global,
     request: &Request,
     checked: &Checked,
     files: Files,
+    plan: Option<&Plan>,
     taps: &mut Vec<T>,
 ) -> Result<Unprinted, Outcome>
     requires workers { is_check request.now.mode ≡ false }
@@ -128,13 +135,14 @@ fn text_at_workers<R: Threads + Wait + Sync, T: Tap + Send>(
     requires typed { AreTyped files }
     requires taps { vec_len taps.old ≡ tap_count }
     ensures agrees { read.Agrees
-        (checked_verdict request.now files (checked_tree_of checked.now)) (text_of result) }
+        (checked_verdict request.now (plan_tree plan.entry) files (checked_tree_of checked.now))
+        (text_of result) }
     ensures kind { IfErr result IsOfRun }
     ensures fair { AreFair T.totals T.tag taps.old.items taps.new.items }
-    ensures moved { IfOk result (λ made. HasMoved request.now files
+    ensures moved { IfOk result (λ made. HasMoved request.now (plan_tree plan.entry) files
         (checked_tree_of checked.now) T.totals T.tag taps.old.items taps.new.items made.receipts) }
 {
-    let ran = match run_script(rt, alloc, checked, &files, &request.settings, taps) {
+    let ran = match run_at_workers(rt, alloc, checked, &files, &request.settings, plan, taps) {
         Ok(ran) => ran,
         Err(fault) => return Err(Outcome::from(fault)),
     };
@@ -145,6 +153,28 @@ fn text_at_workers<R: Threads + Wait + Sync, T: Tap + Send>(
     };
     let Ran { receipts, .. } = ran;
     Ok(Unprinted { text, receipts })
+}
+
+/// Runs a typed script over its files at workers, by a plan or by the settings.
+fn run_at_workers<R: Threads + Wait + Sync, T: Tap + Send>(
+    rt: &R,
+    alloc: Global,
+    checked: &Checked,
+    files: &Files,
+    settings: &Settings,
+    plan: Option<&Plan>,
+    taps: &mut Vec<T>,
+) -> Result<Ran, RunFault>
+    requires of { IsTrue (is_of files.now (checked_tree_of checked.now)) }
+    requires typed { AreTyped files.now }
+    requires taps { vec_len taps.old ≡ tap_count }
+    ensures { IsRun settings.now (rules_by settings.now (plan_tree plan.entry)) files.now
+        (checked_tree_of checked.now) T.totals T.tag taps.old.items taps.new.items result }
+{
+    match plan {
+        Some(plan) => run_planned(rt, alloc, checked, files, settings, plan, taps),
+        None => run_script(rt, alloc, checked, files, settings, taps),
+    }
 }
 
 /// The text of a run at workers.
@@ -170,6 +200,11 @@ fn text_of_ran<R: Threads + Wait + Sync>(
             text.add_stored(rt, alloc, &ran.stored)?;
             add_notes(&mut text, request, ran)?;
         }
+        Mode::Export => add_export(alloc, &mut text, ran, request.settings.workers)?,
+        Mode::Replay => {
+            text.add_stored(rt, alloc, &ran.stored)?;
+            add_traffic(&mut text, request, ran)?;
+        }
     }
     Ok(text)
 }
@@ -183,8 +218,26 @@ fn add_notes(text: &mut Pieces, request: &Request, ran: &Ran) -> Result<(), Memo
     if request.plan {
         text.add_plan(&ran.plan)?;
     }
+    add_traffic(text, request, ran)
+}
+
+/// Adds the traffic, where it is asked for.
+fn add_traffic(text: &mut Pieces, request: &Request, ran: &Ran) -> Result<(), Memory>
+    requires { All IsWhole ran.now.traffic }
+    ensures { OnOk result (text.new ≡ text.old ++ asked_traffic request.now ran.now.traffic) }
+{
     if request.traffic {
         text.add_traffic(&ran.traffic)?;
     }
     Ok(())
+}
+
+/// Adds the plan of a run at so many workers, as JSON.
+fn add_export(alloc: Global, text: &mut Pieces, ran: &Ran, workers: u32) -> Result<(), Memory>
+    ensures { OnOk result (text.new ≡ text.old ++ written (noted_plan ran.now.plan workers)) }
+{
+    let plan = plan_of(alloc, &ran.plan, workers)?;
+    let mut line = Vec::new(alloc);
+    write_plan(alloc, &plan, &mut line)?;
+    text.add_line(&line)
 }

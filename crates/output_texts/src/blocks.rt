@@ -101,11 +101,11 @@ impl Block {
             (self.new ≡ self.old ++ size_line size ++ rows_line rows ++ distinct_line different) }
     {
         let line = format!(in alloc; "-- trial size {size}\n")?;
-        self.add_line(line.as_str())?;
+        self.add_line(line.as_bytes())?;
         let line = format!(in alloc; "-- rows {rows}\n")?;
-        self.add_line(line.as_str())?;
+        self.add_line(line.as_bytes())?;
         let line = format!(in alloc; "-- distinct {different}\n")?;
-        self.add_line(line.as_str())
+        self.add_line(line.as_bytes())
     }
 
     /// Adds the text of a relation under a key, its rows as they stand.
@@ -136,14 +136,14 @@ impl Block {
         ensures { OnOk result (self.new ≡ self.old ++ store_line key.now rows) }
     {
         let line = format!(in alloc; "-- store {key} {rows} rows\n")?;
-        self.add_line(line.as_str())
+        self.add_line(line.as_bytes())
     }
 
     /// Adds a line, as a piece.
-    fn add_line(&mut self, line: &str) -> Result<(), Memory>
+    pub(crate) fn add_line(&mut self, line: &[u8]) -> Result<(), Memory>
         ensures { OnOk result (self.new ≡ self.old ++ line.now) }
     {
-        self.text.extend_from_slice(line.as_bytes())?;
+        self.text.extend_from_slice(line)?;
         self.lengths.push(line.len())?;
         Ok(())
     }

@@ -108,6 +108,13 @@ impl Pieces {
         self.last.add_traffic(notes)
     }
 
+    /// Adds a line, with its line feed, as a piece.
+    pub fn add_line(&mut self, line: &[u8]) -> Result<(), Memory>
+        ensures { OnOk result (self.new ≡ self.old ++ line.now) }
+    {
+        self.last.add_line(line)
+    }
+
     /// Adds the text of a trial of this size: the numbers of rows and of different rows among all
     /// that is stored at workers, a piece for each line.
     pub fn add_trial(

@@ -45,6 +45,30 @@ const UNION: File<'static> = (
 
 const NO_SCRIPT: File<'static> = ("p", "");
 
+const REPLAYED: &[&str] = &[
+    "myria",
+    "--mode",
+    "replay",
+    "--from",
+    "p.json",
+    "--workers",
+    "2",
+    "--traffic",
+    "q",
+];
+
+const KEYS_JOIN: File<'static> = (
+    "q",
+    "J = [from scan(R) as a, scan(R) as b where a.x = b.x emit a.x]; store(J, Out);",
+);
+
+const KEYS: File<'static> = ("public:adhoc:R.csv", "x:int\n0\n1\n2\n3\n");
+
+const BY_KEYS: File<'static> = (
+    "p.json",
+    "{\"workers\":2,\"steps\":[{\"statement\":1,\"shuffle\":\"rs\"}]}",
+);
+
 /// No script asks for it.
 const UNASKED: File<'static> = ("public:adhoc:T.csv", "no relation");
 
@@ -165,7 +189,7 @@ fn compare_run<R: Abort + Threads + Wait + Sync>(
     Ok(())
 }
 
-const PRINTING: [Case<'static>; 4] = [
+const PRINTING: [Case<'static>; 6] = [
     (
         "doubled rows, signs, carriage returns, and a name that needs quotes",
         NAMED,
@@ -221,9 +245,33 @@ const PRINTING: [Case<'static>; 4] = [
         (1, 0, 0),
         (0, "-- trial size 7\n-- rows 343\n-- distinct 1\n", ""),
     ),
+    (
+        "a plan that is exported",
+        &["myria", "--mode", "export", "--workers", "2", "q"],
+        (KEYS_JOIN, KEYS, UNASKED),
+        (0, 0, 0),
+        (
+            0,
+            "{\"steps\":[{\"shares\":[2],\"shuffle\":\"hc\",\"statement\":1}],\"workers\":2}\n",
+            "",
+        ),
+    ),
+    (
+        "a plan that is replayed",
+        REPLAYED,
+        (KEYS_JOIN, KEYS, BY_KEYS),
+        (0, 0, 0),
+        (
+            0,
+            "-- store public:adhoc:Out 4 rows\nx:int\n0\n1\n2\n3\n\
+             -- traffic 1 join rs step 2\n\
+             -- worker 0 received 4 listed 2\n-- worker 1 received 4 listed 2\n",
+            "",
+        ),
+    ),
 ];
 
-const REFUSED: [Case<'static>; 13] = [
+const REFUSED: [Case<'static>; 15] = [
     (
         "no script",
         NAMED,
@@ -280,6 +328,20 @@ const REFUSED: [Case<'static>; 13] = [
         (UNION, ("public:adhoc:S.csv", ""), UNASKED),
         (0, 0, 0),
         (6, "", "myria: no relation public:adhoc:R\n"),
+    ),
+    (
+        "no plan",
+        REPLAYED,
+        (KEYS_JOIN, KEYS, UNASKED),
+        (0, 0, 0),
+        (15, "", "myria: no plan p.json\n"),
+    ),
+    (
+        "a plan that can't be read",
+        REPLAYED,
+        (KEYS_JOIN, KEYS, BY_KEYS),
+        (3, 0, 0),
+        (11, "", "myria: cannot read p.json\n"),
     ),
     (
         "standard error fails at its first byte",

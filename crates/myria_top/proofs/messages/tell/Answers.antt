@@ -22,3 +22,15 @@ returns-in-ScriptTooLong g c =
 pub returns-in-ScriptNotText : goal.returns-in-ScriptNotText
 returns-in-ScriptNotText g c =
     offers_line _ _ _ _ (said c.args.name.now c.args.answer.now outcome.ScriptNotText c.in-ScriptNotText.is) c.offer_all-in-ScriptNotText.ensures
+
+pub returns-in-NoPlan : goal.returns-in-NoPlan
+returns-in-NoPlan g c =
+    offers_line _ _ _ _ (said c.args.name.now c.args.answer.now outcome.NoPlan c.in-NoPlan.is) c.offer_all-in-NoPlan.ensures
+
+pub returns-in-PlanTooLong : goal.returns-in-PlanTooLong
+returns-in-PlanTooLong g c =
+    offers_line _ _ _ _ (said c.args.name.now c.args.answer.now outcome.PlanTooLong c.in-PlanTooLong.is) c.offer_all-in-PlanTooLong.ensures
+
+pub returns-in-BadPlan : goal.returns-in-BadPlan
+returns-in-BadPlan g c =
+    offers_line _ _ _ _ (said c.args.name.now c.args.answer.now outcome.BadPlan c.in-BadPlan.is) c.offer_all-in-BadPlan.ensures

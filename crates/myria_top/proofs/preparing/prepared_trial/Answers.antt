@@ -1,4 +1,4 @@
-use Rattle.std.proofs.Common.{◌≤◌, ◌∙◌, refl, sym, subst, ap, length, List, ℕ, Some}
+use Rattle.std.proofs.Common.{◌≤◌, ◌∙◌, refl, sym, subst, ap, length, List, ℕ, Some, None}
 use Rattle.std.specs.Prelude.{IsTrue}
 use Rattle.rel_base.specs.Keys.{File}
 use Rattle.algebra.specs.Rewriting.{AreTyped}
@@ -9,7 +9,7 @@ use Rattle.term_runs.proofs.TapLemmas.{fair-none}
 use Rattle.command_words.specs.Requests.{asked_of}
 use Rattle.myria_top.specs.Moves.{HasMoved}
 use Rattle.myria_top.specs.Reading.{Agrees, Meets, RefusesBy}
-use Rattle.myria_top.specs.Runs.{run_verdict}
+use Rattle.myria_top.specs.Runs.{plain_verdict}
 use Rattle.myria_top.specs.Scripts.{TextComesTo}
 use Rattle.myria_top.specs.Verdicts.{passes}
 use Rattle.myria_top.specs.inner.Working.{text_of}
@@ -44,7 +44,7 @@ returns-clause-agrees g c =
     let same = c.as_bytes.ensures.value ∙ c.trial_is_as_defined.ensures.script in
     λ content. trial_agrees (Some (asked_of r)) content r refl c.requires.trial trees (text_of c.text_of_run.result)
     (subst (λ (bytes : List ℕ). Meets (TextComesTo bytes) (passes trees)) same c.in-Ok.ensures.agrees)
-    (subst (λ (files : List File). Agrees (run_verdict r trees files) (text_of c.text_of_run.result)) c.in-Ok-trial_files.ensures
+    (subst (λ (files : List File). Agrees (plain_verdict r trees files) (text_of c.text_of_run.result)) c.in-Ok-trial_files.ensures
     c.text_of_run.ensures.agrees)
 
 pub returns-clause-moved : goal.returns-clause-moved
@@ -56,7 +56,7 @@ returns-clause-moved g c =
     carried-ok c.text_of_run.result
     (λ made moved content.
     moved-of_trial r g.T.Tap.totals g.T.Tap.tag c.args.taps.now.items c.text_of_run.new.taps.items made.receipts content trees c.requires.trial read
-    (λ d is. subst (λ (files : List File). HasMoved r files d g.T.Tap.totals g.T.Tap.tag c.args.taps.now.items c.text_of_run.new.taps.items made.receipts)
+    (λ d is. subst (λ (files : List File). HasMoved r None files d g.T.Tap.totals g.T.Tap.tag c.args.taps.now.items c.text_of_run.new.taps.items made.receipts)
     c.in-Ok-trial_files.ensures (moved d (ap (λ (files : List File). checked_of files trees) c.in-Ok-trial_files.ensures ∙ is))))
     c.text_of_run.ensures.moved
 

@@ -13,7 +13,7 @@ pub returns-in-Ok-relation_of-clause-read : goal.returns-in-Ok-relation_of-claus
 returns-in-Ok-relation_of-clause-read g c = record {
   agrees =
       meets_step _ _ (read_goes 67108864 (outcome.NoRelation c.args.fetch.now.key) (outcome.RelTooLong c.args.fetch.now.key) (relation_of c.args.fetch.now) _ _ _
-      (rw c.in-Ok.ensures at c.in-Ok-fetched.ensures.ok) (omega arith)
+      (rw c.in-Ok.ensures at (rw c.as_str.ensures at c.in-Ok-fetched.ensures.ok)) (omega arith)
       (ap (relation_answer c.args.fetch.now.key)
       (sym (ap (relation_read c.args.fetch.now.form) c.deref.ensures.value) ∙ c.in-Ok-relation_of.ensures.read (λ e. cc))));
   cause = tt;
@@ -34,7 +34,7 @@ returns-then-len-gt-MOST_RELATION_BYTES-clause-read g c =
       agrees =
           in_place (AgreesRefused (relation_verdict c.args.fetch.now content)) c.too_long.result (outcome.RelTooLong key) c.too_long.ensures
           (meets_step _ _ (too_long 67108864 (outcome.NoRelation key) (outcome.RelTooLong key) (relation_of c.args.fetch.now) _ _
-          (rw c.in-Ok.ensures at c.in-Ok-fetched.ensures.ok) (omega arith))) tt;
+          (rw c.in-Ok.ensures at (rw c.as_str.ensures at c.in-Ok-fetched.ensures.ok)) (omega arith))) tt;
       cause =
           in_place (HasCause counts (λ asked. asked ≡ name)) c.too_long.result (outcome.RelTooLong key) c.too_long.ensures
           refl tt;
@@ -53,7 +53,7 @@ returns-clause-read g c =
           in_place_if (AgreesRefused (relation_verdict c.args.fetch.now content)) c.bad_relation.result (outcome.BadRelation key fault)
           (fault ≢ why.Memory) c.bad_relation.ensures
           (λ other. meets_step _ _ (read_refuses 67108864 (outcome.NoRelation key) (outcome.RelTooLong key) (relation_of c.args.fetch.now) _ _ _
-          (rw c.in-Ok.ensures at c.in-Ok-fetched.ensures.ok) (omega arith)
+          (rw c.in-Ok.ensures at (rw c.as_str.ensures at c.in-Ok-fetched.ensures.ok)) (omega arith)
           (ap (relation_answer key)
           (sym (ap (relation_read c.args.fetch.now.form) c.deref.ensures.value) ∙ c.in-Err-relation_of.ensures.read (λ e. other (cc)))))) tt;
       cause =

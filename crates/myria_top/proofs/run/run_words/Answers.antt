@@ -18,7 +18,7 @@ returns-clause-headline g c =
     let err = written_of g.E.Sink c.args.err.now c.tell-2.new.err in
     headline-read _ _ c.in-Ok.request c.answer-answer.result c.in-Ok.ensures.ok c.answer-answer.ensures.explained
     c.answer-answer.ensures.each c.answer-answer.ensures.read
-    (subst (λ (name : List ℕ). TellsLine err (line_of name c.answer-answer.result)) c.as_str.ensures
+    (subst (λ (name : List ℕ). TellsLine err (line_of name c.answer-answer.result)) c.name_told.ensures
     (told_line err _ c.tell-2.result c.tell-2.ensures))
 
 pub returns-in-Err-clause-still : goal.returns-in-Err-clause-still
