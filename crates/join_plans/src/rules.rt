@@ -12,8 +12,8 @@ use fragmenter::{How, Plan};
 pub enum ShuffleBy {
     /// At cells, with the shares of least load for the rows that are joined.
     LeastLoad,
-    /// So. Where the shares are none for the join's variables and the workers, one item stays where
-    /// it is, and the others go to all workers.
+    /// In this one way. Where its shares aren't those of the join's variables and the workers, one
+    /// item stays where it is, and the others go to all workers.
     Fixed(How),
 }
 
