@@ -66,7 +66,8 @@ pub record AreSizes (reduction : Reduction) (shape : Shape) (given : List Placed
 
 -- ---- choices
 
--- what a rule asks for with so many joined rows of each atom: cells with the shares of least load, or so
+-- what a rule asks for with so many joined rows of each atom: cells with the shares of least load,
+-- or its one shuffle
 abbrev pub chosen : ShuffleRule → ℕ → Shape → List ℕ → Shuffle
 chosen LeastLoad workers shape joined =
     ByCells (best_shares (uses_of shape) joined (length shape.variables) workers)
@@ -93,7 +94,8 @@ pub record IsChosenFor (rule : ShuffleRule) (workers : ℕ) (shape : Shape) (joi
 -- definitions; and these are the numbers of joined rows
 pub record ChosenAreRuled : Type 0 where
   pub shuffle : (rule : ShuffleRule) (workers : ℕ) (shape : Shape) (items : List Rows)
-      → chosen rule workers shape (kept_sizes shape items) ≡ ruled_shuffle rule workers shape items
+      → chosen rule workers shape (kept_sizes shape items)
+      ≡ ruled_shuffle rule workers shape items
   pub stays : (shape : Shape) (items : List Rows)
       → staying_of (kept_sizes shape items) ≡ staying_atom shape items
   pub sizes : (reduce : Bool) (shape : Shape) (given : List PlacedRelation)

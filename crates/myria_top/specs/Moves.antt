@@ -1,6 +1,7 @@
 -- What a run moves from worker to worker.
 --
---   IsRunOf r content files c plan   the run of a request is that of these checked steps over these files, by this plan
+--   IsRunOf r content files c plan   the run of a request is that of these steps over these files,
+--                                    by this plan
 --   exchanges_asked r plan files c   the exchanges of such a run
 --   HasMoved r plan files c ..       receipts and taps are those of these exchanges
 --   HasMovedAfter .. answer       so they are after `Done`
@@ -31,10 +32,12 @@ use Rattle.myria_top.specs.Runs.{files_verdict}
 use Rattle.myria_top.specs.Scripts.{ScriptComesTo, TextComesTo}
 use Rattle.myria_top.specs.Verdicts.{passes}
 
--- what is run: the script that is asked for, over the files that it needs, typed to these steps, in a
--- replay by its plan; or a trial's script over the relations of the trial
-pub data IsRunOf (r : Request) (content : List ℕ → Content) : List File → CheckedTree → Option PlanTree → Type 0 where
-  script_run : (trees : List StatementTree) (files : List File) (c : CheckedTree) (plan : Option PlanTree)
+-- what is run: the script that is asked for, over the files that it needs, typed to these steps,
+-- in a replay by its plan; or a trial's script over the relations of the trial
+pub data IsRunOf (r : Request) (content : List ℕ → Content)
+    : List File → CheckedTree → Option PlanTree → Type 0 where
+  script_run : (trees : List StatementTree) (files : List File) (c : CheckedTree)
+      (plan : Option PlanTree)
       → is_trial r.mode ≡ false → ScriptComesTo (content r.script) (passes trees)
       → files_verdict content (fetches trees) ≡ passes files
       → checked_of files trees ≡ Ok c → asked_plan r content c ≡ passes plan
@@ -43,7 +46,8 @@ pub data IsRunOf (r : Request) (content : List ℕ → Content) : List File → 
       → TextComesTo trial_script (passes trees) → checked_of (trial_files r.size) trees ≡ Ok c
       → IsRunOf r content (trial_files r.size) c None
 
--- its exchanges by the settings of the request, and by a plan where there is one; without workers there is none
+-- its exchanges by the settings of the request, and by a plan where there is one; without workers
+-- there is none
 abbrev pub exchanges_asked : Request → Option PlanTree → List File → CheckedTree
     → List PlacedExchange
 exchanges_asked r plan files c =

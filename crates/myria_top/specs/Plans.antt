@@ -1,6 +1,6 @@
 -- What the plan of a replay comes to.
 --
---   plan_verdict workers joins content   what the file of a plan comes to, for joins at so many workers
+--   plan_verdict workers joins content   what the file of a plan comes to, for these joins
 --   asked_plan r content c               the plan that a request goes by: none but in a replay
 --   rules_by s plan                      by which rule each statement is shuffled
 --   rules_asked r plan                   and so by the settings of a request
@@ -62,7 +62,8 @@ named_plan r content c =
     plan_verdict r.settings.workers (needed_joins c) (content (plan_named r))
 
 -- the plan that a request goes by
-abbrev pub asked_plan : Request → (List ℕ → Content) → CheckedTree → Verdict (Option PlanTree)
+abbrev pub asked_plan : Request → (List ℕ → Content) → CheckedTree
+    → Verdict (Option PlanTree)
 asked_plan r content c =
     if is_replay r.mode then and_then (named_plan r content c) (λ plan. passes (Some plan))
     else passes None
@@ -75,7 +76,8 @@ rules_by s (Some plan) = planned_rules plan
 abbrev pub rules_asked : Request → Option PlanTree → ℕ → ShuffleRule
 rules_asked r plan = rules_by r.settings plan
 
--- where workers run the script, these rules say what counts; a check neither joins two items at a time nor reduces
+-- where workers run the script, these rules say what counts; a check neither joins two items at a
+-- time nor reduces
 abbrev pub faults_asked : Request → Option PlanTree → ℕ → FaultRule
 faults_asked r plan =
     if is_check r.mode then in_each joins_alone else faults_at r.settings (rules_asked r plan)

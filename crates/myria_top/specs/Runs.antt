@@ -4,7 +4,7 @@
 --   files_verdict content fetches      what these files come to, one after another
 --   IsFetchedBy fetches file           a file has the key of one of these fetches, the columns of its form, and typed rows
 --   IsReadFor r fetches name           the file of one of these fetches, or that of the plan of a replay
---   typed_verdict r script files c plan   what a typed script comes to over its files, by a plan or without
+--   typed_verdict r script files c plan   what a typed script comes to, by a plan or without
 --   run_verdict r content script files    what the script comes to over its files: the text that is printed
 --   printed_verdict r content script   what it comes to over the files that are told
 --   ComesTo asked content step         what the words and the files come to
@@ -120,7 +120,8 @@ abbrev pub when_typed : {X Y : Type 0} → Result X TypeFault → (X → Verdict
 when_typed (Ok checked) further = further checked
 when_typed (Err why) further = refused (typing_answer why)
 
--- what a typed script comes to over its files, by a plan or without: the fault of its run, or the text that is printed
+-- what a typed script comes to over its files, by a plan or without: the fault of its run, or the
+-- text that is printed
 abbrev pub typed_verdict : Request → List StatementTree → List File → CheckedTree
     → Option PlanTree → Verdict (List ℕ)
 typed_verdict r script files c plan =

@@ -4,8 +4,9 @@
 --   in_each rule                               one rule for all statements
 --   run_fault rules files script               the fault of a run, with the number of its statement
 --
--- A statement's rule says whether the candidates of the prefixes of a comprehension count as well, as they do where its items are joined
--- one after another, and whether these prefixes are of its reduced rows, as they are where rows in no answer go before.
+-- A statement's rule says whether the candidates of the prefixes of a comprehension count as well, as
+-- they do where its items are joined one after another, and whether these prefixes are of its reduced
+-- rows, as they are where rows in no answer go before.
 use Rattle.std.specs.Prelude.{ℕ, suc, if◌then◌else◌, List, [], ◌∷◌, map, length, Option, Some, None, option_and_then, is_some}
 use Rattle.rel_base.specs.Each.{each_or_none}
 use Rattle.rel_base.specs.Keys.{File}
@@ -48,9 +49,10 @@ statement_fault rule number files env _ = None
 abbrev pub in_each : FaultRule → ℕ → FaultRule
 in_each rule number = rule
 
--- the first fault of a needed statement of the rest, whose first statement has this number, where each has its rule
-abbrev pub fault_from : (ℕ → FaultRule) → List File → ℕ → RelationEnvironment → List StatementTree
-    → Option RunFault
+-- the first fault of a needed statement of the rest, whose first statement has this number, where
+-- each has its rule
+abbrev pub fault_from : (ℕ → FaultRule) → List File → ℕ → RelationEnvironment
+    → List StatementTree → Option RunFault
 fault_from rules files number env [] = None
 fault_from rules files number env (s ∷ rest) =
     let own = if is_needed s rest then statement_fault (rules number) number files env s else None in

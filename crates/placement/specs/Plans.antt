@@ -64,12 +64,14 @@ uses_of shape = map (λ e. bits_of shape e.0) (enumerate_from 0 shape.atoms)
 
 -- ---- rules
 
--- by which rule the rows of a join come together: at cells with the shares of least load for the rows that are joined, or so
+-- by which rule the rows of a join come together: at cells with the shares of least load for the
+-- rows that are joined, or by one shuffle whatever they are
 pub data ShuffleRule : Type 0 where
   LeastLoad : ShuffleRule
   Fixed : (shuffle : Shuffle) → ShuffleRule
 
--- this shuffle, where its shares are shares for so many variables and workers; else one atom's rows stay
+-- this shuffle, where its shares are shares for so many variables and workers; else one atom's rows
+-- stay
 abbrev pub fitting_shuffle : ℕ → ℕ → Shuffle → Shuffle
 fitting_shuffle variables workers (ByCells shares) =
     if are_shares variables workers shares then ByCells shares else Broadcast
@@ -97,7 +99,8 @@ one_rule rule number = rule
 abbrev pub usual_rules : Settings → ℕ → ShuffleRule
 usual_rules s = one_rule (usual_rule s.shuffle)
 
--- the workers and the hash seed of the settings, whether they have joins reduced, and a rule for each statement
+-- the workers and the hash seed of the settings, whether they have joins reduced, and a rule for
+-- each statement
 abbrev pub placing_by : Settings → (ℕ → ShuffleRule) → Placing
 placing_by s rules = record {
   workers = s.workers;

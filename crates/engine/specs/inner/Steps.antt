@@ -46,7 +46,8 @@ rules_by s (Some plan) = planned_rules (plan_tree_of plan.now)
 -- ---- one step
 
 -- the exchanges of a step over what is held
-abbrev pub held_exchanges : Settings → (ℕ → ShuffleRule) → Held → StepTree → List PlacedExchange
+abbrev pub held_exchanges : Settings → (ℕ → ShuffleRule) → Held → StepTree
+    → List PlacedExchange
 held_exchanges s rules held t =
     term_exchanges (placing_by s rules) t.statement (value_held held) t.term
 
@@ -54,7 +55,8 @@ held_exchanges s rules held t =
 -- with its rows and the lines below it, the notes and the receipts of its exchanges stand behind
 -- those before; and the taps rose by its exchanges
 pub record IsStepDone {T : Type 0} (s : Settings) (rules : ℕ → ShuffleRule) (t : StepTree)
-    (stores : List StoreStep) (later : List StepTree) (held after_held : Held) (noted after_noted : Noted)
+    (stores : List StoreStep) (later : List StepTree) (held after_held : Held)
+    (noted after_noted : Noted)
     (totals : T → Totals) (tag : T → ℕ) (before after : List T) : Type 0 where
   pub made : List Rows
   pub receipts : List ReceiptState
@@ -77,7 +79,8 @@ pub record IsStepDone {T : Type 0} (s : Settings) (rules : ℕ → ShuffleRule) 
 
 -- what running a step over what is held does
 pub record IsStep {T : Type 0} (s : Settings) (rules : ℕ → ShuffleRule) (t : StepTree)
-    (stores : List StoreStep) (later : List StepTree) (held after_held : Held) (noted after_noted : Noted)
+    (stores : List StoreStep) (later : List StepTree) (held after_held : Held)
+    (noted after_noted : Noted)
     (totals : T → Totals) (tag : T → ℕ) (before after : List T) (answer : Result ⊤ RunFault)
     : Type 0 where
   pub fair : AreFair totals tag before after
@@ -111,8 +114,10 @@ pub record AreRun {T : Type 0} (s : Settings) (rules : ℕ → ShuffleRule) (fil
   pub made_as_meant : AreHeld (placing_by s rules) files c steps held.files every
   pub used : UsedAreHeld c.stores left every held.results.items
   pub plan : noted.plan
-      ≡ flat_map (step_notes (placing_by s rules) s.local (meant (placing_by s rules) files c)) steps
-  pub traffic : noted.traffic ≡ map (traffic_note s.workers) (numbered_exchanges s rules files c steps)
+      ≡ flat_map (step_notes (placing_by s rules) s.local (meant (placing_by s rules) files c))
+      steps
+  pub traffic :
+      noted.traffic ≡ map (traffic_note s.workers) (numbered_exchanges s rules files c steps)
   pub receipts : AreShown (size_of s)
       (flat_map shown_moves (bare_exchanges s rules files c steps)) noted.receipts
   pub moved : AreMoved totals tag s.workers (bare_exchanges s rules files c steps) before after

@@ -3,7 +3,7 @@
 --   text_of answer                the text that was prepared, or the answer that refuses it
 --   plan_tree plan                the plan that a run goes by, where there is one
 --   plan_of_read answer           the plan that was read, or the answer that refuses it
---   checked_verdict r plan files c   what a checked script comes to over its files, by a plan or without
+--   checked_verdict r plan files c   what a checked script comes to, by a plan or without
 --   evaluated_verdict script ..   what a script comes to over its files without workers
 --   MovesAs r content ..          receipts and taps are those of the run of the request
 --   MovesNothing before after ..  the taps are as they were, and there is no receipt
@@ -58,8 +58,10 @@ abbrev pub plan_of_read : Result Plan Outcome → Result PlanTree Outcome
 plan_of_read (Ok plan) = Ok (plan_tree_of plan)
 plan_of_read (Err answer) = Err answer
 
--- what a checked script comes to over its files, by a plan or without: the fault of its run, or the text that is printed
-abbrev pub checked_verdict : Request → Option PlanTree → List File → CheckedTree → Verdict (List ℕ)
+-- what a checked script comes to over its files, by a plan or without: the fault of its run, or the
+-- text that is printed
+abbrev pub checked_verdict : Request → Option PlanTree → List File → CheckedTree
+    → Verdict (List ℕ)
 checked_verdict r plan files c =
     option_map_or (λ found. refused (run_answer found))
     (checked_fault (faults_asked r plan) files c)
@@ -68,15 +70,16 @@ checked_verdict r plan files c =
 -- what a script comes to over its files without workers
 abbrev pub evaluated_verdict : List StatementTree → List File → Verdict (List ℕ)
 evaluated_verdict script files =
-    option_map_or (λ found. refused (run_answer found)) (run_fault (in_each joins_alone) files script)
+    option_map_or (λ found. refused (run_answer found))
+    (run_fault (in_each joins_alone) files script)
     (passes (output_text (stored_relations files script)))
 
 -- receipts and taps are those of the run of the request
 abbrev pub MovesAs : {T : Type 0} → Request → (List ℕ → Content) → (T → Totals) → (T → ℕ)
     → List T → List T → List ReceiptState → Type 0
 MovesAs r content totals tag before after receipts =
-    (files : List File) (c : CheckedTree) (plan : Option PlanTree) → IsRunOf r content files c plan
-    → HasMoved r plan files c totals tag before after receipts
+    (files : List File) (c : CheckedTree) (plan : Option PlanTree)
+    → IsRunOf r content files c plan → HasMoved r plan files c totals tag before after receipts
 
 -- the taps are as they were, and there is no receipt
 pub record MovesNothing {T : Type 0} (before after : List T)
