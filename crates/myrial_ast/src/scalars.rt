@@ -1,7 +1,10 @@
 //! Expressions over the places of one row.
-ghost use Rattle.std.specs.Prelude.{◌≡◌, IfOk};
+ghost use Rattle.std.specs.Prelude.{◌≡◌, ◌==◌, not, length, IfOk};
+ghost use Rattle.std.specs.List.{list_all};
 ghost use Rattle.myrial_ast.specs.Classes.{equality};
+ghost use Rattle.myrial_ast.specs.KeptRows.{lies_in, reads_within};
 ghost use Rattle.myrial_ast.specs.Scalars as scalar;
+ghost use Rattle.myrial_ast.specs.Scalars.{columns_of};
 ghost use Rattle.myrial_ast.specs.ScalarTrees.{scalar_tree_of};
 
 use crate::operators::BinOp;
@@ -77,6 +80,41 @@ impl Scalar {
                 _ => None,
             },
             _ => None,
+        }
+    }
+
+    /// Whether the scalar reads some column, and none before `from` or from `to` on.
+    pub fn reads_within(&self, from: u64, to: u64) -> bool
+        ensures { result
+            ≡ reads_within (record { from = from; to = to }) (scalar_tree_of self.now) }
+    {
+        self.reads_a_column() && self.reads_inside(from, to)
+    }
+
+    /// Whether the scalar reads some column.
+    fn reads_a_column(&self) -> bool
+        ensures { result ≡ not (length (columns_of (scalar_tree_of self.now)) == 0) }
+    {
+        match self {
+            Scalar::Lit(_) => false,
+            Scalar::At(_) => true,
+            Scalar::Not(operand) | Scalar::Neg(operand) => operand.reads_a_column(),
+            Scalar::Bin(_, left, right) => left.reads_a_column() || right.reads_a_column(),
+        }
+    }
+
+    /// Whether the scalar reads no column before `from`, and none from `to` on.
+    fn reads_inside(&self, from: u64, to: u64) -> bool
+        ensures { result ≡ list_all (lies_in (record { from = from; to = to }))
+            (columns_of (scalar_tree_of self.now)) }
+    {
+        match self {
+            Scalar::Lit(_) => true,
+            Scalar::At(column) => from <= u64::from(*column) && u64::from(*column) < to,
+            Scalar::Not(operand) | Scalar::Neg(operand) => operand.reads_inside(from, to),
+            Scalar::Bin(_, left, right) => {
+                left.reads_inside(from, to) && right.reads_inside(from, to)
+            }
         }
     }
 }

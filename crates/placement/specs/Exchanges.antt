@@ -1,7 +1,6 @@
 -- The exchanges of scripts: what each moves, and how many rows each worker lists after it.
 --
 --   PlacedExchange                         an exchange: its kind, its moves, and the listed rows at each worker
---   kept_spreads shape parts               the kept rows of each atom, where they lie
 --   by_cells, by_keys, by_broadcast        what the rows of a join's atoms do under each shuffle
 --   to_home p key parts                    each row goes to the home of its key
 --   shuffle_exchanges n seed shuffle ..    the exchanges of a join of several atoms
@@ -35,11 +34,6 @@ pub record PlacedExchange : Type 0 where
 -- the kept rows of atom j, where they lie
 abbrev pub kept_parts : Shape → ℕ → PlacedRelation → List Rows
 kept_parts shape j p = map (kept_of shape j) p.parts
-
--- the kept rows of each atom, where they lie
-abbrev pub kept_spreads : Shape → List (List Rows) → List (List Rows)
-kept_spreads shape parts =
-    map (λ (e : ℕ × List Rows). map (kept_of shape e.0) e.1) (enumerate_from 0 parts)
 
 -- the number of rows at each worker
 abbrev pub row_counts : List Rows → List ℕ

@@ -1,8 +1,7 @@
 //! Which columns of the combined row scalars read.
-ghost use Rattle.std.specs.Prelude.{◌≡◌, ◌==◌, ◌≤◌, not, length};
-ghost use Rattle.std.specs.List.{list_all, list_any};
+ghost use Rattle.std.specs.Prelude.{◌≡◌, ◌≤◌};
+ghost use Rattle.std.specs.List.{list_any};
 ghost use Rattle.myrial_ast.specs.KeptRows.{lies_in, reads_within};
-ghost use Rattle.myrial_ast.specs.Scalars.{columns_of};
 ghost use Rattle.myrial_ast.specs.ScalarTrees.{scalar_tree_of};
 ghost use Rattle.plan_rewrite.specs.inner.Pushing.{is_of_one};
 
@@ -24,18 +23,6 @@ impl Model for Span {
     ghost view = { λ s. record { from = s.from; to = s.to } };
 }
 
-/// Whether a scalar reads some column.
-fn has_column(scalar: &Scalar) -> bool
-    ensures { result ≡ not (length (columns_of (scalar_tree_of scalar.now)) == 0) }
-{
-    match scalar {
-        Scalar::Lit(_) => false,
-        Scalar::At(_) => true,
-        Scalar::Not(operand) | Scalar::Neg(operand) => has_column(operand),
-        Scalar::Bin(_, left, right) => has_column(left) || has_column(right),
-    }
-}
-
 impl Span {
     /// Whether a column lies here.
     pub(crate) fn has(&self, column: u32) -> bool
@@ -44,23 +31,11 @@ impl Span {
         self.from <= column && column < self.to
     }
 
-    /// Whether each column that a scalar reads lies here.
-    fn has_all(&self, scalar: &Scalar) -> bool
-        ensures { result ≡ list_all (lies_in self.now) (columns_of (scalar_tree_of scalar.now)) }
-    {
-        match scalar {
-            Scalar::Lit(_) => true,
-            Scalar::At(column) => self.has(*column),
-            Scalar::Not(operand) | Scalar::Neg(operand) => self.has_all(operand),
-            Scalar::Bin(_, left, right) => self.has_all(left) && self.has_all(right),
-        }
-    }
-
     /// Whether a scalar reads some column, and none that lies elsewhere.
     pub(crate) fn is_read_alone(&self, scalar: &Scalar) -> bool
         ensures { result ≡ reads_within self.now (scalar_tree_of scalar.now) }
     {
-        has_column(scalar) && self.has_all(scalar)
+        scalar.reads_within(u64::from(self.from), u64::from(self.to))
     }
 }
 

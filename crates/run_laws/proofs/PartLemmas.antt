@@ -11,12 +11,11 @@ use Rattle.rel_base.specs.declared.values.ColType.{ColType}
 use Rattle.myrial_ast.specs.Combinations.{Row, Rows, all_hold}
 use Rattle.myrial_ast.specs.KeptRows.{reads_within, columns_in, classes_agree, span_of_item, put_at}
 use Rattle.algebra.specs.Trees.{AtomTree, Shape}
-use Rattle.algebra.specs.Shapes.{widths_of, tests_of, ties_of, kept_of}
+use Rattle.algebra.specs.Shapes.{widths_of, tests_of, ties_of, kept_of, kept_spreads}
 use Rattle.algebra.specs.ShapeConditions.{HasKinds}
 use Rattle.algebra.specs.Joins.{IsPart, agrees_in}
 use Rattle.algebra.specs.Rewriting.{AreTables, IsPushed, no_atom}
 use Rattle.algebra.proofs.ShapeLemmas.{both}
-use Rattle.placement.specs.Exchanges.{kept_spreads}
 use Rattle.placement.specs.Layouts.{PlacedRelation, placed_nothing, rows_of}
 use Rattle.placement.specs.Laws.{IsPlaced}
 use Rattle.row_exchange.specs.Routes.{rows_at}

@@ -8,15 +8,14 @@ use Rattle.rel_base.specs.Values.{value_order}
 use Rattle.myrial_ast.specs.Scalars.{Scalar, value_at, holds}
 use Rattle.myrial_ast.specs.Combinations.{Row, Rows, all_hold}
 use Rattle.algebra.specs.Trees.{Shape}
-use Rattle.algebra.specs.Shapes.{kept_of}
+use Rattle.algebra.specs.Shapes.{kept_of, kept_spreads}
 use Rattle.algebra.specs.ShapeConditions.{HasKinds}
 use Rattle.algebra.specs.Rewriting.{KeepsAreKept}
 use Rattle.algebra.proofs.ShapeLemmas.{tie-holds}
-use Rattle.placement.specs.Exchanges.{kept_spreads}
 use Rattle.kept_rows.specs.KeptTests.{is_kept}
+use Rattle.kept_rows.specs.KeptSpreads.{AreTypedParts}
 use Rattle.routed_joins.specs.RouteJoins.{ArePartsAtWorkers}
-use Rattle.join_runs.specs.KeptSpreads.{AreTypedParts}
-use Rattle.join_runs.proofs.KeepLemmas.{kept-parts}
+use Rattle.routed_joins.proofs.KeptLemmas.{kept-parts}
 use Rattle.shuffle_tests.specs.inner.Numbers.{is_positive, positive_atom, ListsPositive, AreNumbers}
 
 abbrev of_positives : List Scalar → List Scalar → Shape

@@ -5,7 +5,8 @@ ghost use Rattle.shuffle_tests.specs.inner.Numbers.{ListsPositive};
 
 use crate::numbers::dealt;
 use algebra::{Atom, Atoms, ColTypes, JoinFault, JoinShape, Variables};
-use join_runs::{keep_rows, list_alone};
+use join_runs::list_alone;
+use kept_rows::keep_rows;
 use myrial_ast::{BinOp, Scalar, Scalars};
 use rel_base::{ColType, Memory, Spread, Value};
 use row_exchange::Spreads;
