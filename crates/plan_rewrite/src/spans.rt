@@ -1,5 +1,6 @@
 //! Which columns of the combined row scalars read.
-ghost use Rattle.std.specs.Prelude.{◌≡◌};
+ghost use Rattle.std.specs.Prelude.{◌≡◌, ◌≤◌};
+ghost use Rattle.std.specs.List.{list_any};
 ghost use Rattle.myrial_ast.specs.KeptRows.{lies_in, reads_within};
 ghost use Rattle.myrial_ast.specs.ScalarTrees.{scalar_tree_of};
 ghost use Rattle.plan_rewrite.specs.inner.Pushing.{is_of_one};
