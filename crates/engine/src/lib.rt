@@ -30,5 +30,5 @@ mod runs;
 mod steps;
 mod terms;
 
-pub use running::{run_planned, run_script};
+pub use running::run_script;
 pub use runs::{Ran, SpreadStore, SpreadStores};

@@ -7,16 +7,15 @@ ghost use Rattle.algebra.specs.Conditions.{is_of};
 ghost use Rattle.algebra.specs.Rewriting.{AreTyped};
 ghost use Rattle.algebra.specs.declared.terms.Step.{Step};
 ghost use Rattle.algebra.specs.declared.terms.StoreStep.{StoreStep};
-ghost use Rattle.placement.specs.Plans.{usual_rules};
 ghost use Rattle.placement.specs.Runs.{fault_of};
-ghost use Rattle.fragmenter.specs.Plans.{plan_tree_of, planned_rules};
+ghost use Rattle.fragmenter.specs.Plans.{lent_plan, rules_by};
 ghost use Rattle.join_plans.specs.JoinPlans.{ruled_by};
 ghost use Rattle.run_laws.specs.Values.{IsKnown};
 ghost use Rattle.run_laws.specs.Rewritten.{needed};
 ghost use Rattle.term_runs.specs.TermRuns.{AreFair};
 ghost use Rattle.engine.specs.Runs.{IsRunFault, IsRun};
 ghost use Rattle.engine.specs.inner.Held.{IsHeld};
-ghost use Rattle.engine.specs.inner.Steps.{AreRun, rules_by, schema_at, held_store};
+ghost use Rattle.engine.specs.inner.Steps.{AreRun, schema_at, held_store};
 
 use crate::dealing::dealt_files;
 use crate::held::Held;
@@ -37,52 +36,13 @@ use std::thread::Threads;
 /// Runs a checked script over its files, at so many workers as the settings say. It may wait as
 /// long as its threads do.
 ///
-/// Steps that no store needs aren't run. Tap `2w` is told the rows that worker `w` sends, and tap
-/// `2w + 1` those that it receives and lists; after another answer than Ok their sums may have
-/// risen.
+/// The rows of its joins come together as a plan says for each statement, or, where there is none,
+/// as the settings say for all; with a plan the shuffle of the settings isn't read. Any plan may be
+/// given: a statement without a choice, or with shares that aren't for its join, is run by
+/// broadcast; `fragmenter::fits` tells whether a plan has none such. Steps that no store needs
+/// aren't run. Tap `2w` is told the rows that worker `w` sends, and tap `2w + 1` those that it
+/// receives and lists; after another answer than Ok their sums may have risen.
 pub fn run_script<R: Threads + Wait + Sync, T: Tap + Send>(
-    rt: &R,
-    alloc: Global,
-    checked: &Checked,
-    files: &Files,
-    settings: &Settings,
-    taps: &mut Vec<T>,
-) -> Result<Ran, RunFault>
-    requires of { IsTrue (is_of files.now (checked_tree_of checked.now)) }
-    requires typed { AreTyped files.now }
-    requires taps { vec_len taps.old ≡ tap_count }
-    ensures { IsRun settings.now (usual_rules settings.now) files.now
-        (checked_tree_of checked.now) T.totals T.tag taps.old.items taps.new.items result }
-{
-    run_by(rt, alloc, checked, files, settings, None, taps)
-}
-
-/// Runs a checked script as `run_script` does, but with the joins of its statements as a plan says.
-/// It may wait as long as its threads do.
-///
-/// The shuffle of the settings isn't read. Any plan may be given: a statement without a choice, or
-/// with shares that aren't for its join, is run by broadcast; `fragmenter::fits` tells whether a
-/// plan has none such. Taps are told as by `run_script`.
-pub fn run_planned<R: Threads + Wait + Sync, T: Tap + Send>(
-    rt: &R,
-    alloc: Global,
-    checked: &Checked,
-    files: &Files,
-    settings: &Settings,
-    plan: &Plan,
-    taps: &mut Vec<T>,
-) -> Result<Ran, RunFault>
-    requires of { IsTrue (is_of files.now (checked_tree_of checked.now)) }
-    requires typed { AreTyped files.now }
-    requires taps { vec_len taps.old ≡ tap_count }
-    ensures { IsRun settings.now (planned_rules (plan_tree_of plan.now)) files.now
-        (checked_tree_of checked.now) T.totals T.tag taps.old.items taps.new.items result }
-{
-    run_by(rt, alloc, checked, files, settings, Some(plan), taps)
-}
-
-/// Runs a checked script by the rules of a plan, or, where there is none, by that of the settings.
-fn run_by<R: Threads + Wait + Sync, T: Tap + Send>(
     rt: &R,
     alloc: Global,
     checked: &Checked,
@@ -94,7 +54,7 @@ fn run_by<R: Threads + Wait + Sync, T: Tap + Send>(
     requires of { IsTrue (is_of files.now (checked_tree_of checked.now)) }
     requires typed { AreTyped files.now }
     requires taps { vec_len taps.old ≡ tap_count }
-    ensures { IsRun settings.now (rules_by settings.now plan.entry) files.now
+    ensures { IsRun settings.now (rules_by settings.now (lent_plan plan.entry)) files.now
         (checked_tree_of checked.now) T.totals T.tag taps.old.items taps.new.items result }
 {
     let (held, noted) = run_steps(rt, alloc, checked, files, settings, plan, taps)?;
@@ -127,11 +87,11 @@ fn run_steps<R: Threads + Wait + Sync, T: Tap + Send>(
     requires typed { AreTyped files.now }
     requires taps { vec_len taps.old ≡ tap_count }
     ensures fair { AreFair T.totals T.tag taps.old.items taps.new.items }
-    ensures ok { IfOk result (λ ran. AreRun settings.now (rules_by settings.now plan.entry)
+    ensures ok { IfOk result (λ ran. AreRun settings.now (rules_by settings.now (lent_plan plan.entry))
         files.now (checked_tree_of checked.now) (needed (checked_tree_of checked.now)) [] ran.0
         ran.1 T.totals T.tag taps.old.items taps.new.items) }
     ensures err { IfErr result (IsRunFault (fault_of settings.now
-        (rules_by settings.now plan.entry) files.now (checked_tree_of checked.now))) }
+        (rules_by settings.now (lent_plan plan.entry)) files.now (checked_tree_of checked.now))) }
 {
     let planned = rewrite(alloc, checked)?;
     let mut held = Held {
@@ -159,7 +119,7 @@ fn run_steps<R: Threads + Wait + Sync, T: Tap + Send>(
 
 /// By which rule the rows of a statement's join come together.
 fn shuffle_by(settings: &Settings, plan: Option<&Plan>, statement: u32) -> ShuffleBy
-    ensures { ruled_by result ≡ rules_by settings.now plan.entry statement }
+    ensures { ruled_by result ≡ rules_by settings.now (lent_plan plan.entry) statement }
 {
     match plan {
         Some(plan) => ShuffleBy::plan(plan, statement),

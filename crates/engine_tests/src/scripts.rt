@@ -54,7 +54,7 @@ impl Typed {
     ) -> Result<Ran, RunFault>
         requires { vec_len taps.old ≡ tap_count }
     {
-        run_script(rt, alloc, &self.checked, &self.files, settings, taps)
+        run_script(rt, alloc, &self.checked, &self.files, settings, None, taps)
     }
 }
 

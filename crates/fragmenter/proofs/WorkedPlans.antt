@@ -3,11 +3,14 @@ use Rattle.std.proofs.Common.{◌≡◌, ℕ, List, [], ◌∷◌, replicate, So
 use Rattle.algebra.specs.declared.notes.PlanKind.TheVariants as kind
 use Rattle.algebra.specs.declared.notes.PlanNote.TheVariants as note
 use Rattle.algebra.specs.declared.settings.JoinKind.TheVariants as join
+use Rattle.algebra.specs.declared.settings.Settings.{Settings}
+use Rattle.algebra.specs.declared.settings.ShuffleKind.TheVariants as shuffle_kind
 use Rattle.algebra.specs.declared.terms.Source.TheVariants as source
 use Rattle.algebra.specs.Trees.{Shape, TermTree, Distinct, Join, Group, StepTree}
 use Rattle.placement.specs.Layouts.{Shuffle, ByCells, ByKeys, Broadcast}
+use Rattle.placement.specs.Plans.{LeastLoad, Fixed}
 use Rattle.fragmenter.specs.declared.plans.Misfit.TheVariants as unfit
-use Rattle.fragmenter.specs.Plans.{PlanTree, joins_of, misfit}
+use Rattle.fragmenter.specs.Plans.{PlanTree, joins_of, misfit, rules_by}
 use Rattle.fragmenter.specs.NotedPlans.{noted_plan}
 
 -- ---- joins
@@ -73,6 +76,24 @@ second_choice_left : misfit (record {
   choices = record { statement = 1; shuffle = ByKeys } ∷ record { statement = 4; shuffle = ByKeys } ∷ [];
 }) triangle 8 ≡ Some (unfit.Statement 4)
 second_choice_left = refl
+
+-- ---- rules
+
+-- settings by cells, whose other fields don't count
+abbrev by_cells : (settings : Settings) → Settings
+by_cells settings = record settings { shuffle = shuffle_kind.Hc }
+
+-- each statement goes by the settings
+by_settings : (settings : Settings) → rules_by (by_cells settings) None 7 ≡ LeastLoad
+by_settings settings = refl
+
+-- the first choice for a statement is its rule, whatever the settings say
+by_choice : (settings : Settings) → rules_by (by_cells settings) (Some (one_join ByKeys)) 1 ≡ Fixed ByKeys
+by_choice settings = refl
+
+-- a statement without a choice goes by broadcast
+by_no_choice : (settings : Settings) → rules_by (by_cells settings) (Some (one_join ByKeys)) 2 ≡ Fixed Broadcast
+by_no_choice settings = refl
 
 -- ---- notes
 

@@ -7,16 +7,20 @@
 --   is_choice_for workers join choice       whether a choice is for this join
 --   first_misfit workers joins choices      the first statement at which joins and choices don't match
 --   misfit plan joins workers               why a plan doesn't fit
---   planned_shuffle plan number                  how the rows of a statement's join meet by a plan
+--   planned_shuffle plan number             how the rows of a statement's join meet by a plan
 --   planned_rules plan                      the rule of each statement
+--   lent_plan plan                          the tree of a plan that is lent, where one is
+--   rules_by settings plan                  the rule of each statement by a plan, or by the settings where there is none
 use Rattle.std.specs.Prelude.{ℕ, ◌==◌, ◌&&◌, nat_le, if◌then◌else◌, Bool, true, List, [], ◌∷◌, map, length, find, Option, Some, None, option_map}
+use Rattle.std.specs.Borrow.{Bor}
 use Rattle.std.specs.List.{flat_map}
 use Rattle.std.specs.Option.{option_map_or, option_to_list}
+use Rattle.algebra.specs.declared.settings.Settings.{Settings}
 use Rattle.algebra.specs.Trees.{Shape, TermTree, Join, Group, StepTree}
 use Rattle.share_chooser.specs.Load.{are_shares}
 use Rattle.share_chooser.specs.Shares.{shares_of}
 use Rattle.placement.specs.Layouts.{Shuffle, ByCells, ByKeys, Broadcast}
-use Rattle.placement.specs.Plans.{ShuffleRule, Fixed}
+use Rattle.placement.specs.Plans.{ShuffleRule, Fixed, usual_rules}
 use Rattle.fragmenter.specs.declared.plans.How.{How}
 use Rattle.fragmenter.specs.declared.plans.How.TheVariants as how
 use Rattle.fragmenter.specs.declared.plans.Choice.{Choice}
@@ -108,3 +112,12 @@ planned_shuffle plan number =
 -- the rule of each statement
 abbrev pub planned_rules : PlanTree → ℕ → ShuffleRule
 planned_rules plan number = Fixed (planned_shuffle plan number)
+
+-- the tree of a plan that is lent, where one is
+abbrev pub lent_plan : Option (Bor Plan) → Option PlanTree
+lent_plan plan = option_map (λ lent. plan_tree_of lent.now) plan
+
+-- the rule of each statement: that of a plan, or, where there is none, that of the settings
+abbrev pub rules_by : Settings → Option PlanTree → ℕ → ShuffleRule
+rules_by s None = usual_rules s
+rules_by s (Some plan) = planned_rules plan

@@ -2,8 +2,7 @@
 --
 --   plan_verdict workers joins content   what the file of a plan comes to, for these joins
 --   asked_plan r content c               the plan that a request goes by: none but in a replay
---   rules_by s plan                      by which rule each statement is shuffled
---   rules_asked r plan                   and so by the settings of a request
+--   rules_asked r plan                   by which rule each statement is shuffled
 --   faults_asked r plan                  what counts as a fault of each statement
 use Rattle.std.specs.Prelude.{ℕ, List, Option, Some, None, if◌then◌else◌, unwrap_or, []}
 use Rattle.std.specs.Option.{option_map_or}
@@ -12,10 +11,9 @@ use Rattle.myrial_ast.specs.CandidateFaults.{FaultRule, joins_alone}
 use Rattle.myrial_meaning.specs.Faults.{in_each}
 use Rattle.algebra.specs.Meanings.{needed_steps}
 use Rattle.algebra.specs.Trees.{CheckedTree}
-use Rattle.algebra.specs.declared.settings.Settings.{Settings}
-use Rattle.placement.specs.Plans.{ShuffleRule, usual_rules}
+use Rattle.placement.specs.Plans.{ShuffleRule}
 use Rattle.placement.specs.Runs.{faults_at}
-use Rattle.fragmenter.specs.Plans.{PlanTree, joins_of, misfit, planned_rules}
+use Rattle.fragmenter.specs.Plans.{PlanTree, joins_of, misfit, rules_by}
 use Rattle.fragmenter.specs.declared.plans.Misfit.{Misfit}
 use Rattle.fragmenter.specs.declared.plans.Misfit.TheVariants as unfit
 use Rattle.plan_json.specs.PlanTexts.{most_plan_bytes, plan_of_text}
@@ -68,11 +66,7 @@ asked_plan r content c =
     if is_replay r.mode then and_then (named_plan r content c) (λ plan. passes (Some plan))
     else passes None
 
--- by a plan, or else by the settings
-abbrev pub rules_by : Settings → Option PlanTree → ℕ → ShuffleRule
-rules_by s None = usual_rules s
-rules_by s (Some plan) = planned_rules plan
-
+-- the rule of each statement: a plan's, or else that of the settings
 abbrev pub rules_asked : Request → Option PlanTree → ℕ → ShuffleRule
 rules_asked r plan = rules_by r.settings plan
 

@@ -11,23 +11,22 @@ ghost use Rattle.algebra.specs.Rewriting.{AreTyped};
 ghost use Rattle.algebra.specs.Trees.{CheckedTree};
 ghost use Rattle.term_runs.specs.TermRuns.{AreFair};
 ghost use Rattle.fragmenter.specs.NotedPlans.{noted_plan};
+ghost use Rattle.fragmenter.specs.Plans.{lent_plan};
 ghost use Rattle.plan_json.specs.PlanTexts.{written};
-ghost use Rattle.engine.specs.Runs.{IsRun};
 ghost use Rattle.plan_printer.specs.TrafficTexts.{IsWhole};
 ghost use Rattle.output_texts.specs.Stores.{whole_store};
 ghost use Rattle.myria_top.specs.Moves.{HasMoved};
-ghost use Rattle.myria_top.specs.Plans.{rules_by};
 ghost use Rattle.myria_top.specs.Printed.{asked_traffic, notes_text, text_in};
 ghost use Rattle.myria_top.specs.Reading as read;
 ghost use Rattle.myria_top.specs.Requests.{is_check};
 ghost use Rattle.myria_top.specs.Runs.{plain_verdict};
-ghost use Rattle.myria_top.specs.inner.Working.{text_of, checked_verdict, evaluated_verdict, plan_tree};
+ghost use Rattle.myria_top.specs.inner.Working.{text_of, checked_verdict, evaluated_verdict};
 ghost use Rattle.myria_top.specs.inner.Working.{IsOfRun, MovesNothing};
 
 use crate::Outcome;
 use algebra::{Checked, Settings};
 use command_words::{Mode, Request};
-use engine::{Ran, run_planned, run_script};
+use engine::{Ran, run_script};
 use exchange_channels::Receipts;
 use fragmenter::{Plan, plan_of};
 use myrial_ast::Script;
@@ -135,14 +134,14 @@ pub(crate) fn text_at_workers<R: Threads + Wait + Sync, T: Tap + Send>(
     requires typed { AreTyped files }
     requires taps { vec_len taps.old ≡ tap_count }
     ensures agrees { read.Agrees
-        (checked_verdict request.now (plan_tree plan.entry) files (checked_tree_of checked.now))
+        (checked_verdict request.now (lent_plan plan.entry) files (checked_tree_of checked.now))
         (text_of result) }
     ensures kind { IfErr result IsOfRun }
     ensures fair { AreFair T.totals T.tag taps.old.items taps.new.items }
-    ensures moved { IfOk result (λ made. HasMoved request.now (plan_tree plan.entry) files
+    ensures moved { IfOk result (λ made. HasMoved request.now (lent_plan plan.entry) files
         (checked_tree_of checked.now) T.totals T.tag taps.old.items taps.new.items made.receipts) }
 {
-    let ran = match run_at_workers(rt, alloc, checked, &files, &request.settings, plan, taps) {
+    let ran = match run_script(rt, alloc, checked, &files, &request.settings, plan, taps) {
         Ok(ran) => ran,
         Err(fault) => return Err(Outcome::from(fault)),
     };
@@ -153,28 +152,6 @@ pub(crate) fn text_at_workers<R: Threads + Wait + Sync, T: Tap + Send>(
     };
     let Ran { receipts, .. } = ran;
     Ok(Unprinted { text, receipts })
-}
-
-/// Runs a typed script over its files at workers, by a plan or by the settings.
-fn run_at_workers<R: Threads + Wait + Sync, T: Tap + Send>(
-    rt: &R,
-    alloc: Global,
-    checked: &Checked,
-    files: &Files,
-    settings: &Settings,
-    plan: Option<&Plan>,
-    taps: &mut Vec<T>,
-) -> Result<Ran, RunFault>
-    requires of { IsTrue (is_of files.now (checked_tree_of checked.now)) }
-    requires typed { AreTyped files.now }
-    requires taps { vec_len taps.old ≡ tap_count }
-    ensures { IsRun settings.now (rules_by settings.now (plan_tree plan.entry)) files.now
-        (checked_tree_of checked.now) T.totals T.tag taps.old.items taps.new.items result }
-{
-    match plan {
-        Some(plan) => run_planned(rt, alloc, checked, files, settings, plan, taps),
-        None => run_script(rt, alloc, checked, files, settings, taps),
-    }
 }
 
 /// The text of a run at workers.

@@ -1,13 +1,11 @@
 -- Steps, and how far a run has come.
 --
---   rules_by s plan            the rule of each statement
 --   IsStepDone ..              what running a step does on Ok: its result is held, and what it did is noted
 --   IsStep ..                  what it does, whatever it answers
 --   AreRun ..                  some steps have run and others are left: what is held and noted is what they mean
 --   schema_at files c o        the columns of what a source stands for
 --   held_store files c held t  what a store stores, where its rows are held
 use Rattle.std.specs.Prelude.{◌≡◌, ⊤, ℕ, List, [], ◌∷◌, ◌++◌, map, length, All, Option, Some, None, Result, IfErr, OnOk}
-use Rattle.std.specs.Borrow.{Bor}
 use Rattle.std.specs.List.{flat_map}
 use Rattle.rel_base.specs.Keys.{File}
 use Rattle.rel_base.specs.declared.relations.Column.{Column}
@@ -24,10 +22,8 @@ use Rattle.algebra.specs.Meanings.{found, no_relation, relations_of, step_relati
 use Rattle.algebra.specs.Trees.{StepTree, CheckedTree}
 use Rattle.placement.specs.Layouts.{together, term_parts}
 use Rattle.placement.specs.Exchanges.{PlacedExchange, term_exchanges, traffic_note}
-use Rattle.placement.specs.Plans.{ShuffleRule, usual_rules, placing_by, plan_kind, term_notes, step_notes}
+use Rattle.placement.specs.Plans.{ShuffleRule, placing_by, plan_kind, term_notes, step_notes}
 use Rattle.placement.specs.Runs.{size_of, faults_at}
-use Rattle.fragmenter.specs.declared.plans.Plan.{Plan}
-use Rattle.fragmenter.specs.Plans.{plan_tree_of, planned_rules}
 use Rattle.term_runs.specs.TermRuns.{shown_moves, AreShown, AreMoved, AreFair}
 use Rattle.run_laws.specs.Values.{meant}
 use Rattle.run_laws.specs.Scripts.{step_exchanges, IsSound}
@@ -37,11 +33,6 @@ use Rattle.engine.specs.declared.noted.Noted.{Noted}
 use Rattle.engine.specs.declared.runs.SpreadStore.{SpreadStore}
 use Rattle.engine.specs.Runs.{IsRunFault}
 use Rattle.engine.specs.inner.Held.{parts_held, value_held, UsedAreHeld}
-
--- the rule of each statement: that of a plan, or, where there is none, that of the settings
-abbrev pub rules_by : Settings → Option (Bor Plan) → ℕ → ShuffleRule
-rules_by s None = usual_rules s
-rules_by s (Some plan) = planned_rules (plan_tree_of plan.now)
 
 -- ---- one step
 

@@ -1,7 +1,6 @@
 -- What a run comes to before anything is printed.
 --
 --   text_of answer                the text that was prepared, or the answer that refuses it
---   plan_tree plan                the plan that a run goes by, where there is one
 --   plan_of_read answer           the plan that was read, or the answer that refuses it
 --   checked_verdict r plan files c   what a checked script comes to, by a plan or without
 --   evaluated_verdict script ..   what a script comes to over its files without workers
@@ -15,8 +14,7 @@
 --   NeedsNoCount                  an answer of which no count shows the cause
 --   HasFirstBad content fetches   an answer to these files, of which one is the first that isn't good
 --   IsAllowed content name ..     a text or an answer that each file by itself allows
-use Rattle.std.specs.Prelude.{◌≡◌, ◌⊎◌, ℕ, List, [], All, Option, option_map, Result, Ok, Err, IfOk, ⊤}
-use Rattle.std.specs.Borrow.{Bor}
+use Rattle.std.specs.Prelude.{◌≡◌, ◌⊎◌, ℕ, List, [], All, Option, Result, Ok, Err, IfOk, ⊤}
 use Rattle.std.specs.Option.{option_map_or}
 use Rattle.rel_base.specs.Keys.{File}
 use Rattle.rel_base.specs.declared.names.Key.{Key}
@@ -48,10 +46,6 @@ use Rattle.myria_top.specs.Verdicts.{Verdict, refused, passes}
 abbrev pub text_of : Result Unprinted Outcome → Result (List ℕ) Outcome
 text_of (Ok unprinted) = Ok unprinted.text
 text_of (Err answer) = Err answer
-
--- the plan that a run goes by, where there is one
-abbrev pub plan_tree : Option (Bor Plan) → Option PlanTree
-plan_tree plan = option_map (λ lent. plan_tree_of lent.now) plan
 
 -- the plan that was read, or the answer that refuses it
 abbrev pub plan_of_read : Result Plan Outcome → Result PlanTree Outcome
