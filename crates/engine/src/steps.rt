@@ -9,13 +9,13 @@ ghost use Rattle.engine.specs.inner.Steps.{IsStep};
 ghost use Rattle.engine.specs.inner.Terms.{later_in};
 
 use crate::held::Held;
-use crate::joins::rows_in;
 use crate::noted::{Noted, append};
 use crate::terms::{RunStep, run_term};
 use algebra::{PlanKind, PlanNote, PlanNotes, Settings, Term};
 use join_plans::add_note;
 use rel_base::RunFault;
 use rel_io::Tap;
+use routed_joins::rows_in;
 use std::alloc::Global;
 use std::sync::Wait;
 use std::thread::Threads;

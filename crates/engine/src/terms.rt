@@ -11,12 +11,13 @@ ghost use Rattle.engine.specs.inner.Terms.{IsStepRun, IsUnionFault, later_in};
 
 use crate::groups::run_step_group;
 use crate::held::Held;
-use crate::joins::{StepJoin, at_rest, rows_in, run_step_join};
+use crate::joins::{StepJoin, at_rest, run_step_join};
 use algebra::{JoinShape, PlanNotes, Settings, Sources, Step, Stores, Term};
 use join_plans::ShuffleBy;
 use keyed_terms::{Operands, empty_parts, run_diff, run_distinct, union_parts};
 use rel_base::{Duplicate, MOST_ROWS, Memory, RunFault, Spread};
 use rel_io::Tap;
+use routed_joins::rows_in;
 use std::alloc::Global;
 use std::sync::Wait;
 use std::thread::Threads;

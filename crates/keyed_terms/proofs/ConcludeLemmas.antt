@@ -20,7 +20,7 @@ use Rattle.routed_joins.proofs.RouteLemmas.{same-tables}
 use Rattle.std.proofs.lemmas.List.FromFn.{length-map-range_with_len, get_or-map-range_with_len}
 use Rattle.rel_base.specs.Bags.{SameBag}
 use Rattle.term_runs.specs.declared.moved.Moved.{Moved}
-use Rattle.term_runs.specs.Notes.{AreSeconds}
+use Rattle.routed_joins.specs.Readings.{AreSeconds}
 use Rattle.term_runs.specs.TermRuns.{shown_moves, AreShown, AreMoved, AreFair, IsMoved, IsTermRun}
 use Rattle.term_runs.proofs.TapLemmas.{listed-one, listed-fair, fair-both}
 use Rattle.term_runs.proofs.NoteLemmas.{note-is}

@@ -2,7 +2,7 @@
 ghost use Rattle.std.specs.Prelude.{◌≡◌, ◌*◌, ◌≤◌, length, All, IfOk, vec_len};
 ghost use Rattle.rel_base.specs.Limits.{most_workers};
 ghost use Rattle.routed_joins.specs.Listings.{IsLow, count_at, IsListedAt};
-ghost use Rattle.term_runs.specs.Notes.{HaveRisen};
+ghost use Rattle.routed_joins.specs.Readings.{HaveRisen};
 ghost use Rattle.keyed_terms.specs.inner.Concluding.{IsConcluded};
 
 use algebra::{Exchange, TrafficNotes};

@@ -15,10 +15,11 @@ use exchange_channels::{Receipt, Receipts};
 use regular_shuffle::spread_by_key;
 use rel_base::{Memory, Places, Spread};
 use rel_io::Tap;
+use routed_joins::seconds_of;
 use std::alloc::Global;
 use std::sync::Wait;
 use std::thread::Threads;
-use term_runs::{Moved, have_room, seconds_of};
+use term_runs::{Moved, have_room};
 
 /// The operands of a `diff`: a list of rows for each worker, each of which has `width` columns.
 pub struct Operands {

@@ -22,10 +22,11 @@ use myrial_ast::Scalars;
 use regular_shuffle::spread_by_key;
 use rel_base::Spread;
 use rel_io::Tap;
+use routed_joins::seconds_of;
 use std::alloc::Global;
 use std::sync::Wait;
 use std::thread::Threads;
-use term_runs::{Moved, have_room, seconds_of};
+use term_runs::{Moved, have_room};
 
 /// A row for each group of the listed rows: each worker forms a partial row for each of its groups,
 /// these go to the homes of their keys, and are merged there. It may wait as long as the threads of

@@ -4,6 +4,5 @@ pub mod Broadcasts
 pub mod Steps
 pub mod StepRuns
 pub mod StepScalars
-pub mod Counts
 pub mod StepJoins
 pub mod Progress

@@ -26,7 +26,6 @@
 
 mod broadcast_route;
 mod broadcasting;
-mod counting;
 mod key_route;
 mod moving;
 mod reading;

@@ -1,6 +1,5 @@
--- Numbers that are read off taps.
-use Rattle.std.proofs.Common.{◌≡◌, ℕ, ◌+◌, ◌*◌, ◌<◌, ◌≤◌, List, [], ◌∷◌, length, get_or, refl, sym, ap, ◌∙◌, arith, ⊎_elim}
-use Rattle.std.proofs.lemmas.Bool.{cases_lt}
+-- The note of an exchange, read off taps.
+use Rattle.std.proofs.Common.{◌≡◌, ℕ, ◌*◌, ◌<◌, ◌≤◌, List, [], ◌∷◌, length, get_or, refl, sym, ap, ◌∙◌, arith}
 use Rattle.std.proofs.lemmas.List.FromFn.{fill_by_all}
 use Rattle.rel_io.specs.declared.taps.Totals.{Totals}
 use Rattle.exchange_channels.proofs.DeliveryLemmas.{element}
@@ -8,50 +7,13 @@ use Rattle.algebra.specs.declared.notes.Traffic.{Traffic}
 use Rattle.placement.specs.Exchanges.{PlacedExchange, traffic_note}
 use Rattle.placement.specs.Layouts.{by_worker}
 use Rattle.row_exchange.specs.Moves.{received}
-use Rattle.row_exchange.specs.Exchanges.{AreTold}
-use Rattle.routed_joins.specs.Listings.{IsListedAt}
 use Rattle.term_runs.specs.TermRuns.{all_sent, all_received, all_listed, AreMoved}
-use Rattle.term_runs.specs.Notes.{AreSeconds, HaveRisen, IsNoteSince}
+use Rattle.routed_joins.specs.Readings.{AreSeconds, HaveRisen}
+use Rattle.routed_joins.proofs.ReadingLemmas.{risen-told}
+use Rattle.term_runs.specs.Notes.{IsNoteSince}
 use Rattle.term_runs.specs.Laws.{NotesTellMoves}
 
 module _ {T : Type 0} (totals : T → Totals) where
-  -- the numbers of the first workers
-  pub record AreCountedSoFar (told : ℕ) (since : List Totals) (taps : List T) (received_by listed_by : List ℕ) : Type 0 where
-    pub received_by_all : length received_by ≡ told
-    pub listed_by_all : length listed_by ≡ told
-    pub received_is : (w : ℕ) (d : T) (e : Totals) → w < told
-        → (get_or since w e).got + get_or received_by w 0 ≡ (totals (get_or taps (2 * w + 1) d)).got
-    pub listed_is : (w : ℕ) (d : T) (e : Totals) → w < told
-        → (get_or since w e).listed + get_or listed_by w 0 ≡ (totals (get_or taps (2 * w + 1) d)).listed
-
-  -- sums that were read before taps were told more
-  pub risen-told : (tag : T → ℕ) (n : ℕ) (s g l : ℕ → ℕ) (before after : List T) (since : List Totals) → AreSeconds totals n before since
-      → AreTold totals tag n s g l before after → HaveRisen totals since after
-  risen-told tag n s g l before after since read x = record {
-    got = λ w d e below.
-        let inside : w < n = omega (arith, below, read.count) in
-        omega (arith, ap (λ (t : Totals). t.got) (read.sums_are w d e inside), ap (λ (t : Totals). t.got) (x.seconds w d inside));
-    listed = λ w d e below.
-        let inside : w < n = omega (arith, below, read.count) in
-        omega (arith, ap (λ (t : Totals). t.listed) (read.sums_are w d e inside), ap (λ (t : Totals). t.listed) (x.seconds w d inside));
-  }
-
-  -- and before rows were listed behind it
-  pub risen-listed : (tag : T → ℕ) (n : ℕ) (counts : ℕ → ℕ) (before after : List T) (since : List Totals) → HaveRisen totals since before
-      → IsListedAt totals tag n counts before after → HaveRisen totals since after
-  risen-listed tag n counts before after since risen l = record {
-    got = λ w d e below.
-        ⊎_elim
-        (λ (h : w < n). omega (arith, risen.got w d e below, ap (λ (t : Totals). t.got) (l.told.seconds w d h)))
-        (λ (h : n ≤ w). omega (arith, risen.got w d e below, ap (λ (t : T). (totals t).got) (l.told.others (2 * w + 1) d (omega (arith, h)))))
-        (cases_lt w (n));
-    listed = λ w d e below.
-        ⊎_elim
-        (λ (h : w < n). omega (arith, risen.listed w d e below, ap (λ (t : Totals). t.listed) (l.told.seconds w d h)))
-        (λ (h : n ≤ w). omega (arith, risen.listed w d e below, ap (λ (t : T). (totals t).listed) (l.told.others (2 * w + 1) d (omega (arith, h)))))
-        (cases_lt w (n));
-  }
-
   -- ---- the note of an exchange
 
   module _ (tag : T → ℕ) (n number : ℕ) (e : PlacedExchange) (before after : List T) (since : List Totals) (note : Traffic)
@@ -63,7 +25,7 @@ module _ {T : Type 0} (totals : T → Totals) where
         let t = totals d in
         omega (
           arith,
-          is.received_is w d t (omega (arith, below, read.count)),
+          is.received_are.risen_by w d t (omega (arith, below, read.count)),
           ap (λ (t : Totals). t.got) (read.sums_are w d t below),
           ap (λ (t : Totals). t.got) (moved.seconds w d below),
         )
@@ -74,7 +36,7 @@ module _ {T : Type 0} (totals : T → Totals) where
         let t = totals d in
         omega (
           arith,
-          is.listed_is w d t (omega (arith, below, read.count)),
+          is.listed_are.risen_by w d t (omega (arith, below, read.count)),
           ap (λ (t : Totals). t.listed) (read.sums_are w d t below),
           ap (λ (t : Totals). t.listed) (moved.seconds w d below),
         )
@@ -82,9 +44,9 @@ module _ {T : Type 0} (totals : T → Totals) where
     pub note-is : note ≡ traffic_note n (number, e)
     note-is =
         let r : note.received ≡ by_worker n (received e.moves) =
-        fill_by_all (received e.moves) note.received n 0 (omega (arith, is.received_by_all, read.count)) received-at in
+        fill_by_all (received e.moves) note.received n 0 (omega (arith, is.received_are.each_worker, read.count)) received-at in
         let l : note.listed ≡ e.listed =
-        fill_by_all (λ w. get_or e.listed w 0) note.listed n 0 (omega (arith, is.listed_by_all, read.count)) listed-at
+        fill_by_all (λ w. get_or e.listed w 0) note.listed n 0 (omega (arith, is.listed_are.each_worker, read.count)) listed-at
         ∙ sym (fill_by_all (λ w. get_or e.listed w 0) e.listed n 0 all_listed (λ w below. refl)) in
         λ i. record { statement = is.statement_is i; exchange = is.exchange_is i; received = r i; listed = l i }
 

@@ -5,8 +5,8 @@
 //! exchange for receipts and taps.
 //!
 //! Promises: `tell_listed` tells the taps what each worker lists; `have_room` says whether every
-//! sum of taps is far from its end. `seconds_of` and `traffic_since` read the numbers of an
-//! exchange off what the taps were told. By the laws what exchanges tell one after another is what
+//! sum of taps is far from its end. `traffic_since` reads the numbers of an exchange off what the
+//! taps were told. By the laws what exchanges tell one after another is what
 //! all of them tell.
 //!
 //! Read `specs/TermRuns.antt`, then `telling.rt` and `specs/Laws.antt`.
@@ -21,5 +21,5 @@ pub use laws::{
     fairness_is_kept, moves_are_joined, notes_tell_moves, runs_are_joined, told_is_moved,
 };
 pub use moved::Moved;
-pub use noting::{seconds_of, traffic_since};
+pub use noting::traffic_since;
 pub use telling::{have_room, tell_listed};

@@ -8,7 +8,7 @@ use Rattle.placement.specs.Exchanges.{PlacedExchange, row_exchange}
 use Rattle.placement.specs.Layouts.{together}
 use Rattle.row_exchange.specs.Moves.{sent, received}
 use Rattle.routed_joins.specs.PlacedJoins.{placed_rows}
-use Rattle.term_runs.specs.Notes.{AreSeconds}
+use Rattle.routed_joins.specs.Readings.{AreSeconds}
 use Rattle.keyed_terms.specs.KeyedTerms.{keyed_placing, diff_parts}
 use Rattle.keyed_terms.proofs.BagLemmas.{difference-made}
 use Rattle.keyed_terms.proofs.ConcludeLemmas.{tables-made, concluded}

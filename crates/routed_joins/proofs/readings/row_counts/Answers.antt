@@ -1,6 +1,6 @@
 use Rattle.std.proofs.Common.{arith}
 use Rattle.std.proofs.lemmas.Grind.{common_steps}
-use Rattle.regular_shuffle.proofs.counting.row_counts.Goals as goal
+use Rattle.routed_joins.proofs.readings.row_counts.Goals as goal
 
 pub loop-rows-preserved : goal.loop-rows-preserved
 loop-rows-preserved c = grind (arith, common_steps)

@@ -1,6 +1,6 @@
 use Rattle.std.proofs.Common.{◌≡◌, ◌<◌, ◌^◌, take, length, All}
 use Rattle.placement.specs.Exchanges.{row_counts}
-use Rattle.regular_shuffle.proofs.counting.row_counts.Given as goal
+use Rattle.routed_joins.proofs.readings.row_counts.Given as goal
 
 abbrev pub invariant-loop-rows : goal.invariant-loop-rows
 invariant-loop-rows l = record {

@@ -1,6 +1,6 @@
 use Rattle.std.proofs.Common.{◌≡◌, ◌*◌, ◌≤◌, take, length}
 use Rattle.placement.specs.Layouts.{together}
-use Rattle.regular_shuffle.proofs.counting.rows_in.Given as goal
+use Rattle.routed_joins.proofs.readings.rows_in.Given as goal
 
 abbrev pub invariant-loop-rows : goal.invariant-loop-rows
 invariant-loop-rows l = record {
