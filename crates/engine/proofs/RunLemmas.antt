@@ -25,6 +25,7 @@ use Rattle.algebra.specs.Conditions.{is_of}
 use Rattle.algebra.specs.Meanings.{sources_of, term_fault}
 use Rattle.algebra.specs.Rewriting.{AreTables, AreTyped, IsSameTerm, IsRewritten}
 use Rattle.algebra.specs.Trees.{Shape, TermTree, Same, Empty, UnionAll, Diff, Distinct, Join, Group, StepTree, CheckedTree}
+use Rattle.placement.specs.Stores.{AreStoredAt, no_store, a_store}
 use Rattle.placement.specs.Exchanges.{PlacedExchange, term_exchanges, traffic_note}
 use Rattle.placement.specs.Laws.{IsPlaced, IsPlacing, IsReady, HasReadyItems}
 use Rattle.placement.specs.Layouts.{PlacedRelation, Placing, ByKeys, placed_file, placed_stores, rows_of, term_parts, together}
@@ -56,7 +57,7 @@ use Rattle.run_laws.proofs.TermLemmas.{terms_are_of_bags}
 use Rattle.engine.specs.declared.held.Held.{Held}
 use Rattle.engine.specs.declared.noted.Noted.{Noted}
 use Rattle.engine.specs.declared.runs.Ran.{Ran}
-use Rattle.engine.specs.Runs.{IsRan, AreStoredAt, no_store, a_store, IsRunFault}
+use Rattle.engine.specs.Runs.{IsRan, IsRunFault}
 use Rattle.engine.specs.inner.Held.{IsHeld, parts_held, value_held, UsedAreHeld, IsJoinable, HasJoinable, IsRunnable}
 use Rattle.engine.proofs.UsedLemmas.{ready-among, used-with-one-more, used-without-last, used-in-turn, stores-among}
 use Rattle.engine.specs.inner.Steps.{held_exchanges, IsStepDone, numbered_exchanges, bare_exchanges, AreRun, schema_at, held_store}

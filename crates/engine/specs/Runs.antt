@@ -1,43 +1,23 @@
 -- What running a checked script at workers does.
 --
---   IsStoredAt stored placed               what a store holds, worker by worker
 --   IsRan s rules files c ran              a run stores, plans, counts and shows what is placed
 --   IsRunFault s files c fault             this is wrong with the script, or memory was refused
 --   IsRun ..                               what a run does, whatever it answers
-use Rattle.std.specs.Prelude.{◌≡◌, ⊤, ℕ, List, [], ◌∷◌, Option, Some, None, Result, IfOk, IfErr}
+use Rattle.std.specs.Prelude.{◌≡◌, ⊤, ℕ, List, Option, Some, None, Result, IfOk, IfErr}
 use Rattle.std.specs.List.{flat_map}
 use Rattle.rel_base.specs.Keys.{File}
-use Rattle.rel_base.specs.declared.names.Key.{Key}
 use Rattle.rel_base.specs.declared.faults.RunFault.{RunFault}
 use Rattle.rel_base.specs.declared.faults.RunFault.TheVariants as fault
 use Rattle.rel_io.specs.declared.taps.Totals.{Totals}
-use Rattle.bag_laws.specs.Permuted.{SameTables}
 use Rattle.algebra.specs.declared.settings.Settings.{Settings}
 use Rattle.algebra.specs.Trees.{CheckedTree}
-use Rattle.placement.specs.Layouts.{PlacedRelation, placed_stores}
+use Rattle.placement.specs.Layouts.{placed_stores}
 use Rattle.placement.specs.Exchanges.{traffic_of}
 use Rattle.placement.specs.Plans.{ShuffleRule, placing_by, plan_of}
 use Rattle.placement.specs.Runs.{size_of, fault_of, run_exchanges}
+use Rattle.placement.specs.Stores.{AreStoredAt}
 use Rattle.term_runs.specs.TermRuns.{shown_moves, AreShown, AreMoved, AreFair}
-use Rattle.engine.specs.declared.runs.SpreadStore.{SpreadStore}
 use Rattle.engine.specs.declared.runs.Ran.{Ran}
-
--- ---- what is stored
-
--- the key and the columns of what is stored, and at each worker its rows, as a bag
-pub record IsStoredAt (stored : SpreadStore) (placed : Key × PlacedRelation) : Type 0 where
-  pub key : stored.key ≡ placed.0
-  pub schema : stored.schema ≡ placed.1.relation.schema
-  pub parts : SameTables placed.1.parts stored.parts
-
--- store by store
-pub data AreStoredAt : List SpreadStore → List (Key × PlacedRelation) → Type 0 where
-  no_store : AreStoredAt [] []
-  a_store : (stored : SpreadStore) (placed : Key × PlacedRelation) (rest : List SpreadStore)
-      (others : List (Key × PlacedRelation)) → IsStoredAt stored placed → AreStoredAt rest others
-      → AreStoredAt (stored ∷ rest) (placed ∷ others)
-
--- ---- a run
 
 -- nothing is wrong with the script; each store holds what is placed, worker by worker; plan and traffic are those of the
 -- script, and the receipts show its exchanges

@@ -31,4 +31,4 @@ mod steps;
 mod terms;
 
 pub use running::run_script;
-pub use runs::{Ran, SpreadStore, SpreadStores};
+pub use runs::Ran;

@@ -73,10 +73,6 @@ moves-same atom i home _ _ (a_table t u ts us same rest) =
     IsPermutation-append (map (move_of atom i home) t) (map (move_of atom i home) u) (home_moves (i + 1) atom home ts) (home_moves (i + 1) atom home us)
     (IsPermutation-map (move_of atom i home) t u same) (moves-same atom (i + 1) home ts us rest)
 
-pub together-same : (ts us : List Rows) → SameTables ts us → SameBag (together ts) (together us)
-together-same _ _ no_table = IsPermutation-refl []
-together-same _ _ (a_table t u ts us same rest) = IsPermutation-append t u (together ts) (together us) same (together-same ts us rest)
-
 -- ---- what is read off moves
 
 counted : (p : Move → Bool) (ms : List Move) → length (filter p ms) ≡ sum_by (λ m. cond (p m) 1 0) ms

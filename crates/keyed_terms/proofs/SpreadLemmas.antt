@@ -24,7 +24,8 @@ use Rattle.row_exchange.proofs.MoveLemmas.{All-flat_map}
 use Rattle.routed_joins.proofs.RouteLemmas.{same-tables}
 use Rattle.keyed_terms.specs.KeyedTerms.{AreOfWidth}
 use Rattle.keyed_terms.specs.inner.Making.{AreMadeBy}
-use Rattle.keyed_terms.proofs.MoveLemmas.{home_sending, home_moves, moves-one, moves-agree, moves-same, together-same, sent-same, received-same, shown-same}
+use Rattle.placement.proofs.TogetherLemmas.{together-same}
+use Rattle.keyed_terms.proofs.MoveLemmas.{home_sending, home_moves, moves-one, moves-agree, moves-same, sent-same, received-same, shown-same}
 
 -- rows of these parts came to their homes, the receipt shows their moves, and the numbers are those of the moves
 pub record IsSpreadAs (home : Row → ℕ) (expected : List Rows) (size : Size) (sent_by got_by : ℕ → ℕ) (made : List Rows) (receipt : ReceiptState) : Type 0 where

@@ -7,8 +7,8 @@ use Rattle.algebra.specs.declared.notes.PlanNote.{PlanNote}
 use Rattle.algebra.specs.declared.notes.Traffic.{Traffic}
 use Rattle.placement.specs.Laws.{IsPlaced}
 use Rattle.placement.specs.Layouts.{PlacedRelation}
-use Rattle.engine.specs.Runs.{AreStoredAt}
-use Rattle.engine.specs.declared.runs.SpreadStore.{SpreadStore}
+use Rattle.placement.specs.Stores.{AreStoredAt}
+use Rattle.placement.specs.declared.stores.SpreadStore.{SpreadStore}
 use Rattle.output_texts.specs.OutputText.{output_text}
 use Rattle.output_texts.specs.Stores.{all_rows, whole_store}
 use Rattle.output_texts.specs.TrialText.{trial_text}

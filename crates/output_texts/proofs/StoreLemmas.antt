@@ -14,9 +14,9 @@ use Rattle.rel_base.proofs.SortedLemmas.{IsPermutation-sorted_by}
 use Rattle.relation_csv.specs.RecordTexts.{header_record, row_record}
 use Rattle.placement.specs.Laws.{IsPlaced}
 use Rattle.placement.specs.Layouts.{PlacedRelation}
-use Rattle.run_laws.proofs.BagLemmas.{together-same}
-use Rattle.engine.specs.Runs.{AreStoredAt, no_store, a_store}
-use Rattle.engine.specs.declared.runs.SpreadStore.{SpreadStore}
+use Rattle.placement.proofs.TogetherLemmas.{together-same}
+use Rattle.placement.specs.Stores.{AreStoredAt, no_store, a_store}
+use Rattle.placement.specs.declared.stores.SpreadStore.{SpreadStore}
 use Rattle.collector.proofs.CutLemmas.{sorted-same}
 use Rattle.output_texts.specs.inner.Ranges.{ranges_text}
 use Rattle.output_texts.specs.OutputText.{output_text, relation_text, store_line}

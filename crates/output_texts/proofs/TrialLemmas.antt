@@ -27,7 +27,7 @@ use Rattle.myrial_ast.specs.Bags.{distinct}
 use Rattle.myrial_ast.specs.Combinations.{Row, Rows}
 use Rattle.bag_laws.proofs.PartialLemmas.{itself, tied, other}
 use Rattle.bag_laws.proofs.RowPermutations.{distinct-same}
-use Rattle.engine.specs.declared.runs.SpreadStore.{SpreadStore}
+use Rattle.placement.specs.declared.stores.SpreadStore.{SpreadStore}
 use Rattle.output_texts.specs.Stores.{all_rows, whole_store}
 use Rattle.output_texts.specs.TrialText.{distinct_line, rows_line, size_line, trial_text}
 

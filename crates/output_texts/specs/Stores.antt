@@ -7,7 +7,7 @@ use Rattle.std.specs.List.{flat_map}
 use Rattle.rel_base.specs.Keys.{File}
 use Rattle.rel_base.specs.Picks.{joined}
 use Rattle.rel_base.specs.declared.values.Value.{Value}
-use Rattle.engine.specs.declared.runs.SpreadStore.{SpreadStore}
+use Rattle.placement.specs.declared.stores.SpreadStore.{SpreadStore}
 
 -- what is stored, as a file: its key, its columns, and all workers' rows
 abbrev pub whole_store : SpreadStore → File

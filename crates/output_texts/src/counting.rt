@@ -4,7 +4,7 @@ ghost use Rattle.rel_base.specs.Picks.{joined};
 ghost use Rattle.myrial_ast.specs.Bags.{distinct};
 ghost use Rattle.output_texts.specs.Stores.{all_rows, whole_store};
 
-use engine::{SpreadStore, SpreadStores};
+use placement::{SpreadStore, SpreadStores};
 use rel_base::{Memory, Rows, Value};
 use std::alloc::Global;
 

@@ -1,8 +1,8 @@
 //! The text of a run, in the pieces in which it is offered to a sink.
 //!
 //! Stands on `relation_csv` for headers and rows, on `collector` for all workers' rows in one
-//! order, on `engine` for what a run stores, on `plan_printer` for plans and traffic, on `rel_io`
-//! for the sink, and on std for the jobs in which the text of many rows is made.
+//! order, on `placement` for what a run stores, on `plan_printer` for plans and traffic, on
+//! `rel_io` for the sink, and on std for the jobs in which the text of many rows is made.
 //!
 //! Promises: what each call adds is the text of what it is given, and `print` offers the text that
 //! was added, whole and in order. Relations whose rows were put in order read, as they stand, as

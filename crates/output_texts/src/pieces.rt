@@ -9,7 +9,7 @@ use crate::counting::{number_of_different, rows_of_all};
 use crate::jobs::{blocks_of_ranges, jobs_for};
 use algebra::{PlanNotes, TrafficNotes};
 use collector::{RowRange, sort_parts};
-use engine::{SpreadStore, SpreadStores};
+use placement::{SpreadStore, SpreadStores};
 use rel_base::{Key, Memory, Relation, Schema, Stored};
 use rel_io::{Sink, SinkFault};
 use std::alloc::Global;

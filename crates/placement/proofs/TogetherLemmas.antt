@@ -6,10 +6,11 @@ use Rattle.std.proofs.lemmas.Bool.{eqb-true, eqb-false}
 use Rattle.std.proofs.lemmas.List.{map-append}
 use Rattle.std.proofs.lemmas.List.Elements.{filter-append}
 use Rattle.std.proofs.lemmas.List.Folds.{flat_map-map}
-use Rattle.std.proofs.lemmas.List.Sorted.{IsPermutation-refl, IsPermutation-sym, IsPermutation-trans, IsPermutation-cons, IsPermutation-append_right, IsPermutation-middle}
+use Rattle.std.proofs.lemmas.List.Sorted.{IsPermutation-refl, IsPermutation-sym, IsPermutation-trans, IsPermutation-cons, IsPermutation-append, IsPermutation-append_right, IsPermutation-middle}
 use Rattle.rel_base.specs.Bags.{SameBag}
 use Rattle.myrial_ast.specs.Scalars.{Scalar}
 use Rattle.myrial_ast.specs.Combinations.{Row, Rows, all_hold, emitted, listed_from}
+use Rattle.bag_laws.specs.Permuted.{SameTables, no_table, a_table}
 use Rattle.bag_laws.proofs.RowPermutations.{listed_from-same}
 use Rattle.placement.specs.Layouts.{parts_by_home, together}
 
@@ -97,3 +98,9 @@ pub listed_dealt : (arithmetic emits : List Scalar) (n : ℕ) (home : Row → �
 listed_dealt arithmetic emits n home low candidates =
     subst (λ xs. SameBag (listed_from arithmetic emits candidates) xs) (listed_from-together arithmetic emits (parts_by_home n home candidates))
     (listed_from-same arithmetic emits candidates (together (parts_by_home n home candidates)) (dealt-together n home low candidates))
+
+-- lists with the same bags, one by one, are one bag together
+pub together-same : (ts us : List Rows) → SameTables ts us → SameBag (together ts) (together us)
+together-same _ _ no_table = IsPermutation-refl []
+together-same _ _ (a_table rows others tables rest h hs) =
+    IsPermutation-append rows others (together tables) (together rest) h (together-same tables rest hs)

@@ -4,5 +4,6 @@ pub mod Layouts
 pub mod Exchanges
 pub mod Plans
 pub mod Runs
+pub mod Stores
 pub mod Laws
 pub mod Receiving

@@ -4,7 +4,7 @@
 //! Stands on `algebra` for shapes, terms and checked scripts, on `hash_partition` for homes and
 //! cells, on `share_chooser` for shares of least load, on `row_exchange` for the moves of an
 //! exchange, and on `bag_laws`. Nothing here runs: each law is the contract of a function with an
-//! empty body.
+//! empty body, and `SpreadStore` is what a run gives of a store.
 //!
 //! Promises: for every script, number of workers, hash seed and way of shuffling, all workers'
 //! rows together are the bag of the meaning. The rows of a candidate meet at one worker, and what
@@ -19,6 +19,7 @@
 mod layouts;
 mod meeting;
 mod receiving;
+mod stores;
 
 pub use layouts::{
     exchanges_balance, joined_are_joined, joined_are_of_bags, joined_take_part, joins_are_ready,
@@ -33,3 +34,4 @@ pub use receiving::{
     broadcasts_list_what_they_are_given, cells_list_what_they_are_given, groups_are_merged,
     listed_rows_are_grouped, parts_are_listed, rows_are_given_once, steps_list_what_they_are_given,
 };
+pub use stores::{SpreadStore, SpreadStores};

@@ -19,6 +19,7 @@ use Rattle.std.specs.Cmp.Lexicographic.{pointwise}
 use Rattle.placement.specs.Layouts.{PlacedRelation, rows_of, together, placed_steps}
 use Rattle.placement.specs.Laws.{AreWide, IsPlaced, IsReady, IsSamePlaced, AreSamePlaced, none_placed, one_placed, HasReadyItems}
 use Rattle.placement.proofs.ScriptLemmas.{steps-IsPlaced, found-IsPlaced}
+use Rattle.placement.proofs.TogetherLemmas.{together-same}
 use Rattle.run_laws.specs.Values.{meant}
 use Rattle.run_laws.specs.Scripts.{AreRowsOf, HasTypedSources, HeldAreMeant, ReadyAreOfBags}
 use Rattle.run_laws.proofs.TypeLemmas.{meant-typed}
@@ -28,11 +29,6 @@ use Rattle.run_laws.proofs.TypeLemmas.{meant-typed}
 tables-long : (ts us : List Rows) → SameTables ts us → length us ≡ length ts
 tables-long _ _ no_table = refl
 tables-long _ _ (a_table rows others tables rest h hs) = ap suc (tables-long tables rest hs)
-
-pub together-same : (ts us : List Rows) → SameTables ts us → SameBag (together ts) (together us)
-together-same _ _ no_table = IsPermutation-refl []
-together-same _ _ (a_table rows others tables rest h hs) =
-    IsPermutation-append rows others (together tables) (together rest) h (together-same tables rest hs)
 
 module _ {X : Type 0} (P : X → Type 0) where
   all-apart : (xs ys : List X) → All P (xs ++ ys) → All P xs × All P ys

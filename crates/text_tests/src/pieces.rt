@@ -2,8 +2,8 @@
 //! seen here.
 use crate::printing::{three_notes, two_counts};
 use algebra::{Exchange, Traffic, TrafficNotes};
-use engine::{SpreadStore, SpreadStores};
 use output_texts::Pieces;
+use placement::{SpreadStore, SpreadStores};
 use rel_base::{ColType, Column, Key, Memory, Row, Rows, Schema, Spread, Stored, Text, Value};
 use rel_io::{Sink, SinkFault};
 use relation_csv::read_relation;

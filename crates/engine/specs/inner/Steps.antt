@@ -24,13 +24,13 @@ use Rattle.placement.specs.Layouts.{together, term_parts}
 use Rattle.placement.specs.Exchanges.{PlacedExchange, term_exchanges, traffic_note}
 use Rattle.placement.specs.Plans.{ShuffleRule, placing_by, plan_kind, term_notes, step_notes}
 use Rattle.placement.specs.Runs.{size_of, faults_at}
+use Rattle.placement.specs.declared.stores.SpreadStore.{SpreadStore}
 use Rattle.term_runs.specs.TermRuns.{shown_moves, AreShown, AreMoved, AreFair}
 use Rattle.run_laws.specs.Values.{meant}
 use Rattle.run_laws.specs.Scripts.{step_exchanges, IsSound}
 use Rattle.run_laws.specs.Held.{AreHeld}
 use Rattle.engine.specs.declared.held.Held.{Held}
 use Rattle.engine.specs.declared.noted.Noted.{Noted}
-use Rattle.engine.specs.declared.runs.SpreadStore.{SpreadStore}
 use Rattle.engine.specs.Runs.{IsRunFault}
 use Rattle.engine.specs.inner.Held.{parts_held, value_held, UsedAreHeld}
 
