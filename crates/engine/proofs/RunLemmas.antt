@@ -33,10 +33,10 @@ use Rattle.placement.specs.Plans.{ShuffleRule, placing_by, one_rule, plan_kind, 
 use Rattle.placement.proofs.RuleLemmas.{ruled_is_placing, parts-by_own, exchanges-by_own, notes-by_own}
 use Rattle.placement.specs.Runs.{size_of, run_exchanges, faults_by, faults_at, fault_of}
 use Rattle.routed_joins.specs.PlacedJoins.{placed_rows, placed_items}
-use Rattle.term_runs.specs.declared.moved.Moved.{Moved}
-use Rattle.term_runs.specs.TermRuns.{shown_moves, AreShown, no_receipt, AreMoved, AreFair, IsMoved}
-use Rattle.term_runs.proofs.ReceiptLemmas.{joined-runs}
-use Rattle.term_runs.proofs.TapLemmas.{joined-moves}
+use Rattle.routed_joins.specs.declared.moved.Moved.{Moved}
+use Rattle.routed_joins.specs.TermRuns.{shown_moves, AreShown, no_receipt, AreMoved, AreFair, IsMoved}
+use Rattle.routed_joins.proofs.ReceiptLemmas.{joined-runs}
+use Rattle.routed_joins.proofs.TapLemmas.{joined-moves}
 use Rattle.run_laws.specs.Values.{IsKnown, meant}
 use Rattle.plan_rewrite.specs.declared.rewriting.Planned.{Planned}
 use Rattle.plan_rewrite.specs.Planned.{planned_tree_of, is_last_use}

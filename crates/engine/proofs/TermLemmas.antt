@@ -28,10 +28,10 @@ use Rattle.placement.specs.Layouts.{PlacedRelation, by_worker, together, rows_of
 use Rattle.placement.specs.Plans.{ShuffleRule, ruled_placing, join_notes, group_note, term_notes}
 use Rattle.placement.specs.Runs.{size_of, faults_by}
 use Rattle.routed_joins.specs.PlacedJoins.{placed_rows, placed_items}
-use Rattle.term_runs.specs.declared.moved.Moved.{Moved}
-use Rattle.term_runs.specs.TermRuns.{AreShown, no_receipt, IsTermRun}
-use Rattle.term_runs.proofs.RunLemmas.{run-made}
-use Rattle.term_runs.proofs.TapLemmas.{fair-none, joined-moves}
+use Rattle.routed_joins.specs.declared.moved.Moved.{Moved}
+use Rattle.routed_joins.specs.TermRuns.{AreShown, no_receipt, IsTermRun}
+use Rattle.routed_joins.proofs.RunLemmas.{run-made}
+use Rattle.routed_joins.proofs.TapLemmas.{fair-none, joined-moves}
 use Rattle.run_laws.proofs.TableLemmas.{tables-equal}
 use Rattle.run_laws.specs.Held.{HasWideParts}
 use Rattle.engine.specs.declared.held.Held.{Held}

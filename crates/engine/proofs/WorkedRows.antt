@@ -17,7 +17,7 @@ use Rattle.row_exchange.specs.Routes.{Row}
 use Rattle.row_exchange.specs.Moves.{Move, rows_between}
 use Rattle.row_exchange.specs.Exchanges.{with_more, IsBatch, Shows, batches_between}
 use Rattle.placement.specs.Exchanges.{PlacedExchange}
-use Rattle.term_runs.specs.TermRuns.{shown_moves, AreShown, no_receipt, a_receipt, all_sent, all_received, all_listed, AreMoved, AreFair}
+use Rattle.routed_joins.specs.TermRuns.{shown_moves, AreShown, no_receipt, a_receipt, all_sent, all_received, all_listed, AreMoved, AreFair}
 
 abbrev left_row : Row
 left_row = variant.Int (pos 1) ∷ []

@@ -12,7 +12,7 @@ ghost use Rattle.fragmenter.specs.Plans.{lent_plan, rules_by};
 ghost use Rattle.join_plans.specs.JoinPlans.{ruled_by};
 ghost use Rattle.run_laws.specs.Values.{IsKnown};
 ghost use Rattle.run_laws.specs.Rewritten.{needed};
-ghost use Rattle.term_runs.specs.TermRuns.{AreFair};
+ghost use Rattle.routed_joins.specs.TermRuns.{AreFair};
 ghost use Rattle.engine.specs.Runs.{IsRunFault, IsRun};
 ghost use Rattle.engine.specs.inner.Held.{IsHeld};
 ghost use Rattle.engine.specs.inner.Steps.{AreRun, schema_at, held_store};

@@ -15,11 +15,10 @@ use algebra::{PlanKind, PlanNote, PlanNotes, Settings, Term};
 use join_plans::add_note;
 use rel_base::RunFault;
 use rel_io::Tap;
-use routed_joins::rows_in;
+use routed_joins::{Moved, rows_in};
 use std::alloc::Global;
 use std::sync::Wait;
 use std::thread::Threads;
-use term_runs::Moved;
 
 /// Runs a step over what is held, holds its result, and notes what it did. It may wait as long as
 /// its threads do.

@@ -17,11 +17,10 @@ use join_plans::ShuffleBy;
 use keyed_terms::{Operands, empty_parts, run_diff, run_distinct, union_parts};
 use rel_base::{Duplicate, MOST_ROWS, Memory, RunFault, Spread};
 use rel_io::Tap;
-use routed_joins::rows_in;
+use routed_joins::{Moved, rows_in};
 use std::alloc::Global;
 use std::sync::Wait;
 use std::thread::Threads;
-use term_runs::Moved;
 
 /// A step that is run: as its statement means it, and with tests pushed.
 #[derive(Clone, Copy)]

@@ -19,12 +19,12 @@ use Rattle.routed_joins.specs.Listings.{count_at, IsListedAt}
 use Rattle.routed_joins.proofs.RouteLemmas.{same-tables}
 use Rattle.std.proofs.lemmas.List.FromFn.{length-map-range_with_len, get_or-map-range_with_len}
 use Rattle.rel_base.specs.Bags.{SameBag}
-use Rattle.term_runs.specs.declared.moved.Moved.{Moved}
+use Rattle.routed_joins.specs.declared.moved.Moved.{Moved}
 use Rattle.routed_joins.specs.Readings.{AreSeconds}
-use Rattle.term_runs.specs.TermRuns.{shown_moves, AreShown, AreMoved, AreFair, IsMoved, IsTermRun}
-use Rattle.term_runs.proofs.TapLemmas.{listed-one, listed-fair, fair-both}
-use Rattle.term_runs.proofs.NoteLemmas.{note-is}
-use Rattle.term_runs.proofs.RunLemmas.{run-made, run-failed}
+use Rattle.routed_joins.specs.TermRuns.{shown_moves, AreShown, AreMoved, AreFair, IsMoved, IsTermRun}
+use Rattle.routed_joins.proofs.TapLemmas.{listed-one, listed-fair, fair-both}
+use Rattle.routed_joins.proofs.NoteLemmas.{note-is}
+use Rattle.routed_joins.proofs.RunLemmas.{run-made, run-failed}
 use Rattle.keyed_terms.specs.KeyedTerms.{IsRefused}
 use Rattle.keyed_terms.specs.inner.Making.{AreMadeBy}
 use Rattle.keyed_terms.specs.inner.Concluding.{IsConcluded}

@@ -28,8 +28,8 @@ use Rattle.algebra.specs.declared.settings.Settings.{Settings}
 use Rattle.rel_io.specs.declared.taps.Totals.{Totals}
 use Rattle.placement.specs.Exchanges.{PlacedExchange}
 use Rattle.placement.specs.Layouts.{together, by_worker}
-use Rattle.term_runs.specs.declared.moved.Moved.{Moved}
-use Rattle.term_runs.specs.TermRuns.{IsTermRun}
+use Rattle.routed_joins.specs.declared.moved.Moved.{Moved}
+use Rattle.routed_joins.specs.TermRuns.{IsTermRun}
 use Rattle.keyed_terms.specs.KeyedTerms.{emitted_parts, IsGroupFault, IsPickedFault}
 use Rattle.keyed_terms.specs.inner.Making.{AreMadeBy, IsPicked, AreFormed, IsFaultOf, IsMerged}
 

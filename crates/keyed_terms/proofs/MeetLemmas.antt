@@ -15,7 +15,7 @@ use Rattle.placement.specs.Runs.{size_of}
 use Rattle.row_exchange.specs.Moves.{Move, sent, received}
 use Rattle.row_exchange.specs.Exchanges.{nothing, AreTold, Shows}
 use Rattle.routed_joins.specs.Listings.{IsLow}
-use Rattle.term_runs.specs.TermRuns.{moves_alone, AreShown, no_receipt, a_receipt, all_sent, all_received, all_listed, AreMoved, AreFair}
+use Rattle.routed_joins.specs.TermRuns.{moves_alone, AreShown, no_receipt, a_receipt, all_sent, all_received, all_listed, AreMoved, AreFair}
 use Rattle.row_exchange.proofs.TapLemmas.{told-same, told-both}
 use Rattle.keyed_terms.specs.inner.Meeting.{unlisted_exchange, HaveMet, IsMeeting}
 use Rattle.keyed_terms.proofs.MoveLemmas.{first-alone, second-alone, sent-two, received-two}

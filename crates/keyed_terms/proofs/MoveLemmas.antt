@@ -22,7 +22,7 @@ use Rattle.row_exchange.proofs.MoveLemmas.{sum_by-map}
 use Rattle.row_exchange.specs.declared.routes.Size.{Size}
 use Rattle.row_exchange.specs.Exchanges.{Shows}
 use Rattle.row_exchange.proofs.ReceiptLemmas.{shown-as}
-use Rattle.term_runs.specs.TermRuns.{moves_alone}
+use Rattle.routed_joins.specs.TermRuns.{moves_alone}
 
 -- each row goes to its home
 abbrev pub home_sending : (Row → ℕ) → List Rows → Sending

@@ -9,8 +9,8 @@ use algebra::{Exchange, TrafficNotes};
 use exchange_channels::Receipts;
 use rel_base::{Memory, Spread};
 use rel_io::{Tap, Totals};
+use routed_joins::{Moved, tell_listed, traffic_since};
 use std::alloc::Global;
-use term_runs::{Moved, tell_listed, traffic_since};
 
 /// Tells the taps what each worker lists, and gives it with the numbers of its exchange, read off
 /// them.

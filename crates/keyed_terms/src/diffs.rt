@@ -3,7 +3,7 @@ ghost use Rattle.std.specs.Prelude.{◌≡◌, ◌*◌, ◌≤◌, [], ◌∷◌
 ghost use Rattle.std.specs.List.{range_with_len};
 ghost use Rattle.row_exchange.specs.Exchanges.{AreLow};
 ghost use Rattle.routed_joins.specs.Listings.{IsLow};
-ghost use Rattle.term_runs.specs.TermRuns.{IsTermRun};
+ghost use Rattle.routed_joins.specs.TermRuns.{IsTermRun};
 ghost use Rattle.keyed_terms.specs.KeyedTerms.{AreOfWidth, diff_parts, diff_exchanges, IsRefused};
 ghost use Rattle.keyed_terms.specs.inner.Meeting.{IsMeeting};
 
@@ -15,11 +15,10 @@ use exchange_channels::{Receipt, Receipts};
 use regular_shuffle::spread_by_key;
 use rel_base::{Memory, Places, Spread};
 use rel_io::Tap;
-use routed_joins::seconds_of;
+use routed_joins::{Moved, have_room, seconds_of};
 use std::alloc::Global;
 use std::sync::Wait;
 use std::thread::Threads;
-use term_runs::{Moved, have_room};
 
 /// The operands of a `diff`: a list of rows for each worker, each of which has `width` columns.
 pub struct Operands {

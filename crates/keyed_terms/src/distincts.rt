@@ -1,6 +1,6 @@
 //! `distinct` at workers.
 ghost use Rattle.std.specs.Prelude.{◌≡◌, ◌*◌, ◌≤◌, [], ◌∷◌, length, IfOk, vec_len};
-ghost use Rattle.term_runs.specs.TermRuns.{IsTermRun};
+ghost use Rattle.routed_joins.specs.TermRuns.{IsTermRun};
 ghost use Rattle.keyed_terms.specs.KeyedTerms.{AreOfWidth, distinct_parts, distinct_exchanges, IsRefused};
 
 use crate::columns::all_columns;
@@ -11,11 +11,10 @@ use exchange_channels::{Receipt, Receipts};
 use regular_shuffle::spread_by_key;
 use rel_base::{Memory, Spread};
 use rel_io::Tap;
-use routed_joins::seconds_of;
+use routed_joins::{Moved, have_room, seconds_of};
 use std::alloc::Global;
 use std::sync::Wait;
 use std::thread::Threads;
-use term_runs::{Moved, have_room};
 
 /// Each row once: all rows go to the homes of all their columns, where each worker drops what it
 /// has twice. It may wait as long as the threads of its exchange do.

@@ -9,7 +9,7 @@ ghost use Rattle.bag_laws.specs.PartialLaws.{AreGrouped};
 ghost use Rattle.algebra.specs.Trees.{kind_of_emit};
 ghost use Rattle.aggregate_ops.specs.Picks.{are_picks};
 ghost use Rattle.placement.specs.Layouts.{together};
-ghost use Rattle.term_runs.specs.TermRuns.{IsTermRun};
+ghost use Rattle.routed_joins.specs.TermRuns.{IsTermRun};
 ghost use Rattle.keyed_terms.specs.KeyedTerms.{group_parts, group_exchanges, emitted_parts, IsGroupFault, IsPickedFault};
 ghost use Rattle.keyed_terms.specs.inner.Making.{AreFormed};
 
@@ -22,11 +22,10 @@ use myrial_ast::Scalars;
 use regular_shuffle::spread_by_key;
 use rel_base::Spread;
 use rel_io::Tap;
-use routed_joins::seconds_of;
+use routed_joins::{Moved, have_room, seconds_of};
 use std::alloc::Global;
 use std::sync::Wait;
 use std::thread::Threads;
-use term_runs::{Moved, have_room};
 
 /// A row for each group of the listed rows: each worker forms a partial row for each of its groups,
 /// these go to the homes of their keys, and are merged there. It may wait as long as the threads of

@@ -2,7 +2,7 @@
 //! no row, `unionall` and `empty`.
 //!
 //! Stands on `regular_shuffle` for spreads by key, on `aggregate_ops` for the operators at each
-//! worker, on `placement` for what goes where, and on `term_runs` for what running a term does.
+//! worker, on `placement` for what goes where, and on `routed_joins` for what running a term does.
 //!
 //! Promises: each term leaves at each worker the rows that the definitions place there, as a bag;
 //! its receipts show the moves of its exchange, its note has their numbers, and the taps rise by

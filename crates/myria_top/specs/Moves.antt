@@ -18,7 +18,7 @@ use Rattle.myrial_types.specs.Checking.{checked_of}
 use Rattle.algebra.specs.Trees.{CheckedTree}
 use Rattle.placement.specs.Exchanges.{PlacedExchange}
 use Rattle.placement.specs.Runs.{size_of, run_exchanges}
-use Rattle.term_runs.specs.TermRuns.{shown_moves, AreShown, AreMoved}
+use Rattle.routed_joins.specs.TermRuns.{shown_moves, AreShown, AreMoved}
 use Rattle.trial_gen.specs.Trials.{trial_files}
 use Rattle.trial_gen.specs.TrialScript.{trial_script}
 use Rattle.fragmenter.specs.Plans.{PlanTree}

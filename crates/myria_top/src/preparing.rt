@@ -8,7 +8,7 @@ ghost use Rattle.myrial_ast.specs.Trees.{trees_of};
 ghost use Rattle.myrial_meaning.specs.Fetches.{fetches};
 ghost use Rattle.myrial_types.specs.Checking.{checked_of};
 ghost use Rattle.algebra.specs.Trees.{CheckedTree};
-ghost use Rattle.term_runs.specs.TermRuns.{AreFair};
+ghost use Rattle.routed_joins.specs.TermRuns.{AreFair};
 ghost use Rattle.command_words.specs.Requests.{asked_of};
 ghost use Rattle.myria_top.specs.Headline.{IsAskedOf};
 ghost use Rattle.myria_top.specs.Moves.{HasMoved};

@@ -10,7 +10,7 @@ ghost use Rattle.algebra.specs.Conditions.{is_of};
 ghost use Rattle.algebra.specs.Rewriting.{AreTyped};
 ghost use Rattle.algebra.specs.Trees.{CheckedTree};
 ghost use Rattle.fragmenter.specs.Plans.{PlanTree};
-ghost use Rattle.term_runs.specs.TermRuns.{AreFair};
+ghost use Rattle.routed_joins.specs.TermRuns.{AreFair};
 ghost use Rattle.command_words.specs.Modes.{is_replay};
 ghost use Rattle.myria_top.specs.Moves.{HasMoved};
 ghost use Rattle.myria_top.specs.Plans.{asked_plan, named_plan, plan_named, plan_read, needed_joins};

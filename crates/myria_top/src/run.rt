@@ -4,7 +4,7 @@ ghost use Rattle.rel_base.specs.Limits.{taps as tap_count};
 ghost use Rattle.rel_io.specs.Shelves.{counts_of};
 ghost use Rattle.rel_io.specs.Sinks.{written_of};
 ghost use Rattle.rel_io.specs.Taps.{no_rows};
-ghost use Rattle.term_runs.specs.TermRuns.{AreFair};
+ghost use Rattle.routed_joins.specs.TermRuns.{AreFair};
 ghost use Rattle.command_words.specs.Requests.{asked, asked_of};
 ghost use Rattle.myria_top.specs.EachFile.{Allows};
 ghost use Rattle.myria_top.specs.Headline.{Headline, Explains};

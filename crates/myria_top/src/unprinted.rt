@@ -9,7 +9,7 @@ ghost use Rattle.algebra.specs.CheckedTrees.{checked_tree_of};
 ghost use Rattle.algebra.specs.Conditions.{is_of};
 ghost use Rattle.algebra.specs.Rewriting.{AreTyped};
 ghost use Rattle.algebra.specs.Trees.{CheckedTree};
-ghost use Rattle.term_runs.specs.TermRuns.{AreFair};
+ghost use Rattle.routed_joins.specs.TermRuns.{AreFair};
 ghost use Rattle.fragmenter.specs.NotedPlans.{noted_plan};
 ghost use Rattle.fragmenter.specs.Plans.{lent_plan};
 ghost use Rattle.plan_json.specs.PlanTexts.{written};

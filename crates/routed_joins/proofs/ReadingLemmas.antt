@@ -1,5 +1,5 @@
 -- Sums that were read off taps, and what these are told behind it.
-use Rattle.std.proofs.Common.{◌≡◌, ℕ, ◌+◌, ◌*◌, ◌<◌, ◌≤◌, List, get_or, ap, arith, ⊎_elim}
+use Rattle.std.proofs.Common.{ℕ, ◌+◌, ◌*◌, ◌<◌, ◌≤◌, List, ap, arith, ⊎_elim}
 use Rattle.std.proofs.lemmas.Bool.{cases_lt}
 use Rattle.rel_io.specs.declared.taps.Totals.{Totals}
 use Rattle.row_exchange.specs.Exchanges.{AreTold}

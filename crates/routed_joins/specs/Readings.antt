@@ -5,8 +5,11 @@
 --   AreRisenBy totals number n since taps counts   by how much one number of the first workers' sums rose
 --   AreReceivedSince totals since taps counts      how many rows each worker received since
 --   AreListedSince totals since taps counts        how many it listed since
+--   IsNoteSince totals .. since taps note          the note of an exchange by which they rose so
 use Rattle.std.specs.Prelude.{◌≡◌, ℕ, ◌+◌, ◌*◌, ◌<◌, ◌≤◌, List, length, slice_index_or}
 use Rattle.rel_io.specs.declared.taps.Totals.{Totals}
+use Rattle.algebra.specs.declared.notes.Exchange.{Exchange}
+use Rattle.algebra.specs.declared.notes.Traffic.{Traffic}
 
 module _ {T : Type 0} (totals : T → Totals) where
   -- the sums of the second tap of each worker
@@ -37,3 +40,11 @@ module _ {T : Type 0} (totals : T → Totals) where
   -- so many it listed since
   abbrev pub AreListedSince : List Totals → List T → List ℕ → Type 0
   AreListedSince since = AreRisenBy (λ t. t.listed) (length since) since
+
+-- the note of an exchange: so many rows each worker received and listed since
+pub record IsNoteSince {T : Type 0} (totals : T → Totals) (statement : ℕ) (exchange : Exchange)
+    (since : List Totals) (taps : List T) (note : Traffic) : Type 0 where
+  pub statement_is : note.statement ≡ statement
+  pub exchange_is : note.exchange ≡ exchange
+  pub received_are : AreReceivedSince totals since taps note.received
+  pub listed_are : AreListedSince totals since taps note.listed

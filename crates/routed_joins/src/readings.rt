@@ -3,9 +3,9 @@ ghost use Rattle.std.specs.Prelude.{◌≡◌, ◌*◌, ◌^◌, ◌<◌, ◌≤
 ghost use Rattle.rel_base.specs.Limits.{most_workers};
 ghost use Rattle.placement.specs.Exchanges.{row_counts};
 ghost use Rattle.placement.specs.Layouts.{together};
-ghost use Rattle.routed_joins.specs.Readings.{AreSeconds, HaveRisen, AreReceivedSince, AreListedSince};
+ghost use Rattle.routed_joins.specs.Readings.{AreSeconds, HaveRisen, AreReceivedSince, AreListedSince, IsNoteSince};
 
-use algebra::Counts;
+use algebra::{Counts, Exchange, Traffic};
 use rel_base::{Memory, Spread};
 use rel_io::{Tap, Totals};
 use std::alloc::Global;
@@ -50,6 +50,30 @@ pub fn listed_since<T: Tap>(alloc: Global, since: &[Totals], taps: &[T]) -> Resu
         counts.push(now.listed - before.listed)?;
     }
     Ok(counts)
+}
+
+/// The numbers of an exchange: how many rows each worker received and listed since its second tap
+/// had these sums.
+pub fn traffic_since<T: Tap>(
+    alloc: Global,
+    statement: u32,
+    exchange: Exchange,
+    since: &[Totals],
+    taps: &[T],
+) -> Result<Traffic, Memory>
+    requires few { length since.now ≤ most_workers }
+    requires taps { 2 * length since.now ≤ length taps.now }
+    requires risen { HaveRisen T.totals since.now taps.now }
+    ensures { IfOk result (IsNoteSince T.totals statement exchange since.entry.now taps.entry.now) }
+{
+    let received = received_since(alloc, since, taps)?;
+    let listed = listed_since(alloc, since, taps)?;
+    Ok(Traffic {
+        statement,
+        exchange,
+        received,
+        listed,
+    })
 }
 
 /// The number of rows at all workers.

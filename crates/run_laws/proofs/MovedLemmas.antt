@@ -18,7 +18,7 @@ use Rattle.placement.specs.Layouts.{by_worker}
 use Rattle.placement.specs.Runs.{size_of}
 use Rattle.row_exchange.specs.declared.routes.Size.{Size}
 use Rattle.row_exchange.specs.Exchanges.{batches_between}
-use Rattle.term_runs.specs.TermRuns.{moves_alone, shown_moves, AreShown, no_receipt, a_receipt}
+use Rattle.routed_joins.specs.TermRuns.{moves_alone, shown_moves, AreShown, no_receipt, a_receipt}
 use Rattle.run_laws.specs.SameExchanges.{IsSameExchange, AreSameExchanges, no_exchange, an_exchange, MovedAreOfSameExchanges, CountsAreOfSameExchanges}
 use Rattle.run_laws.proofs.TableLemmas.{tables-trans}
 

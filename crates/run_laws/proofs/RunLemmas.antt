@@ -7,8 +7,8 @@ use Rattle.bag_laws.specs.Permuted.{SameTables}
 use Rattle.algebra.specs.declared.settings.Settings.{Settings}
 use Rattle.placement.specs.Exchanges.{PlacedExchange}
 use Rattle.row_exchange.proofs.TapLemmas.{told-same}
-use Rattle.term_runs.specs.declared.moved.Moved.{Moved}
-use Rattle.term_runs.specs.TermRuns.{all_sent, all_received, all_listed, AreMoved, IsMoved, IsTermRun}
+use Rattle.routed_joins.specs.declared.moved.Moved.{Moved}
+use Rattle.routed_joins.specs.TermRuns.{all_sent, all_received, all_listed, AreMoved, IsMoved, IsTermRun}
 use Rattle.run_laws.specs.SameExchanges.{AreSameExchanges}
 use Rattle.run_laws.proofs.MovedLemmas.{counts_are_of_same_exchanges, moved_are_of_same_exchanges}
 

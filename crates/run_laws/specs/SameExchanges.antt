@@ -11,8 +11,8 @@ use Rattle.bag_laws.specs.Permuted.{SameTables}
 use Rattle.algebra.specs.declared.settings.Settings.{Settings}
 use Rattle.row_exchange.specs.Moves.{sent, received, rows_between}
 use Rattle.placement.specs.Exchanges.{PlacedExchange}
-use Rattle.term_runs.specs.declared.moved.Moved.{Moved}
-use Rattle.term_runs.specs.TermRuns.{IsMoved, all_sent, all_received, all_listed}
+use Rattle.routed_joins.specs.declared.moved.Moved.{Moved}
+use Rattle.routed_joins.specs.TermRuns.{IsMoved, all_sent, all_received, all_listed}
 
 -- two exchanges of one kind after which as many rows are listed; as many rows go from each worker and to each, and between two
 -- workers the same rows go in any order

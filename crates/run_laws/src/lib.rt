@@ -2,7 +2,7 @@
 //! which such rows, and kept rows with pushed tests, are enough to run a term.
 //!
 //! Stands on `placement` for what terms come to at workers and what their exchanges move, on
-//! `term_runs` for what a run gives, on `bag_laws`, and on `algebra` for steps and pushed joins.
+//! `routed_joins` for what a run gives, on `bag_laws`, and on `algebra` for steps and pushed joins.
 //! Nothing here runs: each law is the contract of a function with an empty body.
 //!
 //! Promises: each source of a script stands for one placed relation, whatever steps come later, and

@@ -1,10 +1,10 @@
 //! Joins that are run as statements: their rows, their notes and their receipts.
 use crate::numbers::{Numbers, blank_taps, run_numbers};
 use algebra::{Exchange, JoinFault, JoinKind, Settings, ShuffleKind};
+use routed_joins::Moved;
 use std::alloc::Global;
 use std::sync::Wait;
 use std::thread::Threads;
-use term_runs::Moved;
 
 const FOUR: Numbers = Numbers {
     first: &[0, 1, 2, 3],

@@ -25,7 +25,7 @@ use Rattle.placement.specs.Exchanges.{PlacedExchange, term_exchanges, traffic_no
 use Rattle.placement.specs.Plans.{ShuffleRule, placing_by, plan_kind, term_notes, step_notes}
 use Rattle.placement.specs.Runs.{size_of, faults_at}
 use Rattle.placement.specs.declared.stores.SpreadStore.{SpreadStore}
-use Rattle.term_runs.specs.TermRuns.{shown_moves, AreShown, AreMoved, AreFair}
+use Rattle.routed_joins.specs.TermRuns.{shown_moves, AreShown, AreMoved, AreFair}
 use Rattle.run_laws.specs.Values.{meant}
 use Rattle.run_laws.specs.Scripts.{step_exchanges, IsSound}
 use Rattle.run_laws.specs.Held.{AreHeld}

@@ -17,7 +17,7 @@ use Rattle.placement.specs.Exchanges.{term_exchanges}
 use Rattle.placement.specs.Layouts.{PlacedRelation, term_parts}
 use Rattle.placement.specs.Plans.{ShuffleRule, ruled_placing}
 use Rattle.placement.specs.Runs.{faults_by}
-use Rattle.term_runs.specs.declared.moved.Moved.{Moved}
+use Rattle.routed_joins.specs.declared.moved.Moved.{Moved}
 use Rattle.engine.specs.declared.terms.RunStep.{RunStep}
 use Rattle.engine.specs.inner.Joins.{IsTold}
 

@@ -5,8 +5,8 @@ use Rattle.exchange_channels.specs.Wirings.{ReceiptState}
 use Rattle.myrial_ast.specs.Combinations.{Rows}
 use Rattle.algebra.specs.declared.notes.Exchange.{Exchange}
 use Rattle.algebra.specs.declared.notes.Traffic.{Traffic}
-use Rattle.term_runs.specs.declared.moved.Moved.{Moved}
-use Rattle.term_runs.specs.Notes.{IsNoteSince}
+use Rattle.routed_joins.specs.declared.moved.Moved.{Moved}
+use Rattle.routed_joins.specs.Readings.{IsNoteSince}
 
 -- these rows and receipts, and one note, of what was told since
 pub record IsConcluded {T : Type 0} (totals : T → Totals) (statement : ℕ) (exchange : Exchange)

@@ -12,7 +12,7 @@ use Rattle.placement.specs.Layouts.{together}
 use Rattle.placement.specs.Runs.{size_of}
 use Rattle.routed_joins.specs.PlacedJoins.{placed_rows}
 use Rattle.routed_joins.specs.Listings.{IsLow}
-use Rattle.term_runs.specs.TermRuns.{shown_moves, AreShown, AreMoved, AreFair}
+use Rattle.routed_joins.specs.TermRuns.{shown_moves, AreShown, AreMoved, AreFair}
 use Rattle.keyed_terms.specs.KeyedTerms.{keyed_placing}
 use Rattle.keyed_terms.specs.inner.Making.{AreMadeBy}
 

@@ -6,7 +6,7 @@ use Rattle.algebra.specs.CheckedTrees.{checked_tree_of, step_tree_of}
 use Rattle.algebra.specs.Trees.{StepTree}
 use Rattle.placement.specs.Runs.{fault_of}
 use Rattle.run_laws.specs.Rewritten.{needed}
-use Rattle.term_runs.proofs.TapLemmas.{fair-both, kept-fair}
+use Rattle.routed_joins.proofs.TapLemmas.{fair-both, kept-fair}
 use Rattle.engine.specs.Runs.{IsRunFault}
 use Rattle.join_plans.specs.JoinPlans.{ruled_by}
 use Rattle.fragmenter.specs.Plans.{lent_plan, rules_by}

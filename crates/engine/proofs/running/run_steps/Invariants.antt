@@ -1,6 +1,6 @@
 use Rattle.std.proofs.Common.{take, drop, map}
 use Rattle.algebra.specs.CheckedTrees.{checked_tree_of, step_tree_of}
-use Rattle.term_runs.specs.TermRuns.{AreFair}
+use Rattle.routed_joins.specs.TermRuns.{AreFair}
 use Rattle.run_laws.specs.Rewritten.{needed}
 use Rattle.fragmenter.specs.Plans.{lent_plan, rules_by}
 use Rattle.engine.specs.inner.Steps.{AreRun}

@@ -6,7 +6,7 @@ use Rattle.row_exchange.specs.Exchanges.{nothing}
 use Rattle.placement.specs.Runs.{size_of}
 use Rattle.routed_joins.proofs.RouteLemmas.{told-low}
 use Rattle.regular_shuffle.specs.KeySpreads.{HasColumns, IsSpread}
-use Rattle.term_runs.proofs.TapLemmas.{told-fair, fair-both}
+use Rattle.routed_joins.proofs.TapLemmas.{told-fair, fair-both}
 use Rattle.keyed_terms.proofs.MeetLemmas.{meeting-failed, have-met}
 use Rattle.keyed_terms.proofs.SpreadLemmas.{spread-as, tables-refl, whole-home, whole-columns}
 use Rattle.keyed_terms.proofs.diffs.meet.Goals as goal

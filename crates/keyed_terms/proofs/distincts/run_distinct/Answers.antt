@@ -14,8 +14,8 @@ use Rattle.routed_joins.proofs.RouteLemmas.{told-low}
 use Rattle.regular_shuffle.specs.KeySpreads.{HasColumns, IsSpread}
 use Rattle.routed_joins.specs.Listings.{IsLow}
 use Rattle.routed_joins.specs.Readings.{AreSeconds, HaveRisen}
-use Rattle.term_runs.specs.TermRuns.{AreShown, no_receipt, a_receipt}
-use Rattle.term_runs.proofs.TapLemmas.{told-fair}
+use Rattle.routed_joins.specs.TermRuns.{AreShown, no_receipt, a_receipt}
+use Rattle.routed_joins.proofs.TapLemmas.{told-fair}
 use Rattle.routed_joins.proofs.ReadingLemmas.{risen-told}
 use Rattle.keyed_terms.specs.KeyedTerms.{keyed_placing, distinct_parts, distinct_exchanges}
 use Rattle.keyed_terms.proofs.BagLemmas.{distinct-made}

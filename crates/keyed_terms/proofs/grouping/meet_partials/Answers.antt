@@ -17,10 +17,10 @@ use Rattle.routed_joins.proofs.RouteLemmas.{told-low}
 use Rattle.regular_shuffle.specs.KeySpreads.{HasColumns, IsSpread}
 use Rattle.routed_joins.specs.Listings.{IsLow, count_at}
 use Rattle.routed_joins.specs.Readings.{AreSeconds, HaveRisen}
-use Rattle.term_runs.specs.TermRuns.{AreShown, no_receipt, a_receipt}
-use Rattle.term_runs.proofs.TapLemmas.{told-fair, listed-fair, fair-both}
+use Rattle.routed_joins.specs.TermRuns.{AreShown, no_receipt, a_receipt}
+use Rattle.routed_joins.proofs.TapLemmas.{told-fair, listed-fair, fair-both}
 use Rattle.routed_joins.proofs.ReadingLemmas.{risen-told}
-use Rattle.term_runs.proofs.RunLemmas.{run-made}
+use Rattle.routed_joins.proofs.RunLemmas.{run-made}
 use Rattle.keyed_terms.specs.KeyedTerms.{keyed_placing, group_parts, group_exchanges, IsGroupFault}
 use Rattle.keyed_terms.specs.inner.Making.{AreMadeBy}
 use Rattle.keyed_terms.proofs.ConcludeLemmas.{run-faulty, tables-made, moved-once, concluded-ok}

@@ -1,6 +1,6 @@
 use Rattle.std.proofs.Common.{refl, sym, subst, arith, Some}
 use Rattle.myrial_ast.specs.Trees.{trees_of}
-use Rattle.term_runs.proofs.TapLemmas.{fair-none}
+use Rattle.routed_joins.proofs.TapLemmas.{fair-none}
 use Rattle.command_words.specs.Requests.{asked_of}
 use Rattle.myria_top.specs.Headline.{IsAskedOf, the_script}
 use Rattle.myria_top.specs.inner.Working.{text_of}

@@ -5,7 +5,7 @@ use Rattle.algebra.specs.Rewriting.{AreTyped}
 use Rattle.myrial_ast.specs.Trees.{trees_of}
 use Rattle.myrial_types.specs.Checking.{checked_of}
 use Rattle.myrial_types.specs.Fetching.{have_forms}
-use Rattle.term_runs.proofs.TapLemmas.{fair-none}
+use Rattle.routed_joins.proofs.TapLemmas.{fair-none}
 use Rattle.command_words.specs.Requests.{asked_of}
 use Rattle.myria_top.specs.Moves.{HasMoved}
 use Rattle.myria_top.specs.Reading.{Agrees, Meets, RefusesBy}

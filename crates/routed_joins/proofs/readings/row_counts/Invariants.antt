@@ -1,4 +1,4 @@
-use Rattle.std.proofs.Common.{◌≡◌, ◌<◌, ◌^◌, take, length, All}
+use Rattle.std.proofs.Common.{◌≡◌, ◌<◌, ◌^◌, take, All}
 use Rattle.placement.specs.Exchanges.{row_counts}
 use Rattle.routed_joins.proofs.readings.row_counts.Given as goal
 

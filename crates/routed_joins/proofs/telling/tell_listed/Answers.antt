@@ -1,7 +1,7 @@
 use Rattle.std.proofs.Common.{◌≡◌, ℕ, List, length, subst, arith, ap}
 use Rattle.myrial_ast.specs.Combinations.{Rows}
 use Rattle.routed_joins.specs.Listings.{count_at, IsListedAt}
-use Rattle.term_runs.proofs.telling.tell_listed.Goals as goal
+use Rattle.routed_joins.proofs.telling.tell_listed.Goals as goal
 
 pub returns : goal.returns
 returns g c =

@@ -4,8 +4,8 @@ use Rattle.rel_io.specs.declared.taps.Totals.{Totals}
 use Rattle.myrial_ast.specs.Combinations.{Rows}
 use Rattle.algebra.specs.declared.settings.Settings.{Settings}
 use Rattle.placement.specs.Exchanges.{PlacedExchange}
-use Rattle.term_runs.specs.declared.moved.Moved.{Moved}
-use Rattle.term_runs.specs.TermRuns.{AreMoved, AreFair, IsMoved, IsTermRun}
+use Rattle.routed_joins.specs.declared.moved.Moved.{Moved}
+use Rattle.routed_joins.specs.TermRuns.{AreMoved, AreFair, IsMoved, IsTermRun}
 
 module _ {T F : Type 0} (s : Settings) (number : ℕ) (expected : List Rows) (exchanges : List PlacedExchange) (totals : T → Totals) (tag : T → ℕ)
     (IsFault : F → Type 0) (before after : List T) where

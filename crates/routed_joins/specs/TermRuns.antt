@@ -23,7 +23,7 @@ use Rattle.placement.specs.Exchanges.{PlacedExchange, traffic_note}
 use Rattle.placement.specs.Runs.{size_of}
 use Rattle.row_exchange.specs.declared.routes.Size.{Size}
 use Rattle.row_exchange.specs.Exchanges.{AreTold, Shows}
-use Rattle.term_runs.specs.declared.moved.Moved.{Moved}
+use Rattle.routed_joins.specs.declared.moved.Moved.{Moved}
 
 -- ---- receipts
 

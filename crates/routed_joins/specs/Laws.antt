@@ -17,10 +17,9 @@ use Rattle.row_exchange.specs.Moves.{Move, sent, received}
 use Rattle.row_exchange.specs.declared.routes.Size.{Size}
 use Rattle.row_exchange.specs.Exchanges.{nothing, of_all, AreTold}
 use Rattle.routed_joins.specs.Listings.{count_at, IsListedAt}
-use Rattle.term_runs.specs.declared.moved.Moved.{Moved}
-use Rattle.routed_joins.specs.Readings.{AreSeconds, HaveRisen}
-use Rattle.term_runs.specs.Notes.{IsNoteSince}
-use Rattle.term_runs.specs.TermRuns.{AreShown, all_sent, all_received, all_listed, AreMoved, AreFair, IsMoved}
+use Rattle.routed_joins.specs.declared.moved.Moved.{Moved}
+use Rattle.routed_joins.specs.Readings.{AreSeconds, HaveRisen, IsNoteSince}
+use Rattle.routed_joins.specs.TermRuns.{AreShown, all_sent, all_received, all_listed, AreMoved, AreFair, IsMoved}
 
 module _ {T : Type 0} (totals : T → Totals) (tag : T → ℕ) where
   -- taps rise by no exchange where nothing is done, and by all exchanges where by some and then by others

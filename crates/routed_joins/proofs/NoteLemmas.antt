@@ -1,5 +1,5 @@
 -- The note of an exchange, read off taps.
-use Rattle.std.proofs.Common.{◌≡◌, ℕ, ◌*◌, ◌<◌, ◌≤◌, List, [], ◌∷◌, length, get_or, refl, sym, ap, ◌∙◌, arith}
+use Rattle.std.proofs.Common.{◌≡◌, ℕ, ◌+◌, ◌*◌, ◌<◌, ◌≤◌, List, [], ◌∷◌, length, get_or, refl, sym, ap, ◌∙◌, arith}
 use Rattle.std.proofs.lemmas.List.FromFn.{fill_by_all}
 use Rattle.rel_io.specs.declared.taps.Totals.{Totals}
 use Rattle.exchange_channels.proofs.DeliveryLemmas.{element}
@@ -7,11 +7,11 @@ use Rattle.algebra.specs.declared.notes.Traffic.{Traffic}
 use Rattle.placement.specs.Exchanges.{PlacedExchange, traffic_note}
 use Rattle.placement.specs.Layouts.{by_worker}
 use Rattle.row_exchange.specs.Moves.{received}
-use Rattle.term_runs.specs.TermRuns.{all_sent, all_received, all_listed, AreMoved}
-use Rattle.routed_joins.specs.Readings.{AreSeconds, HaveRisen}
+use Rattle.routed_joins.specs.TermRuns.{all_sent, all_received, all_listed, AreMoved}
+use Rattle.routed_joins.specs.Readings.{AreSeconds}
 use Rattle.routed_joins.proofs.ReadingLemmas.{risen-told}
-use Rattle.term_runs.specs.Notes.{IsNoteSince}
-use Rattle.term_runs.specs.Laws.{NotesTellMoves}
+use Rattle.routed_joins.specs.Readings.{IsNoteSince}
+use Rattle.routed_joins.specs.Laws.{NotesTellMoves}
 
 module _ {T : Type 0} (totals : T → Totals) where
   -- ---- the note of an exchange
@@ -52,6 +52,6 @@ module _ {T : Type 0} (totals : T → Totals) where
 
   pub notes-tell : (tag : T → ℕ) → NotesTellMoves totals tag
   notes-tell tag = record {
-    risen = λ n es before after since read moved. risen-told tag n (all_sent es) (all_received es) (all_listed es) before after since read moved;
+    risen = λ n es before after since read moved. risen-told totals tag n (all_sent es) (all_received es) (all_listed es) before after since read moved;
     note = λ n number e before after since note room listed moved read is. note-is tag n number e before after since note room listed moved read is;
   }
