@@ -1,32 +1,30 @@
 -- What a step lists: the rows of the first atoms that are extended by those of an atom.
-use Rattle.std.proofs.Common.{◌≡◌, ℕ, zero, suc, ◌+◌, ◌-◌, ◌<◌, ◌≤◌, ◌==◌, Bool, true, false, not, cond, List, [], ◌∷◌, ◌++◌, map, take, length, get_or, All, refl, sym, ap, ◌∙◌, subst, arith, append-nil}
-use Rattle.std.specs.Prelude.{filter, sum, ⊤, ◌&&◌, ◌||◌, Contains}
-use Rattle.std.specs.List.{flat_map, list_all, list_any, range_with_len}
-use Rattle.std.specs.Ordering.{is_eq}
+use Rattle.std.proofs.Common.{◌≡◌, ℕ, zero, suc, ◌+◌, ◌<◌, ◌==◌, Bool, true, false, cond, List, [], ◌∷◌, ◌++◌, map, take, length, get_or, All, refl, sym, ap, ◌∙◌, subst, arith, append-nil}
+use Rattle.std.specs.Prelude.{filter, sum, ◌&&◌, ◌||◌}
+use Rattle.std.specs.List.{flat_map}
 use Rattle.std.proofs.lemmas.Bool.Decides.{nat_tests}
-use Rattle.std.proofs.lemmas.List.{take_all, length-append, length-map}
+use Rattle.std.proofs.lemmas.List.{take_all, length-map}
 use Rattle.std.proofs.lemmas.List.Folds.{list_all-append}
 use Rattle.std.proofs.lemmas.List.Concat.{flat_map-cons}
-use Rattle.std.proofs.lemmas.List.Elements.{All-nil, All-cons, All-head, All-tail, All-map, All-append, All-filter}
-use Rattle.rel_base.specs.Values.{value_order}
+use Rattle.std.proofs.lemmas.List.Elements.{All-nil, All-head, All-tail, All-map, All-append}
 use Rattle.myrial_ast.specs.Scalars.{Scalar, value_at, holds}
-use Rattle.myrial_ast.specs.Combinations.{Row, Rows, all_hold, combinations, combined_row, combined_rows, candidates}
-use Rattle.myrial_ast.specs.KeptRows.{Span, lies_in, reads_within, columns_in, classes_agree, passes_within, span_of_item, span_of_prefix, put_at}
+use Rattle.myrial_ast.specs.Combinations.{Row, Rows, all_hold, combined_rows, candidates}
+use Rattle.myrial_ast.specs.KeptRows.{Span, lies_in, columns_in, classes_agree, passes_within, span_of_prefix}
 use Rattle.algebra.specs.Trees.{AtomTree, Shape}
 use Rattle.algebra.specs.Shapes.{widths_of, shifted, keeps_from, tests_of, ties_in, ties_of, tie_test, candidates_of}
 use Rattle.algebra.specs.ShapeConditions.{is_shape, all_different}
 use Rattle.algebra.specs.Joins.{no_atom}
-use Rattle.algebra.proofs.ShapeLemmas.{tie-holds, both, Agreeing}
-use Rattle.placement.specs.Laws.{IsColumns, extended}
-use Rattle.placement.proofs.CellLemmas.{passes, same-truth, ties-hold}
+use Rattle.algebra.proofs.ShapeLemmas.{tie-holds, both}
+use Rattle.placement.specs.Laws.{extended}
+use Rattle.placement.proofs.CellLemmas.{passes}
 use Rattle.placement.proofs.KeptLemmas.{ties-agree, agreeing}
 use Rattle.placement.proofs.MeetingLemmas.{lies-in}
 use Rattle.placement.proofs.PrefixLemmas.{behind_it, combined-before}
 use Rattle.placement.proofs.ReceivedLemmas.{alone}
 use Rattle.routed_joins.proofs.ShapeLemmas.{shape-parts}
 use Rattle.kept_rows.specs.KeptTests.{IsPartRow, is_kept}
-use Rattle.regular_shuffle.specs.inner.Steps.{before_kinds, pairs_at, step_shape, plain_before, every_column, middle_shape, last_shape, IsFront}
-use Rattle.regular_shuffle.proofs.VariableLemmas.{has, EachOf, AgreesIn, variables-agree, classes-agree}
+use Rattle.regular_shuffle.specs.inner.Steps.{before_kinds, pairs_at, step_shape, every_column, middle_shape, last_shape, IsFront}
+use Rattle.regular_shuffle.proofs.VariableLemmas.{has, EachOf, AgreesIn, variables-agree}
 use Rattle.regular_shuffle.proofs.StepLemmas.{iff-eq, kinds-long, ties-are, ties-step, own-keeps, keeps-hold, middle-step}
 use Rattle.regular_shuffle.proofs.ShapedLemmas.{all-parts}
 

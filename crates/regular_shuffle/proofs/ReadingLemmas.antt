@@ -1,13 +1,8 @@
 -- What holds of items that were read, one by one.
-use Rattle.std.proofs.Common.{◌≡◌, ℕ, zero, suc, ◌+◌, ◌-◌, ◌*◌, ◌<◌, ◌≤◌, List, [], ◌∷◌, ◌++◌, take, length, get_or, All, sym, ap, ◌∙◌, subst, arith, below_more, length-append}
-use Rattle.std.proofs.Common.{◌⊎◌, ⊎_elim, inl, inr}
-use Rattle.std.proofs.lemmas.Bool.{cases_lt}
-use Rattle.std.proofs.lemmas.List.{take_more, take_all, get_or_default, get_or_append_left}
-use Rattle.std.proofs.Math.Seq.{get_or-append_seam}
+use Rattle.std.proofs.Common.{◌≡◌, ℕ, ◌+◌, ◌<◌, ◌≤◌, List, [], ◌∷◌, ◌++◌, take, length, get_or, All, sym, ap, ◌∙◌, subst, below_more}
+use Rattle.std.proofs.lemmas.List.{take_more, take_all, get_or_default}
 use Rattle.std.proofs.lemmas.List.Elements.{All-append}
 use Rattle.rel_base.proofs.SortLemmas.{All-one}
-use Rattle.rel_io.specs.declared.taps.Totals.{Totals}
-use Rattle.regular_shuffle.specs.inner.Counts.{got_of, AreGot, AreGotSince}
 
 module _ {X : Type 0} (P : X → Type 0) where
   pub one-more : (xs : List X) (k : ℕ) (x : X) → k < length xs → x ≡ get_or xs k x → All P (take k xs) → P x → All P (take (k + 1) xs)

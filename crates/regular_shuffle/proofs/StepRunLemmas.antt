@@ -15,9 +15,9 @@ use Rattle.rel_base.specs.Limits.{most_rows}
 use Rattle.rel_base.specs.Values.{number_of, in_64_bits}
 use Rattle.rel_io.specs.declared.taps.Totals.{Totals}
 use Rattle.exchange_channels.specs.Wirings.{ReceiptState}
-use Rattle.myrial_ast.specs.Scalars.{Scalar, At, value_at, fits, holds}
+use Rattle.myrial_ast.specs.Scalars.{Scalar, At, value_at, holds}
 use Rattle.myrial_ast.specs.CandidateFaults.{overflows_on, all_fit}
-use Rattle.myrial_ast.specs.Combinations.{Row, Rows, all_hold, combined_rows, candidates, listed_from}
+use Rattle.myrial_ast.specs.Combinations.{Row, Rows, all_hold, combined_rows, listed_from}
 use Rattle.myrial_ast.specs.Groups.{row_fits}
 use Rattle.myrial_ast.specs.KeptRows.{Span, columns_in, classes_agree, passes_within, span_of_prefix}
 use Rattle.hash_partition.specs.Hashing.{home_of}
@@ -31,7 +31,7 @@ use Rattle.algebra.proofs.ShapeLemmas.{both}
 use Rattle.placement.specs.Exchanges.{kept_parts, prefix_parts}
 use Rattle.placement.specs.Laws.{prefix_is_at, extended}
 use Rattle.placement.specs.Layouts.{PlacedRelation, placed_nothing, ByKeys, together, rows_of, parts_by_home, prefix_key, last_atom, join_parts}
-use Rattle.row_exchange.specs.Moves.{Move, sendings_of, moves_of, rows_given, all_given, sent}
+use Rattle.row_exchange.specs.Moves.{Move, sendings_of, moves_of, rows_given, all_given}
 use Rattle.placement.proofs.CellLemmas.{passes}
 use Rattle.placement.proofs.KeptLemmas.{reads-hold, ties-agree, agreeing}
 use Rattle.placement.proofs.PrefixLemmas.{behind_it, filter-inside}

@@ -1,5 +1,4 @@
 use Rattle.std.proofs.Common.{◌≡◌, [], true, arith}
-use Rattle.rel_base.specs.declared.values.Value.{Value}
 use Rattle.myrial_ast.specs.Combinations.{Row}
 use Rattle.myrial_ast.specs.Groups.{row_fits}
 use Rattle.regular_shuffle.proofs.ReadingLemmas.{next-place, by-places}

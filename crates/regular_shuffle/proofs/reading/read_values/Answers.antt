@@ -1,5 +1,5 @@
 use Rattle.std.proofs.Common.{◌≡◌, true, All, arith}
-use Rattle.myrial_ast.specs.Combinations.{Row, Rows}
+use Rattle.myrial_ast.specs.Combinations.{Row}
 use Rattle.myrial_ast.specs.Groups.{row_fits}
 use Rattle.regular_shuffle.proofs.ReadingLemmas.{one-more, all-read}
 use Rattle.regular_shuffle.proofs.reading.read_values.Goals as goal
