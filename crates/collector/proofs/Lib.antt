@@ -2,5 +2,6 @@
 pub mod CollectLemmas
 pub mod CutLemmas
 pub mod MergeLemmas
+pub mod PackingLemmas
 pub mod SortingLemmas
 pub mod WorkedRows

@@ -20,7 +20,7 @@ use Rattle.rel_base.specs.Beginnings.{leading_rank, leading_number, leading_byte
 use Rattle.rel_base.proofs.SortLemmas.{IsSortedBy-part, not_less-row}
 use Rattle.collector.specs.inner.Sorted.{rows_at, reference_order}
 
-then_Equal : (first : Ordering) → ordering_then first Equal ≡ first
+pub then_Equal : (first : Ordering) → ordering_then first Equal ≡ first
 then_Equal Less = refl
 then_Equal Equal = refl
 then_Equal Greater = refl

@@ -1,4 +1,5 @@
 pub mod Cuts
 pub mod Jobs
 pub mod Merged
+pub mod Packing
 pub mod Sorted

@@ -22,8 +22,11 @@
 #![tactic(auto)]
 
 mod collecting;
+mod fields;
 mod keys;
 mod merging;
+mod numbers;
+mod packing;
 mod parts;
 mod ranges;
 mod rests;

@@ -2,8 +2,10 @@
 ghost use Rattle.std.specs.Prelude.{◌≡◌, ◌<◌, ◌≤◌, IfOk, IsSorted, length, slice_index_or, slice_range};
 ghost use Rattle.rel_base.specs.Bags.{SameBag};
 ghost use Rattle.rel_base.specs.Values.{row_order};
+ghost use Rattle.collector.specs.inner.Sorted.{IsSortedPart};
 
 use crate::keys::sorted_by_keys;
+use crate::packing::sorted_by_numbers;
 use crate::runs::Run;
 use rel_base::{Memory, Rows, Value};
 use std::alloc::Global;
@@ -32,6 +34,17 @@ impl<'a> Model for SortedPart<'a> {
         × (length (rows_in p.part.now p.listed) < 2 ^ 32) };
 }
 
+/// The rows of a part in ascending order: as numbers where that may be, or else by what they begin
+/// with.
+fn sorted_rows<'a>(alloc: Global, part: &'a Rows) -> Result<Vec<&'a [Value]>, Memory>
+    ensures { IfOk result (IsSortedPart part.now) }
+{
+    match sorted_by_numbers(alloc, part)? {
+        Some(rows) => Ok(rows),
+        None => sorted_by_keys(alloc, part),
+    }
+}
+
 impl<'a> SortedPart<'a> {
     /// The rows of a part in ascending order. Where they stand so already, they are only compared,
     /// each with the next, and no memory is taken.
@@ -42,7 +55,7 @@ impl<'a> SortedPart<'a> {
         if part.iter().is_sorted() {
             return Ok(SortedPart { part, listed: None });
         }
-        let listed = sorted_by_keys(alloc, part)?;
+        let listed = sorted_rows(alloc, part)?;
         Ok(SortedPart {
             part,
             listed: Some(listed),
