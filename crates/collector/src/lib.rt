@@ -13,12 +13,14 @@
 //! Ranges are merged one by one, so that jobs can merge some each, side by side, and references to
 //! all rows need not stand in memory at once. A part that is in order takes no more than a look at
 //! each row beside the next, as a join's does that lists in order. Only a part that isn't in order
-//! takes sixteen bytes a row, for a list of references, and more while it is sorted: its rows stand
-//! beside numbers that mostly tell how they compare, so that a sort doesn't look for rows all over
-//! the memory. A list of shared rows at places would need a stretch, of forty bytes and places of
-//! its own, for each run of rows of one block.
+//! takes sixteen bytes a row, for a list of references, and more while it is sorted: rows of ints
+//! that are near enough to one another are packed into numbers of eight or sixteen bytes, each in
+//! front of its place, and any others stand beside numbers that mostly tell how they compare, in
+//! 32 bytes. So a sort doesn't look for rows all over the memory. A list of shared rows at places
+//! would need a stretch, of forty bytes and places of its own, for each run of rows of one block.
 //!
-//! Read `collecting.rt`, then `parts.rt`, `ranges.rt`, `rests.rt` and `merging.rt`.
+//! Read `collecting.rt`, then `parts.rt`, `packing.rt`, `keys.rt`, `ranges.rt`, `rests.rt` and
+//! `merging.rt`.
 #![tactic(auto)]
 
 mod collecting;
