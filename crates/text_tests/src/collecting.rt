@@ -117,3 +117,39 @@ fn ranges_follow_one_another(rt: HostRuntime) -> Result<(), Fail> {
     }
     Ok(())
 }
+
+/// A part of these rows of two numbers.
+fn part_of_pairs(alloc: Global, pairs: &[(i64, i64)]) -> Result<Rows, Memory> {
+    let mut rows = Rows::new(alloc);
+    for (first, second) in pairs {
+        let mut row = Row::new(alloc);
+        row.push(Value::Int(*first))?;
+        row.push(Value::Int(*second))?;
+        if rows.len() < 10 {
+            rows.push(row)?;
+        }
+    }
+    Ok(rows)
+}
+
+/// The second numbers of these rows, in the order of the rows.
+fn pairs_in_order<R: Threads + Wait + Sync>(
+    rt: &R,
+    alloc: Global,
+    pairs: &[(i64, i64)],
+) -> Result<Vec<i64>, Memory> {
+    let mut parts = Spread::new(alloc);
+    parts.push(part_of_pairs(alloc, pairs)?)?;
+    numbers_in_order(rt, alloc, &parts)
+}
+
+#[test]
+fn pairs_of_numbers_are_sorted(rt: HostRuntime) -> Result<(), Fail> {
+    let near = pairs_in_order(&rt, rt.alloc(), &[(3, 1), (-2, 2), (3, 0), (-2, -7)])?;
+    assert_eq!(rt; near.as_slice(), [-7, 2, 0, 1].as_slice());
+    let far = pairs_in_order(&rt, rt.alloc(), &[(1 << 40, 4), (0, 1 << 40), (5, 0)])?;
+    assert_eq!(rt; far.as_slice(), [1 << 40, 0, 4].as_slice());
+    let ends = pairs_in_order(&rt, rt.alloc(), &[(i64::MAX, 1), (i64::MIN, 2), (0, 3)])?;
+    assert_eq!(rt; ends.as_slice(), [2, 3, 1].as_slice());
+    Ok(())
+}
