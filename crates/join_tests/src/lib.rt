@@ -12,4 +12,6 @@ mod listings;
 #[cfg(test)]
 mod orders;
 #[cfg(test)]
+mod rectangles;
+#[cfg(test)]
 mod words;
