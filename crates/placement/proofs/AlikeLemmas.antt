@@ -16,7 +16,7 @@ use Rattle.placement.specs.Destinations.{meeting_cell}
 use Rattle.placement.specs.Layouts.{PlacedRelation, ByCells, ByKeys, Broadcast, placed_nothing, rows_of, prefix_key, last_atom, is_most, staying_atom, join_parts}
 use Rattle.placement.specs.Laws.{AreSamePlaced, none_placed, one_placed, PartsAreBags}
 
-rows-same : (ps qs : List PlacedRelation) → AreSamePlaced ps qs → SameTables (rows_of ps) (rows_of qs)
+pub rows-same : (ps qs : List PlacedRelation) → AreSamePlaced ps qs → SameTables (rows_of ps) (rows_of qs)
 rows-same _ _ none_placed = no_table
 rows-same _ _ (one_placed p q ps qs h hs) = a_table p.relation.rows q.relation.rows (rows_of ps) (rows_of qs) h.rows (rows-same ps qs hs)
 

@@ -36,7 +36,7 @@ use Rattle.placement.proofs.CellLemmas.{All-flat_map}
 use Rattle.placement.proofs.JoinedLemmas.{joined_are_joined}
 use Rattle.row_exchange.proofs.MoveLemmas.{map-flat_map}
 use Rattle.placement.proofs.ScriptLemmas.{HasSources, home_of-lt, get_or-All, nothing_IsPlaced, All-made, steps-sources, checked-steps, steps-IsPlaced, found-IsPlaced}
-use Rattle.placement.proofs.PrefixLemmas.{map-through}
+use Rattle.bag_laws.proofs.ColumnLemmas.{map-through}
 
 -- ---- sums
 

@@ -23,7 +23,8 @@ use Rattle.placement.specs.Receiving.{PartsAreListed}
 use Rattle.placement.proofs.BroadcastLemmas.{broadcasts_list_what_they_are_given}
 use Rattle.placement.proofs.CellLemmas.{passes}
 use Rattle.placement.proofs.KeptLemmas.{reads-hold, ties-agree, agreeing}
-use Rattle.placement.proofs.PrefixLemmas.{behind_it, combined-before, filter-inside}
+use Rattle.bag_laws.proofs.PartialLemmas.{filter-inside}
+use Rattle.placement.proofs.PrefixLemmas.{behind_it, combined-before}
 use Rattle.placement.proofs.ReceivedLemmas.{alone, cells_list_what_they_are_given, steps_list_what_they_are_given}
 use Rattle.placement.proofs.ScriptLemmas.{get_or-All, nothing_IsPlaced}
 
@@ -40,14 +41,14 @@ listed-at-home f n w home rows low =
 -- ---- two at a time: the last step
 
 -- a row on which all tests hold passes what is said of any of its columns
-holds-within : (shape : Shape) (span : Span) (row : Row) → passes shape row ≡ true → passes_within (tests_of shape) (ties_of shape) span row ≡ true
+pub holds-within : (shape : Shape) (span : Span) (row : Row) → passes shape row ≡ true → passes_within (tests_of shape) (ties_of shape) span row ≡ true
 holds-within shape span row h =
     let parts = both (all_hold (tests_of shape) row) (all_hold (map tie_test (ties_of shape)) row)
     (sym (list_all-append (λ e. holds e row) (tests_of shape) (map tie_test (ties_of shape))) ∙ h) in
     ap (λ b. b && classes_agree (ties_of shape) (columns_in span) row) (reads-hold span row row (λ c l m. refl) (tests_of shape) parts.0)
     ∙ ties-agree span row row (λ c l m. refl) (ties_of shape) (agreeing row (ties_of shape) parts.1)
 
-filter-turn : (p q : Row → Bool) (rows : Rows) → filter p (filter q rows) ≡ filter q (filter p rows)
+pub filter-turn : (p q : Row → Bool) (rows : Rows) → filter p (filter q rows) ≡ filter q (filter p rows)
 filter-turn p q [] = refl
 filter-turn p q (row ∷ rows) = by (p row) (q row) refl refl (filter-turn p q rows)
   where
@@ -65,13 +66,13 @@ filter-turn p q (row ∷ rows) = by (p row) (q row) refl refl (filter-turn p q r
     by false false e f rest = rest
 
 -- the combined rows of two tables
-combined-two : (fronts lasts : Rows) → combined_rows (fronts ∷ lasts ∷ []) ≡ flat_map (λ front. behind_it front lasts) fronts
+pub combined-two : (fronts lasts : Rows) → combined_rows (fronts ∷ lasts ∷ []) ≡ flat_map (λ front. behind_it front lasts) fronts
 combined-two fronts lasts =
     combined-before (flat_map (λ row. map (λ rest. row ∷ rest) ([] ∷ [])) lasts) fronts
     ∙ ap (λ rows. flat_map (λ front. behind_it front rows) fronts) (combined-before ([] ∷ []) lasts ∙ alone lasts)
 
 -- the candidates of all atoms are those of the longest prefix on which all tests hold
-candidates-prefix : (shape : Shape) (m : ℕ) (tables : List Rows) → length tables ≤ m → filter (passes shape) (prefix_of shape m tables) ≡ candidates_of shape tables
+pub candidates-prefix : (shape : Shape) (m : ℕ) (tables : List Rows) → length tables ≤ m → filter (passes shape) (prefix_of shape m tables) ≡ candidates_of shape tables
 candidates-prefix shape m tables long =
     filter-inside (passes shape) (passes_within (tests_of shape) (ties_of shape) (span_of_prefix (widths_of shape) m)) (holds-within shape (span_of_prefix (widths_of shape) m)) (combined_rows (take m tables))
     ∙ ap (λ ts. filter (passes shape) (combined_rows ts)) (take_all m tables long)

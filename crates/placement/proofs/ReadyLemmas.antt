@@ -28,7 +28,7 @@ use Rattle.placement.proofs.ScriptLemmas.{All-made, first-of-shape, checked-step
 
 -- ---- the columns of variables
 
-length-kinds : (atoms : List AtomTree) → length (flat_map (λ (a : AtomTree). a.kinds) atoms) ≡ sum (map (λ (a : AtomTree). length a.kinds) atoms)
+pub length-kinds : (atoms : List AtomTree) → length (flat_map (λ (a : AtomTree). a.kinds) atoms) ≡ sum (map (λ (a : AtomTree). length a.kinds) atoms)
 length-kinds [] = refl
 length-kinds (a ∷ atoms) =
     omega (arith, length-append a.kinds (flat_map (λ (a : AtomTree). a.kinds) atoms), length-kinds atoms, sum_by-cons (λ (n : ℕ). n) (length a.kinds) (map (λ (a : AtomTree). length a.kinds) atoms))
@@ -40,7 +40,7 @@ middle-of true true false d e k = k
 middle-of true false c d e k = absurd (cc)
 middle-of false b c d e k = absurd (cc)
 
-below-each : (n : ℕ) (cs : List ℕ) → list_all (λ c. nat_lt c n) cs ≡ true → All (λ c. c < n) cs
+pub below-each : (n : ℕ) (cs : List ℕ) → list_all (λ c. nat_lt c n) cs ≡ true → All (λ c. c < n) cs
 below-each n [] h = All-nil (λ c. c < n)
 below-each n (c ∷ cs) h =
     let parts = both (nat_lt c n) (list_all (λ c. nat_lt c n) cs) h in

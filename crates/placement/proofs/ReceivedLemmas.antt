@@ -109,12 +109,12 @@ alone (row ∷ rows) =
     let rest = alone rows in
     λ i. first i ∷ rest i
 
-prefix-one : (shape : Shape) (rows : Rows) (tables : List Rows) → prefix_of shape 1 (rows ∷ tables) ≡ kept_of shape 0 rows
+pub prefix-one : (shape : Shape) (rows : Rows) (tables : List Rows) → prefix_of shape 1 (rows ∷ tables) ≡ kept_of shape 0 rows
 prefix-one shape rows tables =
     ap (filter (passes_within (tests_of shape) (ties_of shape) (span_of_prefix (widths_of shape) 1))) (combined-before ([] ∷ []) rows ∙ alone rows)
 
 -- the candidates of a prefix where they lie are all of them
-prefix-lies : (n seed : ℕ) (shape : Shape) (items : List PlacedRelation) → 1 ≤ n → All (IsPlaced n) items → (i : ℕ) → i < length items
+pub prefix-lies : (n seed : ℕ) (shape : Shape) (items : List PlacedRelation) → 1 ≤ n → All (IsPlaced n) items → (i : ℕ) → i < length items
     → SameBag (together (prefix_parts n seed shape items i)) (prefix_of shape i (rows_of items))
 prefix-lies n seed shape [] some all i low = absurd (omega (arith, low))
 prefix-lies n seed shape (p ∷ items) some all i low = by (i == 1) refl

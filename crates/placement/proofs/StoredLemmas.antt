@@ -13,7 +13,7 @@ use Rattle.placement.specs.Layouts.{PlacedRelation, Placing, placed_nothing, pla
 use Rattle.placement.specs.Laws.{PlacedAreStored}
 
 -- the relations alone
-abbrev unplaced : List (ℕ × PlacedRelation) → List (ℕ × RelationState)
+abbrev pub unplaced : List (ℕ × PlacedRelation) → List (ℕ × RelationState)
 unplaced results = map (λ (r : ℕ × PlacedRelation). (r.0, r.1.relation)) results
 
 module _ (p : Placing) (files : List File) where

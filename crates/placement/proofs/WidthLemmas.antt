@@ -53,7 +53,7 @@ source-long (Some own) kinds rows h k = subst (λ n. AllLong n rows) (pointwise-
 
 -- ---- terms
 
-distinct-all : (P : Row → Type 0) (rows : Rows) → All P rows → All P (distinct rows)
+pub distinct-all : (P : Row → Type 0) (rows : Rows) → All P rows → All P (distinct rows)
 distinct-all P [] all = All-nil P
 distinct-all P (r ∷ rows) all =
     All-cons P r (filter (λ s. not (same_row r s)) (distinct rows)) (All-head P r rows all)

@@ -23,6 +23,7 @@ use Rattle.placement.proofs.PrefixLemmas.{behind_it, combined-before}
 use Rattle.placement.proofs.ReceivedLemmas.{alone}
 use Rattle.routed_joins.proofs.ShapeLemmas.{shape-parts}
 use Rattle.kept_rows.specs.KeptTests.{IsPartRow, is_kept}
+use Rattle.placement.proofs.ListingLemmas.{combined-two}
 use Rattle.regular_shuffle.specs.inner.Steps.{before_kinds, pairs_at, step_shape, every_column, middle_shape, last_shape, IsFront}
 use Rattle.regular_shuffle.proofs.VariableLemmas.{has, EachOf, AgreesIn, variables-agree}
 use Rattle.regular_shuffle.proofs.StepLemmas.{iff-eq, kinds-long, ties-are, ties-step, own-keeps, keeps-hold, middle-step}
@@ -140,11 +141,6 @@ module _ (shape : Shape) (shaped : is_shape shape ≡ true) (i : ℕ) (end : suc
           ∙ ap (λ b. b && all_hold shape.plain total) all-keeps
 
 -- ---- all rows of a step
-
-pub combined-two : (fronts lasts : Rows) → combined_rows (fronts ∷ lasts ∷ []) ≡ flat_map (λ front. behind_it front lasts) fronts
-combined-two fronts lasts =
-    combined-before (flat_map (λ row. map (λ rest. row ∷ rest) ([] ∷ [])) lasts) fronts
-    ∙ ap (λ rows. flat_map (λ front. behind_it front rows) fronts) (combined-before ([] ∷ []) lasts ∙ alone lasts)
 
 filter-alike : (p q : Row → Bool) (rows : Rows) → All (λ row. p row ≡ q row) rows → filter p rows ≡ filter q rows
 filter-alike p q [] all = refl

@@ -34,7 +34,8 @@ use Rattle.placement.specs.Layouts.{PlacedRelation, placed_nothing, ByKeys, toge
 use Rattle.row_exchange.specs.Moves.{Move, sendings_of, moves_of, rows_given, all_given}
 use Rattle.placement.proofs.CellLemmas.{passes}
 use Rattle.placement.proofs.KeptLemmas.{reads-hold, ties-agree, agreeing}
-use Rattle.placement.proofs.PrefixLemmas.{behind_it, filter-inside}
+use Rattle.bag_laws.proofs.PartialLemmas.{filter-inside}
+use Rattle.placement.proofs.PrefixLemmas.{behind_it}
 use Rattle.placement.proofs.ReceivedLemmas.{steps_list_what_they_are_given}
 use Rattle.placement.proofs.ScriptLemmas.{home_of-lt}
 use Rattle.placement.proofs.TogetherLemmas.{dealt-together}
@@ -45,45 +46,16 @@ use Rattle.routed_joins.proofs.RouteLemmas.{any-permuted}
 use Rattle.row_exchange.proofs.MoveLemmas as lists
 use Rattle.routed_joins.specs.PlacedJoins.{placed_rows, placed_items}
 use Rattle.routed_joins.proofs.PartLemmas.{items-placed, items-wide, items-long}
-use Rattle.routed_joins.proofs.WorkerLemmas.{same-lengths}
+use Rattle.routed_joins.proofs.WorkerLemmas.{same-lengths, any-flat_map}
+use Rattle.placement.proofs.ListingLemmas.{holds-within, filter-turn, candidates-prefix, combined-two}
+use Rattle.placement.proofs.MeetingLemmas.{any-map}
 use Rattle.regular_shuffle.specs.inner.Steps.{every_column, middle_shape, last_shape, shape_at, IsFront}
 use Rattle.regular_shuffle.specs.inner.StepRuns.{step_cells, IsFrontAt, step_rows, step_parts, step_moves, HasRunStep, IsStepFault, IsStepRun}
 use Rattle.regular_shuffle.proofs.BroadcastLemmas.{flat-same}
 use Rattle.regular_shuffle.proofs.ColumnLemmas.{rows-emitted}
 use Rattle.regular_shuffle.proofs.FrontLemmas.{fronts-are}
-use Rattle.regular_shuffle.proofs.LastLemmas.{combined-two, all-pairs, middle-candidates, last-candidates}
+use Rattle.regular_shuffle.proofs.LastLemmas.{all-pairs, middle-candidates, last-candidates}
 use Rattle.regular_shuffle.proofs.StepRouteLemmas.{pair-long, sent-same, got-same, bags-shown, tables-same, given-fronts, given-owns}
-
--- ---- the candidates of the last step
-
-holds-within : (shape : Shape) (span : Span) (row : Row) → passes shape row ≡ true → passes_within (tests_of shape) (ties_of shape) span row ≡ true
-holds-within shape span row h =
-    let parts = both (all_hold (tests_of shape) row) (all_hold (map tie_test (ties_of shape)) row)
-    (sym (list_all-append (λ e. holds e row) (tests_of shape) (map tie_test (ties_of shape))) ∙ h) in
-    ap (λ b. b && classes_agree (ties_of shape) (columns_in span) row) (reads-hold span row row (λ c l m. refl) (tests_of shape) parts.0)
-    ∙ ties-agree span row row (λ c l m. refl) (ties_of shape) (agreeing row (ties_of shape) parts.1)
-
-filter-turn : (p q : Row → Bool) (rows : Rows) → filter p (filter q rows) ≡ filter q (filter p rows)
-filter-turn p q [] = refl
-filter-turn p q (row ∷ rows) = by (p row) (q row) refl refl (filter-turn p q rows)
-  where
-    first : (b : Bool) → p row ≡ b → filter p (row ∷ filter q rows) ≡ cond b (row ∷ filter p (filter q rows)) (filter p (filter q rows))
-    first b e = ap (λ c. cond c (row ∷ filter p (filter q rows)) (filter p (filter q rows))) e
-
-    second : (b : Bool) → q row ≡ b → filter q (row ∷ filter p rows) ≡ cond b (row ∷ filter q (filter p rows)) (filter q (filter p rows))
-    second b e = ap (λ c. cond c (row ∷ filter q (filter p rows)) (filter q (filter p rows))) e
-
-    by : (a b : Bool) → p row ≡ a → q row ≡ b → filter p (filter q rows) ≡ filter q (filter p rows)
-        → filter p (cond b (row ∷ filter q rows) (filter q rows)) ≡ filter q (cond a (row ∷ filter p rows) (filter p rows))
-    by true true e f rest = first true e ∙ ap (λ rs. row ∷ rs) rest ∙ sym (second true f)
-    by true false e f rest = rest ∙ sym (second false f)
-    by false true e f rest = first false e ∙ rest
-    by false false e f rest = rest
-
-candidates-prefix : (shape : Shape) (m : ℕ) (tables : List Rows) → length tables ≤ m → filter (passes shape) (prefix_of shape m tables) ≡ candidates_of shape tables
-candidates-prefix shape m tables long =
-    filter-inside (passes shape) (passes_within (tests_of shape) (ties_of shape) (span_of_prefix (widths_of shape) m)) (holds-within shape (span_of_prefix (widths_of shape) m)) (combined_rows (take m tables))
-    ∙ ap (λ ts. filter (passes shape) (combined_rows ts)) (take_all m tables long)
 
 -- ---- numbers that stand in rows fit 64 bits
 
@@ -104,14 +76,6 @@ none-any p [] all = refl
 none-any p (row ∷ rows) all = λ i. All-head (λ row. p row ≡ false) row rows all i || none-any p rows (All-tail (λ row. p row ≡ false) row rows all) i
 
 -- ---- all workers' candidates together
-
-any-map : {X Y : Type 0} (p : Y → Bool) (f : X → Y) (xs : List X) → list_any p (map f xs) ≡ list_any (λ x. p (f x)) xs
-any-map p f [] = refl
-any-map p f (x ∷ xs) = ap (λ b. p (f x) || b) (any-map p f xs)
-
-any-flat_map : {X Y : Type 0} (p : Y → Bool) (f : X → List Y) (xs : List X) → list_any p (flat_map f xs) ≡ list_any (λ x. list_any p (f x)) xs
-any-flat_map p f [] = refl
-any-flat_map p f (x ∷ xs) = list_any-append p (f x) (flat_map f xs) ∙ ap (λ b. list_any p (f x) || b) (any-flat_map p f xs)
 
 module _ (step : Shape) (n : ℕ) (given : ℕ → List Rows) (rows : Rows) (whole : SameBag rows (flat_map (λ w. candidates_of step (given w)) (range_with_len 0 n))) where
   all-counted : all_candidates step (map given (range_with_len 0 n)) ≡ length rows

@@ -17,6 +17,7 @@ use Rattle.algebra.specs.Meanings.{found, sources_of, term_rows, term_fault, is_
 use Rattle.placement.specs.Layouts.{PlacedRelation, Placing, placed_nothing, placed_files, placed_source, placed_step, placed_steps}
 use Rattle.placement.proofs.WidthLemmas.{three}
 use Rattle.placement.proofs.ScriptLemmas.{checked-steps}
+use Rattle.placement.proofs.StoredLemmas.{unplaced}
 use Rattle.run_laws.specs.Values.{IsKnown, meant, result_of, first_of, step_fault, StepsAreMeant, FaultsAreOfSteps}
 use Rattle.run_laws.proofs.SourceLemmas.{first_or_behind, nothing_in_none, term-known, fault-same, placed_rows-same, parts-same}
 
@@ -195,10 +196,6 @@ module _ (rules : ℕ → FaultRule) (files : List File) (stores : List StoreSte
       by false mine rest = rest
 
 -- ---- the relations of what is placed
-
--- the relations alone
-abbrev unplaced : List (ℕ × PlacedRelation) → List (ℕ × RelationState)
-unplaced results = map (λ (r : ℕ × PlacedRelation). (r.0, r.1.relation)) results
 
 module _ (p : Placing) (files : List File) where
   file-same : (lent : List File) (place : ℕ)

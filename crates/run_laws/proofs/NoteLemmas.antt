@@ -20,7 +20,8 @@ use Rattle.algebra.specs.Meanings.{sources_of}
 use Rattle.placement.specs.Layouts.{PlacedRelation, Shuffle, ByCells, ByKeys, Broadcast, rows_of, joined_items, is_most, staying_atom}
 use Rattle.placement.specs.Laws.{IsSamePlaced, AreSamePlaced, none_placed, one_placed}
 use Rattle.placement.specs.Plans.{ShuffleRule, LeastLoad, Fixed, uses_of, pushed_of, ruled_shuffle, placing_by, item_notes, variable_notes, shuffle_note, reduce_notes, join_notes, group_note, term_notes}
-use Rattle.placement.proofs.JoinedLemmas.{rows-same, joined_are_of_bags}
+use Rattle.placement.proofs.AlikeLemmas.{rows-same}
+use Rattle.placement.proofs.JoinedLemmas.{joined_are_of_bags}
 use Rattle.run_laws.specs.Scripts.{NotesAreOfBags}
 use Rattle.run_laws.proofs.TableLemmas.{tables-counts}
 use Rattle.run_laws.proofs.BagLemmas.{values-placed}

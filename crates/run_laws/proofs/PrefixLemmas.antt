@@ -13,7 +13,8 @@ use Rattle.algebra.specs.Trees.{Shape}
 use Rattle.algebra.specs.Shapes.{widths_of, tests_of, ties_of, kept_of, prefix_of}
 use Rattle.placement.specs.Layouts.{prefix_key, item_key}
 use Rattle.placement.specs.Laws.{AreWide, extended, prefix_is_at, item_is_at}
-use Rattle.placement.proofs.PrefixLemmas.{filter-inside, combined-before, prefixes_meet_by_key}
+use Rattle.bag_laws.proofs.PartialLemmas.{filter-inside}
+use Rattle.placement.proofs.PrefixLemmas.{combined-before, prefixes_meet_by_key}
 use Rattle.placement.proofs.ReceivedLemmas.{alone}
 use Rattle.placement.proofs.ScriptLemmas.{home_of-lt}
 

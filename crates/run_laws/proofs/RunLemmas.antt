@@ -12,7 +12,7 @@ use Rattle.routed_joins.specs.TermRuns.{all_sent, all_received, all_listed, AreM
 use Rattle.run_laws.specs.SameExchanges.{AreSameExchanges}
 use Rattle.run_laws.proofs.MovedLemmas.{counts_are_of_same_exchanges, moved_are_of_same_exchanges}
 
-if-ok : {X F : Type 0} (P Q : X → Type 0) → ((x : X) → P x → Q x) → (answer : Result X F) → IfOk answer P → IfOk answer Q
+pub if-ok : {X F : Type 0} (P Q : X → Type 0) → ((x : X) → P x → Q x) → (answer : Result X F) → IfOk answer P → IfOk answer Q
 if-ok P Q f (Ok x) h = f x h
 if-ok P Q f (Err e) h = h
 

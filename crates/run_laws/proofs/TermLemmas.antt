@@ -29,8 +29,9 @@ use Rattle.placement.specs.Exchanges.{row_counts, shuffle_exchanges, join_exchan
 use Rattle.placement.specs.Layouts.{PlacedRelation, placed_nothing, by_worker, part, rows_of, joined_items, join_parts, listed_parts, term_parts}
 use Rattle.placement.specs.Laws.{IsSamePlaced, AreSamePlaced, none_placed, one_placed}
 use Rattle.placement.specs.Plans.{ShuffleRule, ruled_shuffle, placing_by}
-use Rattle.placement.proofs.JoinedLemmas.{rows-same, joined-rows, joined_are_of_bags}
-use Rattle.placement.proofs.PrefixLemmas.{map-through}
+use Rattle.placement.proofs.AlikeLemmas.{rows-same}
+use Rattle.placement.proofs.JoinedLemmas.{joined-rows, joined_are_of_bags}
+use Rattle.bag_laws.proofs.ColumnLemmas.{map-through}
 use Rattle.run_laws.specs.SameExchanges.{AreSameExchanges, no_exchange, an_exchange}
 use Rattle.run_laws.specs.BagRuns.{AreSameValues, rows_in, IsSameRun, TermsAreOfBags}
 use Rattle.run_laws.proofs.TableLemmas.{tables-itself, tables-counts, tables-at, tables-map, tables-set, tables-take, tables-range, homes-same}
@@ -117,7 +118,7 @@ sums-same kinds a b h =
     ∙ sym (all-not-any fits (groups kinds b))
 
 -- the fault of a join, by what is wrong with it
-abbrev fault_by : ℕ → Bool → Bool → Bool → Option RunFault
+abbrev pub fault_by : ℕ → Bool → Bool → Bool → Option RunFault
 fault_by number many over sums =
     if many then Some (fault.TooManyRows number)
     else if over then Some (fault.Overflow number)

@@ -34,7 +34,7 @@ use Rattle.algebra.specs.Meanings.{term_rows}
 use Rattle.algebra.specs.Rewriting.{AreTyped}
 use Rattle.algebra.proofs.ShapeLemmas.{both}
 use Rattle.placement.specs.Layouts.{PlacedRelation, Placing, placed_nothing, placed_files, placed_source, placed_step, placed_steps}
-use Rattle.placement.proofs.WidthLemmas.{three}
+use Rattle.placement.proofs.WidthLemmas.{three, distinct-all}
 use Rattle.placement.proofs.ScriptLemmas.{checked-steps, steps-IsPlaced, found-IsPlaced}
 use Rattle.run_laws.specs.Values.{meant, MeantArePlaced}
 
@@ -340,12 +340,6 @@ has-members kinds rows i d low none =
     ≡ true = itself (key_of kinds (get_or rows i d)) in
     let fails = filter-none-at (λ row. same_row (key_of kinds (get_or rows i d)) (key_of kinds row)) rows i d low none in
     cc
-
-distinct-all : (P : Row → Type 0) (rows : Rows) → All P rows → All P (distinct rows)
-distinct-all P [] all = All-nil P
-distinct-all P (r ∷ rows) all =
-    All-cons P r (filter (λ s. not (same_row r s)) (distinct rows)) (All-head P r rows all)
-    (All-filter (λ s. not (same_row r s)) P (distinct rows) (distinct-all P rows (All-tail P r rows all)))
 
 module _ (kinds : Kinds) (ks : List ColType) (same : length kinds ≡ length ks) where
   one-typed : (rows : Rows) → AreOf ks rows → (rows ≡ [] → ⊥) → map type_of (group_row kinds rows) ≡ result_kinds kinds ks
