@@ -5,13 +5,13 @@ use Rattle.std.specs.List.{enumerate_from, flat_map, list_all}
 use Rattle.std.specs.Option.{option_to_list}
 use Rattle.std.proofs.lemmas.Bool.{eq-eqb, le-leb, leb-true, lt-leb, ltb-true}
 use Rattle.std.proofs.lemmas.List.{get_or_at, length-map, take_all}
-use Rattle.myrial_ast.specs.Combinations.{Rows}
 use Rattle.algebra.specs.declared.notes.PlanNote.{PlanNote}
 use Rattle.algebra.specs.declared.notes.PlanNote.TheVariants as note
 use Rattle.algebra.specs.declared.settings.JoinKind.{JoinKind}
 use Rattle.algebra.specs.declared.terms.Source.{Source}
 use Rattle.algebra.specs.declared.terms.StoreStep.{StoreStep}
 use Rattle.rel_base.specs.declared.values.ColType.{ColType}
+use Rattle.rel_base.specs.declared.values.Value.{Value}
 use Rattle.rel_base.specs.Keys.{File}
 use Rattle.std.specs.Cmp.Lexicographic.{pointwise}
 use Rattle.algebra.specs.Trees.{AtomTree, Shape, TermTree, Same, Empty, UnionAll, Diff, Distinct, Join, Group, StepTree}
@@ -35,13 +35,13 @@ use Rattle.fragmenter.specs.NotedPlans.{choices_behind, choices_in}
 
 -- ---- notes that tell of no choice
 
-items_pass : (shape : Shape) (given : List Rows) (i n : ℕ) (sh : List ℕ) (more : List PlanNote)
-    → choices_behind n sh (map (λ (e : ℕ × Rows). note.Item (suc e.0) (length e.1) (pushed_of shape e.0) (length (kept_of shape e.0 e.1))) (enumerate_from i given) ++ more)
+items_pass : (shape : Shape) (given : List (List (List Value))) (i n : ℕ) (sh : List ℕ) (more : List PlanNote)
+    → choices_behind n sh (map (λ (e : ℕ × List (List Value)). note.Item (suc e.0) (length e.1) (pushed_of shape e.0) (length (kept_of shape e.0 e.1))) (enumerate_from i given) ++ more)
     ≡ choices_behind n sh more
 items_pass shape [] i n sh more = refl
 items_pass shape (rows ∷ given) i n sh more = items_pass shape given (i + 1) n sh more
 
-reduction_passes : (reduce : Bool) (shape : Shape) (items : List Rows) (n : ℕ) (sh : List ℕ) (more : List PlanNote)
+reduction_passes : (reduce : Bool) (shape : Shape) (items : List (List (List Value))) (n : ℕ) (sh : List ℕ) (more : List PlanNote)
     → choices_behind n sh (reduce_notes reduce shape items ++ more) ≡ choices_behind n sh more
 reduction_passes false shape items n sh more = refl
 reduction_passes true shape items n sh more = either (is_acyclic_shape shape)
@@ -91,7 +91,7 @@ module _ (p : Placing) (local : JoinKind) (h : IsPlacing p) where
   abbrev Fits : List (ℕ × ℕ) → List PlanNote → Type 0
   Fits joins notes = (n : ℕ) (sh : List ℕ) → first_misfit p.workers joins (choices_behind n sh notes) ≡ None
 
-  choice_fits : (k : ℕ) (shape : Shape) (shuffle : Shuffle) (items : List Rows) (joins : List (ℕ × ℕ)) (more : List PlanNote)
+  choice_fits : (k : ℕ) (shape : Shape) (shuffle : Shuffle) (items : List (List (List Value))) (joins : List (ℕ × ℕ)) (more : List PlanNote)
       → IsSharing p.workers shape shuffle → length shape.variables ≤ most_variables → Fits joins more
       → first_misfit p.workers ((k, length shape.variables) ∷ joins) (choices_behind k [] (variable_notes shuffle shape ++ (shuffle_note shuffle local shape items ∷ more))) ≡ None
   choice_fits k shape (ByCells shares) items joins more sharing few rest =

@@ -3,7 +3,7 @@
 //! A stage is what is done of a step up to its next exchange, or up to its result. A plan has a
 //! choice for each join: how its rows meet. Stands on `plan_rewrite`, whose scripts it cuts, on
 //! `algebra` for their steps, on `share_chooser` for shares, on `placement` for shuffles and notes,
-//! and on `rel_base` and `myrial_ast` for lists and rows.
+//! and on `rel_base` for lists.
 //!
 //! Promises: `fragment` gives the stages of the definitions, for every rewritten script, which end
 //! with the exchanges of its run, one after another, and
