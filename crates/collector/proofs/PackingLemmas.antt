@@ -19,41 +19,11 @@ use Rattle.rel_base.specs.declared.values.Value.{Value}
 use Rattle.rel_base.specs.Values.{number_of, value_order, row_order}
 use Rattle.rel_base.specs.Bags.{SameBag}
 use Rattle.rel_base.proofs.SortLemmas.{All-one, IsSortedBy-part, not_less-first}
+use Rattle.packed_numbers.proofs.NumberLemmas.{nat_cmp-parts}
 use Rattle.collector.proofs.SortingLemmas.{then_Equal, in_order_as_rows}
 use Rattle.collector.specs.declared.fields.Field.{Field}
 use Rattle.collector.specs.inner.Packing.{all_digits, distance, HasRoom, IsPacked, row_told, TellsRow, TellRows}
 use Rattle.collector.specs.inner.Sorted.{rows_at, IsSortedPart}
-
--- ---- numbers in front of others
-
-nat_cmp-shifted : (l a b : ℕ) → nat_cmp (l + a) (l + b) ≡ nat_cmp a b
-nat_cmp-shifted l a b = grind arith
-
--- numbers compare by what stands in front of some digits, and then by these digits
-pub nat_cmp-parts : (n m d : ℕ) → 0 < d → nat_cmp n m ≡ ordering_then (nat_cmp (n / d) (m / d)) (nat_cmp (n % d) (m % d))
-nat_cmp-parts n m d some =
-    let whole_n : n / d * d + n % d ≡ n = div-add-mod' n d in
-    let whole_m : m / d * d + m % d ≡ m = div-add-mod' m d in
-    let low_n : n % d < d = mod_below n d some in
-    let low_m : m % d < d = mod_below m d some in
-    elim (cases_lt (n / d) (m / d)) [
-      | inl less ↦
-          let up : (n / d + 1) * d ≤ m / d * d = mul-le (n / d + 1) d (m / d) d (omega arith) (omega arith) in
-          let below : n < m = omega arith in
-          sym (nat_cmp_is n m Less below) ∙ ap (λ o. ordering_then o (nat_cmp (n % d) (m % d))) (nat_cmp_is (n / d) (m / d) Less less)
-      | inr more ↦ elim (cases_lt (m / d) (n / d)) [
-        | inl over ↦
-            let up : (m / d + 1) * d ≤ n / d * d = mul-le (m / d + 1) d (n / d) d (omega arith) (omega arith) in
-            let above : m < n = omega arith in
-            sym (nat_cmp_is n m Greater above) ∙ ap (λ o. ordering_then o (nat_cmp (n % d) (m % d))) (nat_cmp_is (n / d) (m / d) Greater over)
-        | inr level ↦
-            let same : n / d ≡ m / d = omega arith in
-            let front : n / d * d ≡ m / d * d = ap (λ q. q * d) same in
-            let is_n : n ≡ m / d * d + n % d = omega arith in
-            let is_m : m ≡ m / d * d + m % d = omega arith in
-            (λ i. nat_cmp (is_n i) (is_m i)) ∙ nat_cmp-shifted (m / d * d) (n % d) (m % d) ∙ ap (λ o. ordering_then o (nat_cmp (n % d) (m % d))) (nat_cmp_is (n / d) (m / d) Equal same)
-      ]
-    ]
 
 -- ---- ints compare as their distances from a least one
 

@@ -1,8 +1,9 @@
 //! The rows of all workers, put in one order.
 //!
 //! Stands on `crew`, which sorts the parts side by side, on `itertools`, whose `kmerge` merges
-//! them, and on `rel_base` for rows and their order. No row is copied or moved: what is sorted and
-//! merged are references. `collect` is for callers that want a list, and nothing here calls it.
+//! them, on `packed_numbers` for rows of ints, and on `rel_base` for rows and their order. No row
+//! is copied or moved: what is sorted and merged are references. `collect` is for callers that want
+//! a list, and nothing here calls it.
 //!
 //! Promises: `sort_parts` gives the rows of all parts in ascending order, each where its part has
 //! it, and `ranges` cuts them into ranges that follow one another, each of which gives its rows;
@@ -27,7 +28,6 @@ mod collecting;
 mod fields;
 mod keys;
 mod merging;
-mod numbers;
 mod packing;
 mod parts;
 mod ranges;
