@@ -31,5 +31,4 @@ mod sending;
 mod stations;
 
 pub use exchanging::{Exchanged, Given, exchange};
-pub use moving::{bring_back, pop_two, set_aside};
 pub use routes::{Cells, Route, Size, Spreads};
