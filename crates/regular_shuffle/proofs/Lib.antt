@@ -1,7 +1,7 @@
 -- Laws of what the crate promises, and worked cases.
 pub mod MovingLemmas
 pub mod SpreadLemmas
-pub mod StayingLemmas
+pub mod KeptCountLemmas
 pub mod ColumnLemmas
 pub mod BroadcastLemmas
 pub mod WorkedRows

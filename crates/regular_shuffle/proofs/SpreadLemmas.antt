@@ -70,20 +70,20 @@ module _ (seed workers : ℕ) (columns : List ℕ) (parts : List Rows) (each : l
 -- a route with the same numbers and columns is the same
 module _ (seed seed' workers workers' : ℕ) (columns first others : List ℕ) (parts : List Rows) (spreads : List (List Rows))
     (same_seed : seed' ≡ seed) (same_workers : workers' ≡ workers) (is_first : first ≡ columns) (is_others : others ≡ columns) (one : spreads ≡ parts ∷ []) where
-  pub routed-by : (n : ℕ) → IsRouted (λ atom row. HasColumns (columns_for atom columns columns) row) (goes_home seed workers columns columns) n (parts ∷ [])
-      → IsRouted (λ atom row. HasColumns (columns_for atom first others) row) (goes_home seed' workers' first others) n spreads
-  routed-by n r =
-      subst (λ (t : ((ℕ × ℕ) × (List ℕ × List ℕ)) × List (List Rows)).
-      IsRouted (λ atom row. HasColumns (columns_for atom t.0.1.0 t.0.1.1) row) (goes_home t.0.0.0 t.0.0.1 t.0.1.0 t.0.1.1) n t.1)
-      (sym (λ i. (((same_seed i, same_workers i), (is_first i, is_others i)), one i))) r
+  pub routed-by : (n n' : ℕ) (same_size : n' ≡ n) → IsRouted (λ atom row. HasColumns (columns_for atom columns columns) row) (goes_home seed workers columns columns) n (parts ∷ [])
+      → IsRouted (λ atom row. HasColumns (columns_for atom first others) row) (goes_home seed' workers' first others) n' spreads
+  routed-by n n' same_size r =
+      subst (λ (t : ℕ × (((ℕ × ℕ) × (List ℕ × List ℕ)) × List (List Rows))).
+      IsRouted (λ atom row. HasColumns (columns_for atom t.1.0.1.0 t.1.0.1.1) row) (goes_home t.1.0.0.0 t.1.0.0.1 t.1.0.1.0 t.1.0.1.1) t.0 t.1.1)
+      (sym (λ i. (same_size i, (((same_seed i, same_workers i), (is_first i, is_others i)), one i)))) r
 
-  pub exchange-by : {T : Type 0} (size : Size) (totals : T → Totals) (tag : T → ℕ) (before after : List T) (ex : Result Exchanged Memory)
-      → IsExchange (moves_of (sendings_of (goes_home seed' workers' first others) spreads)) (length spreads) size totals tag before after ex
+  pub exchange-by : {T : Type 0} (size size' : Size) (same_size : size' ≡ size) (totals : T → Totals) (tag : T → ℕ) (before after : List T) (ex : Result Exchanged Memory)
+      → IsExchange (moves_of (sendings_of (goes_home seed' workers' first others) spreads)) (length spreads) size' totals tag before after ex
       → IsExchange (moves_by_key seed workers columns parts) 1 size totals tag before after ex
-  exchange-by size totals tag before after ex x =
-      subst (λ (t : ((ℕ × ℕ) × (List ℕ × List ℕ)) × List (List Rows)).
-      IsExchange (moves_of (sendings_of (goes_home t.0.0.0 t.0.0.1 t.0.1.0 t.0.1.1) t.1)) (length t.1) size totals tag before after ex)
-      (λ i. (((same_seed i, same_workers i), (is_first i, is_others i)), one i)) x
+  exchange-by size size' same_size totals tag before after ex x =
+      subst (λ (t : Size × (((ℕ × ℕ) × (List ℕ × List ℕ)) × List (List Rows))).
+      IsExchange (moves_of (sendings_of (goes_home t.1.0.0.0 t.1.0.0.1 t.1.0.1.0 t.1.0.1.1) t.1.1)) (length t.1.1) t.0 totals tag before after ex)
+      (λ i. (same_size i, (((same_seed i, same_workers i), (is_first i, is_others i)), one i))) x
 
 -- each worker was given one atom
 pub one-atom : (moves : List Move) (workers : ℕ) (given : List (List Rows)) → IsGiven moves 1 workers given → All (λ atoms. length atoms ≡ 1) given

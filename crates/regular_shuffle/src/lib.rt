@@ -26,11 +26,11 @@
 
 mod broadcast_route;
 mod broadcasting;
+mod kept_counts;
 mod key_route;
 mod moving;
 mod reading;
 mod spreading;
-mod staying;
 mod step_pairs;
 mod step_route;
 mod step_scalars;

@@ -11,7 +11,8 @@ use algebra::Settings;
 use exchange_channels::Receipt;
 use rel_base::{Memory, Places, Spread};
 use rel_io::Tap;
-use row_exchange::{Exchanged, Size, exchange};
+use routed_joins::size_of;
+use row_exchange::{Exchanged, exchange};
 use std::alloc::Global;
 use std::sync::Wait;
 use std::thread::Threads;
@@ -39,11 +40,7 @@ pub fn spread_by_key<R: Threads + Wait + Sync, T: Tap + Send>(
 {
     let atoms = only_atom(alloc, parts)?;
     let route = KeyRoute::new(columns, columns, settings.seed, settings.workers);
-    let size = Size {
-        workers: settings.workers,
-        capacity: settings.capacity,
-        batch: settings.batch,
-    };
+    let size = size_of(settings);
     let Exchanged { given, receipt } = exchange(rt, alloc, &route, &atoms, size, taps)?;
     let made = given_of_only(alloc, given)?;
     Ok((made, receipt))

@@ -137,7 +137,7 @@ module _ (n seed : ℕ) (s t : Shape) (given others : List PlacedRelation) (h : 
   meeting-same : (shares : List ℕ) → meeting_cell seed shares s ≡ meeting_cell seed shares t
   meeting-same shares = λ k. meeting_by seed shares (h.variables k)
 
-  staying-same : staying_atom s (rows_of given) ≡ staying_atom t (rows_of others)
+  pub staying-same : staying_atom s (rows_of given) ≡ staying_atom t (rows_of others)
   staying-same =
       ap (λ sizes. unwrap_or (find (is_most sizes) (range_with_len 0 (length (rows_of given)))) 0) h.sizes
       ∙ ap (λ m. unwrap_or (find (is_most (kept_sizes t (rows_of others))) (range_with_len 0 m)) 0)

@@ -6,9 +6,9 @@ use Rattle.algebra.specs.ShapeTrees.{shape_tree_of}
 use Rattle.shuffle_tests.proofs.NumberLemmas.{numbers-ready}
 use Rattle.shuffle_tests.proofs.numbers.join_by_cells.Goals as goal
 
-pub shuffle_join-requires-clause-ready : goal.shuffle_join-requires-clause-ready
-shuffle_join-requires-clause-ready g c κs within =
-    numbers-ready (shape_tree_of c.in_ok-shape.shape) c.args.settings.now.workers c.in_ok-parts.parts c.in_ok-shape.ensures c.in_ok-parts.ensures.two c.in_ok-parts.ensures.all
+pub invariant_of-join : goal.invariant_of-join
+invariant_of-join g c =
+    record { ready = numbers-ready (shape_tree_of c.in_ok-shape.shape) c.args.settings.now.workers c.in_ok-parts.parts c.in_ok-shape.ensures c.in_ok-parts.ensures.two c.in_ok-parts.ensures.all }
 
 pub shuffle_join-requires-clause-shares : goal.shuffle_join-requires-clause-shares
 shuffle_join-requires-clause-shares g c κs within =

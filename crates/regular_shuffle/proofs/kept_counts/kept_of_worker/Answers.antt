@@ -4,8 +4,8 @@ use Rattle.algebra.specs.ShapeTrees.{shape_tree_of}
 use Rattle.algebra.specs.Shapes.{kept_of}
 use Rattle.kept_rows.specs.KeptTests.{IsPartRow, is_kept}
 use Rattle.kept_rows.proofs.PartLemmas.{keep-each}
-use Rattle.regular_shuffle.proofs.StayingLemmas.{counted-next, plus-zero}
-use Rattle.regular_shuffle.proofs.staying.kept_of_worker.Goals as goal
+use Rattle.regular_shuffle.proofs.KeptCountLemmas.{counted-next, plus-zero}
+use Rattle.regular_shuffle.proofs.kept_counts.kept_of_worker.Goals as goal
 
 pub returns-then-keeps_all : goal.returns-then-keeps_all
 returns-then-keeps_all c =

@@ -2,7 +2,7 @@ use Rattle.std.proofs.Common.{◌≡◌, ◌*◌, ◌≤◌, length, take}
 use Rattle.algebra.specs.Shapes.{kept_of}
 use Rattle.algebra.specs.ShapeTrees.{shape_tree_of}
 use Rattle.placement.specs.Layouts.{together}
-use Rattle.regular_shuffle.proofs.staying.kept_in.Given as goal
+use Rattle.regular_shuffle.proofs.kept_counts.kept_in.Given as goal
 
 abbrev pub invariant-loop-rows : goal.invariant-loop-rows
 invariant-loop-rows l = record {

@@ -2,7 +2,7 @@ use Rattle.std.proofs.Common.{◌≡◌, ◌+◌, ◌≤◌, length, All}
 use Rattle.algebra.specs.Shapes.{kept_of}
 use Rattle.algebra.specs.ShapeTrees.{shape_tree_of}
 use Rattle.kept_rows.specs.KeptTests.{IsPartRow}
-use Rattle.regular_shuffle.proofs.staying.kept_of_worker.Given as goal
+use Rattle.regular_shuffle.proofs.kept_counts.kept_of_worker.Given as goal
 
 abbrev pub invariant-loop-row : goal.invariant-loop-row
 invariant-loop-row l = record {

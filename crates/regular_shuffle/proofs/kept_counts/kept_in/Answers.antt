@@ -1,6 +1,6 @@
 use Rattle.algebra.specs.ShapeTrees.{shape_tree_of}
-use Rattle.regular_shuffle.proofs.StayingLemmas.{known-at}
-use Rattle.regular_shuffle.proofs.staying.kept_in.Goals as goal
+use Rattle.regular_shuffle.proofs.KeptCountLemmas.{known-at}
+use Rattle.regular_shuffle.proofs.kept_counts.kept_in.Goals as goal
 
 pub kept_of_worker-requires : goal.kept_of_worker-requires
 kept_of_worker-requires c =
