@@ -19,10 +19,11 @@ use Rattle.placement.specs.Layouts.{PlacedRelation, rows_of, reduced_item, reduc
 use Rattle.placement.specs.Plans.{ShuffleRule, LeastLoad, Fixed, uses_of, kept_sizes, ruled_shuffle}
 use Rattle.placement.proofs.RuleLemmas.{fitting-sharing}
 use Rattle.placement.proofs.JoinedLemmas.{reduced_are_kept}
-use Rattle.join_plans.specs.declared.choices.ShuffleChoice.{ShuffleChoice}
-use Rattle.join_plans.specs.declared.choices.ShuffleChoice.TheVariants as choice
+use Rattle.placement.specs.declared.choices.ShuffleChoice.{ShuffleChoice}
+use Rattle.placement.specs.declared.choices.ShuffleChoice.TheVariants as choice
 use Rattle.join_plans.specs.declared.sizes.Reduction.TheVariants as reduction
-use Rattle.join_plans.specs.JoinPlans.{shuffle_of, sizes_of, reduction_of, joined_sizes, chosen, staying_of, IsChosenFor, ChosenAreRuled}
+use Rattle.placement.specs.Choices.{shuffle_of}
+use Rattle.join_plans.specs.JoinPlans.{sizes_of, reduction_of, joined_sizes, chosen, staying_of, IsChosenFor, ChosenAreRuled}
 use Rattle.join_plans.specs.inner.Lines.{IsFitting}
 
 -- what stands behind the sizes of all atoms is not read

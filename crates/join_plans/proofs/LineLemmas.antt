@@ -10,12 +10,13 @@ use Rattle.algebra.specs.Trees.{Shape}
 use Rattle.algebra.specs.Shapes.{kept_of, is_acyclic_shape}
 use Rattle.placement.specs.Layouts.{PlacedRelation, rows_of, reduced_items, joined_items}
 use Rattle.placement.specs.Plans.{pushed_of, kept_sizes, item_notes, reduce_notes, variable_notes, shuffle_note, join_notes, ShuffleRule, ruled_shuffle, ruled_placing}
-use Rattle.join_plans.specs.declared.choices.ShuffleChoice.{ShuffleChoice}
-use Rattle.join_plans.specs.declared.choices.ShuffleChoice.TheVariants as choice
+use Rattle.placement.specs.declared.choices.ShuffleChoice.{ShuffleChoice}
+use Rattle.placement.specs.declared.choices.ShuffleChoice.TheVariants as choice
 use Rattle.join_plans.specs.declared.sizes.JoinSizes.{JoinSizes}
 use Rattle.join_plans.specs.declared.sizes.Reduction.{Reduction}
 use Rattle.join_plans.specs.declared.sizes.Reduction.TheVariants as reduction
-use Rattle.join_plans.specs.JoinPlans.{shuffle_of, sizes_of, reduction_of, joined_sizes, AreSizes, chosen, IsStaying, IsChosenFor}
+use Rattle.placement.specs.Choices.{shuffle_of}
+use Rattle.join_plans.specs.JoinPlans.{sizes_of, reduction_of, joined_sizes, AreSizes, chosen, IsStaying, IsChosenFor}
 use Rattle.join_plans.proofs.ChoiceLemmas.{chosen-ruled, staying-same, joined-kept}
 use Rattle.join_plans.specs.inner.Lines.{item_line, item_lines, reduce_lines, choice_line, join_lines}
 

@@ -7,7 +7,7 @@ use Rattle.algebra.specs.declared.notes.PlanNote.TheVariants as note
 use Rattle.algebra.specs.declared.settings.JoinKind.TheVariants as local
 use Rattle.algebra.specs.Trees.{AtomTree, Shape}
 use Rattle.placement.specs.Layouts.{PlacedRelation}
-use Rattle.join_plans.specs.declared.choices.ShuffleChoice.TheVariants as choice
+use Rattle.placement.specs.declared.choices.ShuffleChoice.TheVariants as choice
 use Rattle.join_plans.specs.declared.sizes.Reduction.TheVariants as reduction
 use Rattle.join_plans.specs.JoinPlans.{IsStaying, reduction_of, joined_sizes}
 use Rattle.join_plans.specs.inner.Counts.{place_in, bits_in}

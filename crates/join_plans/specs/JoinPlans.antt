@@ -1,7 +1,6 @@
 -- The shuffle that is chosen for a join, and the lines of its plan.
 --
 --   ruled_by by                           the rule that a value in the code says
---   shuffle_of choice                    how rows come together by this choice
 --   sizes_of given                       the numbers of rows
 --   reduction_of reduce shape            what a reduction comes to, if it is asked for
 --   joined_sizes reduction shape given   the numbers of joined rows
@@ -17,12 +16,12 @@ use Rattle.myrial_ast.specs.Combinations.{Rows}
 use Rattle.algebra.specs.Trees.{Shape}
 use Rattle.algebra.specs.Shapes.{is_acyclic_shape}
 use Rattle.share_chooser.specs.Best.{best_shares}
-use Rattle.share_chooser.specs.Shares.{shares_of}
 use Rattle.placement.specs.Layouts.{PlacedRelation, Shuffle, ByCells, ByKeys, Broadcast, is_most, staying_atom, rows_of, reduced_items, joined_items}
 use Rattle.placement.specs.Plans.{ShuffleRule, LeastLoad, Fixed, fitting_shuffle, uses_of, kept_sizes, ruled_shuffle}
+use Rattle.placement.specs.Choices.{shuffle_of}
 use Rattle.fragmenter.specs.Plans as plans
-use Rattle.join_plans.specs.declared.choices.ShuffleChoice.{ShuffleChoice}
-use Rattle.join_plans.specs.declared.choices.ShuffleChoice.TheVariants as choice
+use Rattle.placement.specs.declared.choices.ShuffleChoice.{ShuffleChoice}
+use Rattle.placement.specs.declared.choices.ShuffleChoice.TheVariants as choice
 use Rattle.join_plans.specs.declared.rules.ShuffleBy.{ShuffleBy}
 use Rattle.join_plans.specs.declared.rules.ShuffleBy.TheVariants as by
 use Rattle.join_plans.specs.declared.sizes.JoinSizes.{JoinSizes}
@@ -33,12 +32,6 @@ use Rattle.join_plans.specs.declared.sizes.Reduction.TheVariants as reduction
 abbrev pub ruled_by : ShuffleBy → ShuffleRule
 ruled_by by.LeastLoad = LeastLoad
 ruled_by (by.Fixed how) = Fixed (plans.shuffle_of how)
-
--- how rows come together by this choice
-abbrev pub shuffle_of : ShuffleChoice → Shuffle
-shuffle_of (choice.Cells shares) = ByCells (shares_of shares)
-shuffle_of choice.Keys = ByKeys
-shuffle_of (choice.Broadcast stays) = Broadcast
 
 -- ---- numbers of rows
 

@@ -26,7 +26,6 @@ mod sizes;
 mod spans;
 mod uses;
 
-pub use choices::ShuffleChoice;
 pub use laws::chosen_are_ruled;
 pub use notes::{add_note, group_note};
 pub use plans::plan_join;

@@ -1,4 +1,5 @@
 -- The words of this crate, lowest first.
+pub mod Choices
 pub mod Destinations
 pub mod Layouts
 pub mod Exchanges

@@ -16,11 +16,13 @@
 //! `specs/Laws.antt` and `specs/Receiving.antt`.
 #![tactic(auto)]
 
+mod choices;
 mod layouts;
 mod meeting;
 mod receiving;
 mod stores;
 
+pub use choices::ShuffleChoice;
 pub use layouts::{
     exchanges_balance, joined_are_joined, joined_are_of_bags, joined_take_part, joins_are_ready,
     moves_balance, parts_are_bags, parts_hold_the_rows, placed_are_stored, reduced_are_kept,

@@ -8,7 +8,7 @@ use Rattle.std.proofs.lemmas.List.Folds.{list_all-append}
 use Rattle.std.proofs.lemmas.List.Concat.{flat_map-cons}
 use Rattle.std.proofs.lemmas.List.Elements.{All-nil, All-head, All-tail, All-map, All-append}
 use Rattle.myrial_ast.specs.Scalars.{Scalar, value_at, holds}
-use Rattle.myrial_ast.specs.Combinations.{Row, Rows, all_hold, combined_rows, candidates}
+use Rattle.myrial_ast.specs.Combinations.{Row, Rows, all_hold, candidates}
 use Rattle.myrial_ast.specs.KeptRows.{Span, lies_in, columns_in, classes_agree, passes_within, span_of_prefix}
 use Rattle.algebra.specs.Trees.{AtomTree, Shape}
 use Rattle.algebra.specs.Shapes.{widths_of, shifted, keeps_from, tests_of, ties_in, ties_of, tie_test, candidates_of}
@@ -19,8 +19,7 @@ use Rattle.placement.specs.Laws.{extended}
 use Rattle.placement.proofs.CellLemmas.{passes}
 use Rattle.placement.proofs.KeptLemmas.{ties-agree, agreeing}
 use Rattle.placement.proofs.MeetingLemmas.{lies-in}
-use Rattle.placement.proofs.PrefixLemmas.{behind_it, combined-before}
-use Rattle.placement.proofs.ReceivedLemmas.{alone}
+use Rattle.placement.proofs.PrefixLemmas.{behind_it}
 use Rattle.routed_joins.proofs.ShapeLemmas.{shape-parts}
 use Rattle.kept_rows.specs.KeptTests.{IsPartRow, is_kept}
 use Rattle.placement.proofs.ListingLemmas.{combined-two}

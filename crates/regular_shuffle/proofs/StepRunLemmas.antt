@@ -4,10 +4,10 @@ use Rattle.std.specs.Prelude.{filter, sum, IfErr, ◌&&◌, ◌||◌}
 use Rattle.std.specs.List.{flat_map, list_any, range_with_len}
 use Rattle.std.proofs.lemmas.Bool.{eqb-true}
 use Rattle.std.proofs.lemmas.Bool.Decides.{nat_tests}
-use Rattle.std.proofs.lemmas.List.{length-map, get_or-map, take_all}
+use Rattle.std.proofs.lemmas.List.{length-map, get_or-map}
 use Rattle.std.proofs.lemmas.List.FromFn.{get_or-map-range_with_len, length-map-range_with_len}
 use Rattle.std.proofs.lemmas.List.Concat.{length-flat_map}
-use Rattle.std.proofs.lemmas.List.Folds.{flat_map-map, list_any-append, list_all-append}
+use Rattle.std.proofs.lemmas.List.Folds.{flat_map-map, list_all-append}
 use Rattle.std.proofs.lemmas.List.Elements.{All-head, All-tail, All-filter, All-weaker}
 use Rattle.std.proofs.lemmas.List.Sorted.{IsPermutation-sym, IsPermutation-trans, length_permutation, All-permutation}
 use Rattle.rel_base.specs.Bags.{SameBag}
@@ -15,11 +15,11 @@ use Rattle.rel_base.specs.Limits.{most_rows}
 use Rattle.rel_base.specs.Values.{number_of, in_64_bits}
 use Rattle.rel_io.specs.declared.taps.Totals.{Totals}
 use Rattle.exchange_channels.specs.Wirings.{ReceiptState}
-use Rattle.myrial_ast.specs.Scalars.{Scalar, At, value_at, holds}
+use Rattle.myrial_ast.specs.Scalars.{Scalar, At, value_at}
 use Rattle.myrial_ast.specs.CandidateFaults.{overflows_on, all_fit}
 use Rattle.myrial_ast.specs.Combinations.{Row, Rows, all_hold, combined_rows, listed_from}
 use Rattle.myrial_ast.specs.Groups.{row_fits}
-use Rattle.myrial_ast.specs.KeptRows.{Span, columns_in, classes_agree, passes_within, span_of_prefix}
+use Rattle.myrial_ast.specs.KeptRows.{passes_within, span_of_prefix}
 use Rattle.hash_partition.specs.Hashing.{home_of}
 use Rattle.bag_laws.proofs.RowPermutations.{filter_rows-same, candidates-same, listed_from-same}
 use Rattle.algebra.specs.declared.joins.JoinFault.{JoinFault}
@@ -33,7 +33,6 @@ use Rattle.placement.specs.Laws.{prefix_is_at, extended}
 use Rattle.placement.specs.Layouts.{PlacedRelation, placed_nothing, ByKeys, together, rows_of, parts_by_home, prefix_key, last_atom, join_parts}
 use Rattle.row_exchange.specs.Moves.{Move, sendings_of, moves_of, rows_given, all_given}
 use Rattle.placement.proofs.CellLemmas.{passes}
-use Rattle.placement.proofs.KeptLemmas.{reads-hold, ties-agree, agreeing}
 use Rattle.bag_laws.proofs.PartialLemmas.{filter-inside}
 use Rattle.placement.proofs.PrefixLemmas.{behind_it}
 use Rattle.placement.proofs.ReceivedLemmas.{steps_list_what_they_are_given}

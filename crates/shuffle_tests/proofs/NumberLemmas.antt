@@ -16,8 +16,8 @@ use Rattle.placement.specs.Plans.{kept_sizes}
 use Rattle.kept_rows.specs.KeptTests.{is_kept}
 use Rattle.routed_joins.specs.PlacedJoins.{placed_items}
 use Rattle.join_plans.specs.JoinPlans.{staying_of, IsStaying}
-use Rattle.join_plans.specs.declared.choices.ShuffleChoice.{ShuffleChoice}
-use Rattle.join_plans.specs.declared.choices.ShuffleChoice.TheVariants as choice
+use Rattle.placement.specs.declared.choices.ShuffleChoice.{ShuffleChoice}
+use Rattle.placement.specs.declared.choices.ShuffleChoice.TheVariants as choice
 use Rattle.join_plans.proofs.ChoiceLemmas.{staying-same}
 use Rattle.join_runs.specs.JoinRuns.{IsStayingAtom}
 use Rattle.routed_joins.specs.RouteJoins.{ArePartsAtWorkers}

@@ -16,11 +16,11 @@ use Rattle.algebra.specs.Trees.{Shape}
 use Rattle.share_chooser.specs.Load.{product, load_of, IsShareVector}
 use Rattle.share_chooser.specs.Shares.{shares_of}
 use Rattle.placement.specs.Plans.{uses_of, pushed_of, variable_notes}
-use Rattle.join_plans.specs.declared.choices.ShuffleChoice.{ShuffleChoice}
-use Rattle.join_plans.specs.declared.choices.ShuffleChoice.TheVariants as choice
+use Rattle.placement.specs.declared.choices.ShuffleChoice.{ShuffleChoice}
+use Rattle.placement.specs.declared.choices.ShuffleChoice.TheVariants as choice
 use Rattle.join_plans.specs.declared.sizes.Reduction.{Reduction}
 use Rattle.join_plans.specs.declared.sizes.Reduction.TheVariants as reduction
-use Rattle.join_plans.specs.JoinPlans.{shuffle_of}
+use Rattle.placement.specs.Choices.{shuffle_of}
 
 -- by cells, there is a positive share for each variable, and there are no more cells than workers may
 -- be; where the rows of one atom stay, the shape has it

@@ -3,7 +3,7 @@ use Rattle.std.specs.List.{enumerate_from}
 use Rattle.std.proofs.lemmas.List.{take_all}
 use Rattle.algebra.specs.declared.notes.PlanNote.TheVariants as note
 use Rattle.algebra.specs.ShapeTrees.{shape_tree_of}
-use Rattle.join_plans.specs.JoinPlans.{shuffle_of}
+use Rattle.placement.specs.Choices.{shuffle_of}
 use Rattle.join_plans.proofs.CountLemmas.{line-more, variable_line, variable-lines}
 use Rattle.join_plans.proofs.notes.variable_notes.Goals as goal
 

@@ -1,7 +1,7 @@
 -- the lines so far
 use Rattle.std.proofs.Common.{◌≡◌, ◌++◌, map, take}
 use Rattle.std.specs.List.{enumerate_from}
-use Rattle.join_plans.specs.JoinPlans.{shuffle_of}
+use Rattle.placement.specs.Choices.{shuffle_of}
 use Rattle.join_plans.proofs.CountLemmas.{variable_line}
 use Rattle.join_plans.proofs.notes.variable_notes.Given as goal
 
