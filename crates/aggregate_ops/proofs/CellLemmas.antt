@@ -17,15 +17,16 @@ use Rattle.myrial_ast.specs.declared.operators.AggOp.TheVariants as agg
 use Rattle.myrial_ast.specs.Groups.{Kinds, cell, total, group_row, groups}
 use Rattle.bag_laws.specs.PartialLaws.{AreGrouped}
 use Rattle.bag_laws.proofs.PartialLemmas.{places-key}
+use Rattle.packed_rows.specs.Runs.{IsRun}
+use Rattle.packed_rows.proofs.RunLemmas.{sorted-drop}
+use Rattle.packed_rows.proofs.BagLemmas.{All-drop}
 use Rattle.aggregate_ops.specs.declared.faults.AggFault.{AggFault}
 use Rattle.aggregate_ops.specs.declared.faults.AggFault.TheVariants as fault
 use Rattle.aggregate_ops.specs.declared.forms.Form.{Form}
 use Rattle.aggregate_ops.specs.declared.forms.Form.TheVariants.{Whole, Split, Merged}
 use Rattle.aggregate_ops.specs.Columns.{column, cells, key_places, key_at, Overflows}
 use Rattle.aggregate_ops.specs.Forms.{grouped_kinds, formed, form_fits, added_in, merged_fits, results, results_fit}
-use Rattle.aggregate_ops.specs.inner.Runs.{IsRun}
-use Rattle.aggregate_ops.proofs.RunLemmas.{groups-step, sorted-drop}
-use Rattle.aggregate_ops.proofs.BagLemmas.{All-drop}
+use Rattle.aggregate_ops.proofs.RunLemmas.{groups-step}
 use Rattle.aggregate_ops.proofs.StepLemmas.{list_all-same, list_all-true}
 
 cells-from : (kinds : Kinds) (place : ℕ) (rows : Rows)

@@ -1,15 +1,14 @@
--- What rows emit by picks, and what packed rows have.
+-- Picks, what rows emit by them, and what packed rows have.
 use Rattle.std.proofs.Common.{◌≡◌, ℕ, ◌<◌, ◌^◌, true, false, Bool, List, [], ◌∷◌, length, map, get_or, refl, sym, ◌∙◌, ap, arith}
 use Rattle.std.specs.Prelude.{◌&&◌, ◌≤ℤ◌, ◌<ℤ◌, All, ℤ, neg_ℤ, pos, negsuc, bit_and, ◌/◌}
 use Rattle.std.specs.Int.{w64, int_wrapping_add}
 use Rattle.std.proofs.lemmas.Int.{ints}
 use Rattle.std.proofs.lemmas.Bool.{lt-ltb}
 use Rattle.std.specs.List.{list_all}
-use Rattle.std.proofs.lemmas.List.{length-map, get_or-map}
+use Rattle.std.proofs.lemmas.List.{length-map}
 use Rattle.std.proofs.lemmas.List.Folds.{list_all-map, list_all_at}
 use Rattle.std.proofs.lemmas.List.Elements.{All-nil, All-cons, All-head, All-tail}
 use Rattle.rel_base.specs.Values.{number_of, in_64_bits}
-use Rattle.rel_base.specs.declared.values.Value.TheVariants as value
 use Rattle.myrial_ast.specs.Scalars.{Scalar, exact_value, value_at, Lit, At, Not, Neg, Bin}
 use Rattle.myrial_ast.specs.declared.scalars.Scalar as code
 use Rattle.myrial_ast.specs.ScalarTrees.{scalar_tree_of}
@@ -17,17 +16,10 @@ use Rattle.myrial_ast.specs.Combinations.{Row, Rows, emitted}
 use Rattle.myrial_ast.specs.CandidateFaults.{all_fit}
 use Rattle.myrial_ast.specs.Groups.{Kinds, row_fits}
 use Rattle.bag_laws.specs.PartialLaws.{AreGrouped}
-use Rattle.aggregate_ops.specs.declared.emits.Emits.TheVariants as emits
-use Rattle.aggregate_ops.specs.declared.packed_columns.PackedColumn.{PackedColumn}
+use Rattle.packed_rows.specs.declared.columns.PackedColumn.{PackedColumn}
+use Rattle.packed_rows.specs.Unpacked.{unpacked_row}
+use Rattle.packed_rows.specs.Words.{unpacked}
 use Rattle.aggregate_ops.specs.Picks.{is_pick, are_picks}
-use Rattle.aggregate_ops.specs.inner.Emitted.{all_emitted}
-use Rattle.aggregate_ops.specs.inner.Reading.{unpacked_row}
-use Rattle.aggregate_ops.specs.inner.Words.{unpacked}
-
--- rows that emit all of their values
-pub whole-rows : (rows : Rows) → all_emitted emits.Whole rows ≡ rows
-whole-rows [] = refl
-whole-rows (row ∷ rows) = ap (λ rest. row ∷ rest) (whole-rows rows)
 
 -- ---- picks, one by one
 
@@ -48,14 +40,6 @@ pick-at es i e low is picks = by (is_pick (scalar_tree_of e)) refl
     by : (b : Bool) → is_pick (scalar_tree_of e) ≡ b → b ≡ true
     by true h = refl
     by false h = let never : false ≡ true = sym (picks-fail es i e low is h) ∙ picks in never
-
--- what is emitted at a place
-pub emitted-at : (es : List code.Scalar) (row : Row) (i : ℕ) (e : code.Scalar) → i < length es → e ≡ get_or es i e
-    → exact_value (scalar_tree_of e) row ≡ value_at (emitted (map scalar_tree_of es) row) i
-emitted-at es row i e low is =
-    ap (λ x. exact_value (scalar_tree_of x) row) is
-    ∙ sym (get_or-map (λ e. exact_value e row) (map scalar_tree_of es) i (scalar_tree_of e) (value.Int (pos 0)) (omega (arith, low, length-map es scalar_tree_of))
-    ∙ ap (λ x. exact_value x row) (get_or-map scalar_tree_of es i e (scalar_tree_of e) low))
 
 -- ---- what is emitted fits
 

@@ -1,10 +1,6 @@
 pub mod ColumnLemmas
 pub mod RunLemmas
-pub mod RisingLemmas
 pub mod CellLemmas
-pub mod BagLemmas
 pub mod StepLemmas
 pub mod FitLemmas
 pub mod EmitLemmas
-pub mod TwinLemmas
-pub mod WorkedRows

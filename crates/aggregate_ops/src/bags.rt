@@ -4,12 +4,11 @@ ghost use Rattle.rel_base.specs.Bags.{SameBag};
 ghost use Rattle.rel_base.specs.Limits.{most_rows};
 ghost use Rattle.rel_base.specs.Values.{row_order};
 ghost use Rattle.myrial_ast.specs.Bags.{union_all, distinct, difference};
+ghost use Rattle.packed_rows.specs.Runs.{IsRun, IsBelow, begins};
 ghost use Rattle.aggregate_ops.specs.Columns.{rows_in};
-ghost use Rattle.aggregate_ops.specs.inner.Runs.{IsRun, IsBelow, begins};
 
 use crate::ordering::rows_in_order;
-use crate::packed_bags::PackedOperands;
-use crate::packed_rows::PackedRows;
+use packed_rows::{PackedOperands, PackedRows};
 use rel_base::{Duplicate, Memory, Row, Rows, Value};
 use std::alloc::Global;
 

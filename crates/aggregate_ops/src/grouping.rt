@@ -10,23 +10,24 @@ ghost use Rattle.myrial_ast.specs.ScalarTrees.{scalar_tree_of};
 ghost use Rattle.myrial_ast.specs.Partials.{partial_kinds};
 ghost use Rattle.bag_laws.specs.PartialLaws.{AreGrouped};
 ghost use Rattle.algebra.specs.Trees.{kind_of_emit};
+ghost use Rattle.packed_rows.specs.Emitted.{all_emitted};
 ghost use Rattle.aggregate_ops.specs.Columns.{key_places, key_at, Overflows};
 ghost use Rattle.aggregate_ops.specs.Picks.{are_picks};
-ghost use Rattle.aggregate_ops.specs.inner.Emitted.{all_emitted};
 ghost use Rattle.aggregate_ops.specs.inner.Reading.{rows_of};
 ghost use Rattle.aggregate_ops.specs.Forms.{grouped_kinds, results, results_fit};
 
 use crate::AggFault;
-use crate::emits::Emits;
 use crate::forms::{Form, added};
 use crate::keys::rows_by_key;
-use crate::packing::{key_columns, packed_columns, sorted_words};
 use crate::picking::picked_rows;
 use crate::reading::GroupedRows;
 use crate::runs::{are_in_order, run_length};
-use crate::spans::{ScannedColumn, guessed_columns, scanned_columns};
 use algebra::{EmitKind, EmitKinds};
 use myrial_ast::{AggOp, Scalars};
+use packed_rows::{
+    Emits, ScannedColumn, guessed_columns, key_columns, packed_columns, scanned_columns,
+    sorted_words,
+};
 use rel_base::{Memory, Places, Row, Rows};
 use std::alloc::Global;
 

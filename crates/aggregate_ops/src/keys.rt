@@ -2,12 +2,13 @@
 ghost use Rattle.std.specs.Prelude.{◌≡◌, ◌<◌, [], map, length, slice_index_or, All, IfOk, IsPermutation, IsSorted};
 ghost use Rattle.rel_base.specs.Values.{value_order, row_order};
 ghost use Rattle.myrial_ast.specs.Scalars.{value_at};
+ghost use Rattle.packed_rows.specs.Unpacked.{unpacked_row};
 ghost use Rattle.aggregate_ops.specs.Columns.{rows_in, key_at};
-ghost use Rattle.aggregate_ops.specs.inner.Reading.{row_of, rows_of, unpacked_row};
+ghost use Rattle.aggregate_ops.specs.inner.Reading.{row_of, rows_of};
 
-use crate::packed_columns::PackedColumn;
 use crate::reading::{GroupedRow, GroupedRows};
 use crate::runs::are_in_order;
+use packed_rows::{PackedColumn, order_of};
 use rel_base::{Memory, Rows, Value};
 use std::alloc::Global;
 use std::cmp::Ordering;
@@ -125,16 +126,6 @@ fn order_in_words(columns: &[PackedColumn], place: u32, word: u64, other: u64) -
         return Ordering::Equal;
     }
     columns[place].order(word, columns[place], other)
-}
-
-/// How two values compare. Ints, which most of them are, are compared without a call.
-pub fn order_of(value: &Value, other: &Value) -> Ordering
-    ensures { result ≡ value_order value.now other.now }
-{
-    match (value, other) {
-        (Value::Int(a), Value::Int(b)) => a.cmp(b),
-        _ => value.cmp(other),
-    }
 }
 
 /// A row with the places by which it is compared.

@@ -1,40 +1,33 @@
 //! Groups, partial rows and the operators on bags, over rows in order.
 //!
 //! Stands on `rel_base` for rows, `myrial_ast` for what groups and bags are, `bag_laws` for their
-//! laws and `algebra` for the kinds of columns. Nothing here reads, writes or waits.
+//! laws, `algebra` for the kinds of columns and `packed_rows` for rows in words. Nothing here
+//! reads, writes or waits.
 //!
 //! Promises: each call gives the bag that its definition says. A sum is added up in 128 bits, so
 //! that it may leave 64 bits on the way; `group` and `merge` refuse exactly where a whole sum lies
 //! outside 64 bits. Partial rows never refuse for that: a sum stands in two columns; merging them
 //! refuses exactly where grouping all rows would, which is a law. Rows are brought into order by
-//! their key and read run by run, so a call takes n log n; rows of ints and booleans are packed in
-//! words where their ranges allow it, shared rows are not copied, and the rows that come out are
-//! new ones, in the order of their keys. Not promised: that memory is there.
+//! their key and read run by run, so a call takes n log n; rows are packed in words where they can
+//! be, shared rows are not copied, and the rows that come out are new ones, in the order of their
+//! keys. Not promised: that memory is there.
 //!
-//! Read `specs/Columns.antt` and `specs/Forms.antt`, then `grouping.rt`, `packing.rt` and
+//! Read `specs/Columns.antt` and `specs/Forms.antt`, then `reading.rt`, `grouping.rt` and
 //! `bags.rt`.
 #![tactic(auto)]
 
 mod bags;
 mod columns;
-mod emits;
 mod faults;
 mod forms;
 mod grouping;
 mod keys;
 mod laws;
 mod ordering;
-mod packed_bags;
-mod packed_columns;
-mod packed_rows;
-mod packing;
 mod partials;
 mod picking;
 mod reading;
 mod runs;
-mod spans;
-mod twins;
-mod word_runs;
 
 pub use bags::{append, difference, distinct};
 pub use faults::AggFault;

@@ -1,12 +1,13 @@
 //! The rows of groups as they are read: lent, or packed in words.
 ghost use Rattle.std.specs.Prelude.{◌≡◌, ◌<◌, ◌≤◌, [], length, map, take, drop, slice_index_or, IfOk, IfErr};
 ghost use Rattle.myrial_ast.specs.Scalars.{value_at};
+ghost use Rattle.packed_rows.specs.Unpacked.{unpacked_row};
 ghost use Rattle.aggregate_ops.specs.declared.faults.AggFault.TheVariants as fault;
 ghost use Rattle.aggregate_ops.specs.Columns.{rows_in};
-ghost use Rattle.aggregate_ops.specs.inner.Reading.{row_of, rows_of, unpacked_row, value_of};
+ghost use Rattle.aggregate_ops.specs.inner.Reading.{row_of, rows_of, value_of};
 
 use crate::AggFault;
-use crate::packed_columns::PackedColumn;
+use packed_rows::PackedColumn;
 use rel_base::{Duplicate, Value};
 use std::alloc::Global;
 

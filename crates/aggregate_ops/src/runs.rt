@@ -1,14 +1,14 @@
 //! Runs: the rows with one key, where rows stand in the order of their keys.
 ghost use Rattle.std.specs.Prelude.{◌≡◌, ◌<◌, IsTrue, IfSome, IsSorted, map, length};
 ghost use Rattle.rel_base.specs.Values.{row_order};
+ghost use Rattle.packed_rows.specs.Unpacked.{unpacked_row};
+ghost use Rattle.packed_rows.specs.Runs.{IsRun};
 ghost use Rattle.aggregate_ops.specs.Columns.{key_at};
-ghost use Rattle.aggregate_ops.specs.inner.Reading.{rows_of, unpacked_row};
-ghost use Rattle.aggregate_ops.specs.inner.Runs.{IsRun};
+ghost use Rattle.aggregate_ops.specs.inner.Reading.{rows_of};
 
 use crate::keys::order_between;
-use crate::packed_columns::PackedColumn;
 use crate::reading::GroupedRows;
-use crate::word_runs;
+use packed_rows::{PackedColumn, word_runs};
 
 /// How many rows at the front have the key of the first.
 pub fn run_length(places: &[u32], rows: GroupedRows<'_>) -> usize

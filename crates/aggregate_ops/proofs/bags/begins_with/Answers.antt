@@ -2,9 +2,9 @@ use Rattle.std.proofs.Common.{◌≡◌, ◌∙◌, ◌≤◌, List, [], ◌∷�
 use Rattle.std.specs.Borrow.{Bor}
 use Rattle.myrial_ast.specs.Combinations.{Row}
 use Rattle.myrial_ast.specs.Bags.{same_row}
+use Rattle.packed_rows.specs.Runs.{begins}
+use Rattle.packed_rows.proofs.StepLemmas.{same-values}
 use Rattle.aggregate_ops.specs.Columns.{rows_in}
-use Rattle.aggregate_ops.specs.inner.Runs.{begins}
-use Rattle.aggregate_ops.proofs.StepLemmas.{same-values}
 use Rattle.aggregate_ops.proofs.bags.begins_with.Goals as goal
 
 begun : (rows : List (Bor Row)) (first : Bor Row) (row : Row) → 1 ≤ length rows → first ≡ get_or rows 0 first

@@ -7,8 +7,8 @@ use Rattle.rel_base.specs.Bags.{SameBag}
 use Rattle.myrial_ast.specs.Combinations.{Row, Rows}
 use Rattle.myrial_ast.specs.Bags.{difference, distinct}
 use Rattle.bag_laws.proofs.RowPermutations.{distinct-same}
+use Rattle.packed_rows.proofs.BagLemmas.{difference-none}
 use Rattle.aggregate_ops.specs.Columns.{rows_in}
-use Rattle.aggregate_ops.proofs.BagLemmas.{difference-none}
 use Rattle.aggregate_ops.proofs.bags.distinct_by_sort.Goals as goal
 
 pub without-requires-clause-few : goal.without-requires-clause-few

@@ -2,7 +2,7 @@ use Rattle.std.proofs.Common.{◌∙◌, sym, arith, below_more}
 use Rattle.std.proofs.lemmas.List.{length-map}
 use Rattle.std.specs.Borrow.{Bor}
 use Rattle.myrial_ast.specs.Combinations.{Row}
-use Rattle.aggregate_ops.proofs.StepLemmas.{row-same, row-other, same-values}
+use Rattle.packed_rows.proofs.StepLemmas.{row-same, row-other, same-values}
 use Rattle.aggregate_ops.proofs.bags.repeats.Goals as goal
 
 pub loop-count-preserved : goal.loop-count-preserved

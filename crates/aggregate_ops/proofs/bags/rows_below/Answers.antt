@@ -3,7 +3,7 @@ use Rattle.std.proofs.lemmas.Grind.{common_steps}
 use Rattle.rel_base.specs.Values.{row_order}
 use Rattle.myrial_ast.specs.Combinations.{Row}
 use Rattle.std.specs.Borrow.{Bor}
-use Rattle.aggregate_ops.proofs.StepLemmas.{row-item}
+use Rattle.packed_rows.proofs.StepLemmas.{row-item}
 use Rattle.aggregate_ops.proofs.bags.rows_below.Goals as goal
 
 pub loop-count-preserved : goal.loop-count-preserved

@@ -3,9 +3,9 @@ use Rattle.std.proofs.lemmas.Grind.{common_steps}
 use Rattle.std.proofs.lemmas.List.{length-map, length-drop}
 use Rattle.std.specs.Borrow.{Bor}
 use Rattle.myrial_ast.specs.Combinations.{Row, Rows}
+use Rattle.packed_rows.proofs.StepLemmas.{behind, row-item}
+use Rattle.packed_rows.proofs.BagLemmas.{SideBySide, one-gone-at}
 use Rattle.aggregate_ops.specs.Columns.{rows_in}
-use Rattle.aggregate_ops.proofs.StepLemmas.{behind, row-item}
-use Rattle.aggregate_ops.proofs.BagLemmas.{SideBySide, one-gone-at}
 use Rattle.aggregate_ops.proofs.bags.without.Goals as goal
 
 pub loop-done-preserved : goal.loop-done-preserved

@@ -1,6 +1,6 @@
 use Rattle.std.proofs.Common.{◌-◌, ◌≤◌, length, drop}
+use Rattle.packed_rows.proofs.BagLemmas.{SideBySide}
 use Rattle.aggregate_ops.specs.Columns.{rows_in}
-use Rattle.aggregate_ops.proofs.BagLemmas.{SideBySide}
 use Rattle.aggregate_ops.proofs.bags.without.Given as goal
 
 abbrev pub invariant-loop-done : goal.invariant-loop-done

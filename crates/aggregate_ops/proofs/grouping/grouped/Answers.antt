@@ -3,11 +3,11 @@ use Rattle.rel_base.specs.Bags.{SameBag}
 use Rattle.myrial_ast.specs.Combinations.{Rows}
 use Rattle.bag_laws.specs.PartialLaws.{AreGrouped}
 use Rattle.algebra.specs.Trees.{kind_of_emit}
+use Rattle.packed_rows.specs.declared.emits.Emits.TheVariants.{Whole}
+use Rattle.packed_rows.specs.Emitted.{all_emitted}
+use Rattle.packed_rows.proofs.EmitLemmas.{whole-rows}
 use Rattle.aggregate_ops.specs.Columns.{Overflows}
 use Rattle.aggregate_ops.specs.Forms.{grouped_kinds, results, results_fit}
-use Rattle.aggregate_ops.specs.declared.emits.Emits.TheVariants.{Whole}
-use Rattle.aggregate_ops.specs.inner.Emitted.{all_emitted}
-use Rattle.aggregate_ops.proofs.EmitLemmas.{whole-rows}
 use Rattle.aggregate_ops.proofs.grouping.grouped.Goals as goal
 
 pub grouped_words-requires-clause-width : goal.grouped_words-requires-clause-width

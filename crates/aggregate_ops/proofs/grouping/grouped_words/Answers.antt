@@ -4,8 +4,9 @@ use Rattle.std.proofs.lemmas.List.Sorted.{All-permutation, IsPermutation-sym}
 use Rattle.rel_base.specs.Bags.{SameBag}
 use Rattle.myrial_ast.specs.Groups.{row_fits}
 use Rattle.algebra.specs.Trees.{kind_of_emit}
-use Rattle.aggregate_ops.specs.inner.Emitted.{emitted_by, all_emitted}
-use Rattle.aggregate_ops.specs.inner.Reading.{unpacked_row, rows_of}
+use Rattle.packed_rows.specs.Emitted.{emitted_by, all_emitted}
+use Rattle.packed_rows.specs.Unpacked.{unpacked_row}
+use Rattle.aggregate_ops.specs.inner.Reading.{rows_of}
 use Rattle.aggregate_ops.proofs.CellLemmas.{bag-as, fits-as, fault-as, width-as, few-as}
 use Rattle.aggregate_ops.proofs.EmitLemmas.{all-unpacked-fit}
 use Rattle.aggregate_ops.proofs.grouping.grouped_words.Goals as goal

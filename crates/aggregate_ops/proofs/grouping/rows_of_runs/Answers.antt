@@ -4,10 +4,10 @@ use Rattle.std.proofs.lemmas.List.{length-map, length-drop, drop-drop}
 use Rattle.myrial_ast.specs.Combinations.{Rows}
 use Rattle.myrial_ast.specs.Groups.{group_row}
 use Rattle.algebra.specs.Trees.{kind_of_emit}
+use Rattle.packed_rows.specs.Runs.{IsRun}
 use Rattle.aggregate_ops.specs.Columns.{key_at}
 use Rattle.aggregate_ops.specs.Forms.{grouped_kinds, formed}
 use Rattle.aggregate_ops.specs.inner.Reading.{rows_of}
-use Rattle.aggregate_ops.specs.inner.Runs.{IsRun}
 use Rattle.aggregate_ops.proofs.CellLemmas.{LeftOver, one-more, one-overflows-as}
 use Rattle.aggregate_ops.proofs.grouping.rows_of_runs.Goals as goal
 

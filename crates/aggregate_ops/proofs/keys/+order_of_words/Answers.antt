@@ -1,8 +1,8 @@
 use Rattle.std.proofs.Common.{◌≡◌, ℕ, subst, Equal}
 use Rattle.rel_base.specs.Values.{row_order}
+use Rattle.packed_rows.specs.Unpacked.{unpacked_row}
+use Rattle.packed_rows.proofs.StepLemmas.{even}
 use Rattle.aggregate_ops.specs.Columns.{key_at}
-use Rattle.aggregate_ops.specs.inner.Reading.{unpacked_row}
-use Rattle.aggregate_ops.proofs.StepLemmas.{even}
 use Rattle.aggregate_ops.proofs.keys.+order_of_words.Goals as goal
 
 -- equal words have equal rows

@@ -2,8 +2,9 @@ use Rattle.std.proofs.Common.{◌<◌, ◌∙◌, ap, sym, [], length, get_or, a
 use Rattle.std.proofs.lemmas.Grind.{common_steps}
 use Rattle.std.proofs.lemmas.List.{get_or-map, length-map}
 use Rattle.rel_base.specs.Values.{row_order}
+use Rattle.packed_rows.specs.Unpacked.{unpacked_row}
 use Rattle.aggregate_ops.specs.Columns.{key_at}
-use Rattle.aggregate_ops.specs.inner.Reading.{rows_of, unpacked_row}
+use Rattle.aggregate_ops.specs.inner.Reading.{rows_of}
 use Rattle.aggregate_ops.proofs.keys.order_between.Goals as goal
 
 pub returns-in-Packed : goal.returns-in-Packed

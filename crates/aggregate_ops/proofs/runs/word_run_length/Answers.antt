@@ -1,6 +1,6 @@
 use Rattle.std.proofs.Common.{subst, sym, arith}
 use Rattle.myrial_ast.specs.Combinations.{Rows}
-use Rattle.aggregate_ops.specs.inner.Runs.{IsRun}
+use Rattle.packed_rows.specs.Runs.{IsRun}
 use Rattle.aggregate_ops.proofs.StepLemmas.{keys-by-one, keys-by-two}
 use Rattle.aggregate_ops.proofs.runs.word_run_length.Goals as goal
 

@@ -2,8 +2,9 @@ use Rattle.std.proofs.Common.{◌∙◌, ap, sym, map, drop}
 use Rattle.std.specs.Borrow.{Bor}
 use Rattle.std.proofs.lemmas.List.{drop-map}
 use Rattle.myrial_ast.specs.Combinations.{Row}
-use Rattle.aggregate_ops.specs.inner.Reading.{rows_of, unpacked_row}
-use Rattle.aggregate_ops.proofs.StepLemmas.{behind}
+use Rattle.packed_rows.specs.Unpacked.{unpacked_row}
+use Rattle.packed_rows.proofs.StepLemmas.{behind}
+use Rattle.aggregate_ops.specs.inner.Reading.{rows_of}
 use Rattle.aggregate_ops.proofs.reading.GroupedRows.behind.Goals as goal
 
 pub returns-in-Lent : goal.returns-in-Lent

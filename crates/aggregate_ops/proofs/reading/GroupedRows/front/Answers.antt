@@ -2,7 +2,8 @@ use Rattle.std.proofs.Common.{◌∙◌, ap, sym, take}
 use Rattle.std.specs.Borrow.{Bor}
 use Rattle.std.proofs.lemmas.List.{take-map}
 use Rattle.myrial_ast.specs.Combinations.{Row}
-use Rattle.aggregate_ops.specs.inner.Reading.{rows_of, unpacked_row}
+use Rattle.packed_rows.specs.Unpacked.{unpacked_row}
+use Rattle.aggregate_ops.specs.inner.Reading.{rows_of}
 use Rattle.aggregate_ops.proofs.reading.GroupedRows.front.Goals as goal
 
 pub returns-in-Lent : goal.returns-in-Lent

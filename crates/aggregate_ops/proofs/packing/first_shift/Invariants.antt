@@ -1,6 +1,0 @@
--- there are digits from there on
-use Rattle.std.proofs.Common.{◌<◌}
-use Rattle.aggregate_ops.proofs.packing.first_shift.Given as goal
-
-abbrev pub invariant-loop-column : goal.invariant-loop-column
-invariant-loop-column l = l.shift < 64
