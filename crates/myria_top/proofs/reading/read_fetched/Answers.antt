@@ -1,4 +1,4 @@
-use Rattle.std.proofs.Common.{◌≡◌, ◌≢◌, ◌∙◌, refl, sym, ap, arith}
+use Rattle.std.proofs.Common.{◌≡◌, ◌≢◌, ◌∙◌, refl, sym, ap, arith, rules}
 use Rattle.relation_csv.specs.declared.faults.RelFault.TheVariants as why
 use Rattle.rel_io.specs.Shelves.{CallCounts, counts_of}
 use Rattle.myria_top.specs.declared.outcomes.Outcome.TheVariants as outcome
@@ -61,3 +61,6 @@ returns-clause-read g c =
           (fault ≢ why.Memory) c.bad_relation.ensures (λ other. refl) tt;
       kept = c.fetched.ensures.kept;
     }
+
+pub returns-in-Err-Failed-clause-read : goal.returns-in-Err-Failed-clause-read
+returns-in-Err-Failed-clause-read g c = search rules
