@@ -22,8 +22,8 @@ use Rattle.packed_rows.proofs.RunLemmas.{sorted-drop}
 use Rattle.packed_rows.proofs.BagLemmas.{All-drop}
 use Rattle.aggregate_ops.specs.declared.faults.AggFault.{AggFault}
 use Rattle.aggregate_ops.specs.declared.faults.AggFault.TheVariants as fault
-use Rattle.aggregate_ops.specs.declared.forms.Form.{Form}
-use Rattle.aggregate_ops.specs.declared.forms.Form.TheVariants.{Whole, Split, Merged}
+use Rattle.aggregate_ops.specs.declared.group_rows.Form.{Form}
+use Rattle.aggregate_ops.specs.declared.group_rows.Form.TheVariants.{Whole, Split, Merged}
 use Rattle.aggregate_ops.specs.Columns.{column, cells, key_places, key_at, Overflows}
 use Rattle.aggregate_ops.specs.Forms.{grouped_kinds, formed, form_fits, added_in, merged_fits, results, results_fit}
 use Rattle.aggregate_ops.proofs.RunLemmas.{groups-step}

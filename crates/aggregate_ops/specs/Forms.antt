@@ -13,8 +13,8 @@ use Rattle.myrial_ast.specs.declared.operators.AggOp.TheVariants as agg
 use Rattle.myrial_ast.specs.Combinations.{Row, Rows}
 use Rattle.myrial_ast.specs.Groups.{Kinds, groups, sum_fits}
 use Rattle.myrial_ast.specs.Partials.{split_sums, whole_sums, partial_kinds, merged}
-use Rattle.aggregate_ops.specs.declared.forms.Form.{Form}
-use Rattle.aggregate_ops.specs.declared.forms.Form.TheVariants.{Whole, Split, Merged}
+use Rattle.aggregate_ops.specs.declared.group_rows.Form.{Form}
+use Rattle.aggregate_ops.specs.declared.group_rows.Form.TheVariants.{Whole, Split, Merged}
 
 -- how the rows are grouped
 abbrev pub grouped_kinds : Form → Kinds → Kinds

@@ -9,7 +9,7 @@ ghost use Rattle.aggregate_ops.specs.inner.Reading.{row_of, rows_of, value_of};
 
 use crate::AggFault;
 use crate::keys::order_in;
-use crate::reading::{GroupedRow, GroupedRows, ReadValue};
+use crate::rows_of_groups::{GroupedRow, GroupedRows, ReadValue};
 use algebra::EmitKind;
 use myrial_ast::AggOp;
 use rel_base::Value;

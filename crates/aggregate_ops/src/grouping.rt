@@ -17,11 +17,11 @@ ghost use Rattle.aggregate_ops.specs.inner.Reading.{rows_of};
 ghost use Rattle.aggregate_ops.specs.Forms.{grouped_kinds, results, results_fit};
 
 use crate::AggFault;
-use crate::forms::{Form, added};
+use crate::group_rows::{Form, added};
+use crate::key_runs::{are_in_order, run_length};
 use crate::keys::rows_by_key;
 use crate::picking::picked_rows;
-use crate::reading::GroupedRows;
-use crate::runs::{are_in_order, run_length};
+use crate::rows_of_groups::GroupedRows;
 use algebra::{EmitKind, EmitKinds};
 use myrial_ast::{AggOp, Scalars};
 use packed_rows::{

@@ -6,8 +6,8 @@ ghost use Rattle.packed_rows.specs.Unpacked.{unpacked_row};
 ghost use Rattle.aggregate_ops.specs.Columns.{rows_in, key_at};
 ghost use Rattle.aggregate_ops.specs.inner.Reading.{row_of, rows_of};
 
-use crate::reading::{GroupedRow, GroupedRows};
-use crate::runs::are_in_order;
+use crate::key_runs::are_in_order;
+use crate::rows_of_groups::{GroupedRow, GroupedRows};
 use packed_rows::{PackedColumn, order_of};
 use rel_base::{Memory, Rows, Value};
 use std::alloc::Global;

@@ -12,22 +12,22 @@
 //! be, shared rows are not copied, and the rows that come out are new ones, in the order of their
 //! keys. Not promised: that memory is there.
 //!
-//! Read `specs/Columns.antt` and `specs/Forms.antt`, then `reading.rt`, `grouping.rt` and
+//! Read `specs/Columns.antt` and `specs/Forms.antt`, then `rows_of_groups.rt`, `grouping.rt` and
 //! `bags.rt`.
 #![tactic(auto)]
 
 mod bags;
 mod columns;
 mod faults;
-mod forms;
+mod group_rows;
 mod grouping;
+mod key_runs;
 mod keys;
 mod laws;
 mod ordering;
 mod partials;
 mod picking;
-mod reading;
-mod runs;
+mod rows_of_groups;
 
 pub use bags::{append, difference, distinct};
 pub use faults::AggFault;

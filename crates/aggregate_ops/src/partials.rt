@@ -14,7 +14,7 @@ ghost use Rattle.aggregate_ops.specs.Forms.{merged_fits};
 ghost use Rattle.aggregate_ops.specs.Picks.{are_picks};
 
 use crate::AggFault;
-use crate::forms::Form;
+use crate::group_rows::Form;
 use crate::grouping::{grouped, grouped_picks, partial_places};
 use algebra::EmitKinds;
 use myrial_ast::Scalars;

@@ -8,7 +8,7 @@ ghost use Rattle.myrial_ast.specs.CandidateFaults.{all_fit};
 ghost use Rattle.myrial_ast.specs.ScalarTrees.{scalar_tree_of};
 ghost use Rattle.aggregate_ops.specs.Picks.{is_pick, are_picks};
 
-use crate::forms::put;
+use crate::group_rows::put;
 use myrial_ast::{Scalar, Scalars};
 use rel_base::{Duplicate, Memory, Row, Rows, Value};
 use std::alloc::Global;

@@ -56,7 +56,7 @@ use Rattle.run_laws.proofs.RunLemmas.{run-same}
 use Rattle.run_laws.proofs.TermLemmas.{terms_are_of_bags}
 use Rattle.engine.specs.declared.held.Held.{Held}
 use Rattle.engine.specs.declared.noted.Noted.{Noted}
-use Rattle.engine.specs.declared.runs.Ran.{Ran}
+use Rattle.engine.specs.declared.results.Ran.{Ran}
 use Rattle.engine.specs.Runs.{IsRan, IsRunFault}
 use Rattle.engine.specs.inner.Held.{IsHeld, parts_held, value_held, UsedAreHeld, IsJoinable, HasJoinable, IsRunnable}
 use Rattle.engine.proofs.UsedLemmas.{ready-among, used-with-one-more, used-without-last, used-in-turn, stores-among}

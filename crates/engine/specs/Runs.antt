@@ -17,7 +17,7 @@ use Rattle.placement.specs.Plans.{ShuffleRule, placing_by, plan_of}
 use Rattle.placement.specs.Runs.{size_of, fault_of, run_exchanges}
 use Rattle.placement.specs.Stores.{AreStoredAt}
 use Rattle.routed_joins.specs.TermRuns.{shown_moves, AreShown, AreMoved, AreFair}
-use Rattle.engine.specs.declared.runs.Ran.{Ran}
+use Rattle.engine.specs.declared.results.Ran.{Ran}
 
 -- nothing is wrong with the script; each store holds what is placed, worker by worker; plan and traffic are those of the
 -- script, and the receipts show its exchanges

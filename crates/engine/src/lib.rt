@@ -25,10 +25,10 @@ mod groups;
 mod held;
 mod joins;
 mod noted;
+mod results;
 mod running;
-mod runs;
 mod steps;
 mod terms;
 
+pub use results::Ran;
 pub use running::run_script;
-pub use runs::Ran;

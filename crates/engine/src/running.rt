@@ -20,7 +20,7 @@ ghost use Rattle.engine.specs.inner.Steps.{AreRun, schema_at, held_store};
 use crate::dealing::dealt_files;
 use crate::held::Held;
 use crate::noted::Noted;
-use crate::runs::Ran;
+use crate::results::Ran;
 use crate::steps::run_step;
 use crate::terms::RunStep;
 use algebra::{Checked, Settings, Source, Step, StoreStep};

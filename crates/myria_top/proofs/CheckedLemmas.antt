@@ -29,7 +29,7 @@ use Rattle.placement.specs.Runs.{fault_of, faults_at}
 use Rattle.fragmenter.specs.Plans.{PlanTree}
 use Rattle.plan_printer.specs.TrafficTexts.{IsWhole}
 use Rattle.engine.specs.Runs.{IsRan, IsRunFault}
-use Rattle.engine.specs.declared.runs.Ran.{Ran}
+use Rattle.engine.specs.declared.results.Ran.{Ran}
 use Rattle.output_texts.specs.Laws.{SortedLinesAreTheText}
 use Rattle.output_texts.specs.OutputText.{output_text, relation_lines}
 use Rattle.output_texts.specs.Stores.{whole_store}

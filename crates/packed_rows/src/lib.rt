@@ -24,7 +24,7 @@ mod emits;
 mod packed_bags;
 mod packing;
 mod spans;
-mod twins;
+mod twin_columns;
 pub mod word_runs;
 
 pub use columns::PackedColumn;

@@ -13,7 +13,7 @@ ghost use Rattle.packed_rows.specs.Unpacked.{unpacked_row};
 use crate::columns::PackedColumn;
 use crate::emits::{Emits, picked};
 use crate::spans::ScannedColumn;
-use crate::twins::Singles;
+use crate::twin_columns::Singles;
 use myrial_ast::Scalar;
 use rel_base::{Memory, Rows, Value};
 use std::alloc::Global;

@@ -7,12 +7,12 @@ use Rattle.std.specs.Prelude.{map}
 use Rattle.rel_base.specs.declared.values.Value.{Value}
 use Rattle.myrial_ast.specs.Combinations.{Row, Rows}
 use Rattle.packed_rows.specs.Unpacked.{unpacked_row}
-use Rattle.aggregate_ops.specs.declared.reading.GroupedRow.{GroupedRow}
-use Rattle.aggregate_ops.specs.declared.reading.GroupedRow.TheVariants as row
-use Rattle.aggregate_ops.specs.declared.reading.GroupedRows.{GroupedRows}
-use Rattle.aggregate_ops.specs.declared.reading.GroupedRows.TheVariants as rows
-use Rattle.aggregate_ops.specs.declared.reading.ReadValue.{ReadValue}
-use Rattle.aggregate_ops.specs.declared.reading.ReadValue.TheVariants as read
+use Rattle.aggregate_ops.specs.declared.rows_of_groups.GroupedRow.{GroupedRow}
+use Rattle.aggregate_ops.specs.declared.rows_of_groups.GroupedRow.TheVariants as row
+use Rattle.aggregate_ops.specs.declared.rows_of_groups.GroupedRows.{GroupedRows}
+use Rattle.aggregate_ops.specs.declared.rows_of_groups.GroupedRows.TheVariants as rows
+use Rattle.aggregate_ops.specs.declared.rows_of_groups.ReadValue.{ReadValue}
+use Rattle.aggregate_ops.specs.declared.rows_of_groups.ReadValue.TheVariants as read
 use Rattle.aggregate_ops.specs.Columns.{rows_in}
 
 -- the row that is lent, or packed

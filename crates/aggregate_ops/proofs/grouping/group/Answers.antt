@@ -3,7 +3,7 @@ use Rattle.std.proofs.lemmas.Result.{IfOk-weaker}
 use Rattle.rel_base.specs.Bags.{SameBag}
 use Rattle.myrial_ast.specs.Groups.{groups}
 use Rattle.algebra.specs.Trees.{kind_of_emit}
-use Rattle.aggregate_ops.specs.declared.forms.Form.TheVariants.{Whole}
+use Rattle.aggregate_ops.specs.declared.group_rows.Form.TheVariants.{Whole}
 use Rattle.aggregate_ops.specs.Forms.{results}
 use Rattle.aggregate_ops.proofs.CellLemmas.{results_whole}
 use Rattle.aggregate_ops.proofs.grouping.group.Goals as goal

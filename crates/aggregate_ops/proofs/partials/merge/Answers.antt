@@ -1,7 +1,7 @@
 use Rattle.std.proofs.Common.{◌∙◌, map}
 use Rattle.std.proofs.lemmas.Result.{on_ok_weaker, IfErr-weaker}
 use Rattle.algebra.specs.Trees.{kind_of_emit}
-use Rattle.aggregate_ops.specs.declared.forms.Form.TheVariants.{Merged}
+use Rattle.aggregate_ops.specs.declared.group_rows.Form.TheVariants.{Merged}
 use Rattle.aggregate_ops.specs.Columns.{Overflows}
 use Rattle.aggregate_ops.specs.Forms.{results_fit, merged_fits}
 use Rattle.aggregate_ops.proofs.CellLemmas.{merged_fit}
