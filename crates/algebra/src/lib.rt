@@ -38,5 +38,5 @@ pub use notes::{
     Counts, Exchange, ItemPlaces, PlanKind, PlanNote, PlanNotes, Traffic, TrafficNotes,
 };
 pub use settings::{JoinKind, Settings, ShuffleKind};
-pub use shapes::{Atom, Atoms, ColTypes, EmitKind, EmitKinds, JoinShape, Variables};
+pub use shapes::{Atom, Atoms, ColTypes, EmitKind, EmitKinds, JoinShape, Variables, copy_of_kinds};
 pub use terms::{Checked, Source, Sources, Step, StepList, StoreStep, Stores, Term};
