@@ -12,10 +12,11 @@ use Rattle.rel_base.specs.declared.values.Value.TheVariants as value
 use Rattle.myrial_ast.specs.declared.operators.BinOp.{BinOp}
 use Rattle.myrial_ast.specs.declared.operators.BinOp.TheVariants as op
 use Rattle.myrial_ast.specs.KeptRows.{Span, lies_in, put_at, reads_within}
-use Rattle.myrial_ast.specs.Scalars.{Scalar, Lit, At, Not, Neg, Bin, applied, columns_of, exact_value, is_arithmetic, is_plain, value_at}
+use Rattle.myrial_ast.specs.Scalars.{Scalar, Lit, At, Not, Neg, Bin, applied, columns_of, exact_value, is_arithmetic, is_plain}
 use Rattle.myrial_ast.specs.Combinations.{Row, all_hold}
 use Rattle.algebra.specs.ShapeConditions.{is_kind, is_plain_test, is_truth, kind_in, kind_of_op, where_both}
 use Rattle.algebra.specs.Shapes.{shifted}
+use Rattle.algebra.proofs.RowLemmas.{value-put}
 use Rattle.plan_rewrite.specs.inner.Pushing.{lowered}
 
 -- what is said of the columns of two operands is said of those of each
@@ -57,17 +58,6 @@ all-raised span (e ∷ es) h =
     λ i. raised span e (reads-inside span e parts.0) i ∷ all-raised span es parts.1 i
 
 -- ---- values
-
-minus-zero : (n : ℕ) → n ≡ n - 0
-minus-zero n = omega arith
-
-minus-suc : (m n : ℕ) → m - n ≡ suc m - suc n
-minus-suc m n = omega arith
-
-value-put : (place : ℕ) (row : Row) (c : ℕ) → place ≤ c → value_at (put_at place row) c ≡ value_at row (c - place)
-value-put zero row c l = ap (value_at row) (minus-zero c)
-value-put (suc place) row zero l = absurd (omega arith)
-value-put (suc place) row (suc c) l = value-put place row c (omega arith) ∙ ap (value_at row) (minus-suc c place)
 
 lowered-value : (span : Span) (row : Row) (e : Scalar) → list_all (lies_in span) (columns_of e) ≡ true
     → exact_value (lowered span.from e) row ≡ exact_value e (put_at span.from row)
