@@ -12,7 +12,7 @@ use Rattle.rel_base.specs.Values.{value_order}
 use Rattle.rel_base.specs.declared.relations.Column.{Column}
 use Rattle.rel_base.specs.declared.values.ColType.{ColType}
 use Rattle.rel_base.specs.declared.values.ColType.TheVariants as kind
-use Rattle.rel_base.specs.Relations.{HasTypes, fits_schema, same_type, type_of}
+use Rattle.rel_base.specs.Relations.{HasTypes, type_of}
 use Rattle.myrial_ast.specs.declared.operators.AggOp.{AggOp}
 use Rattle.myrial_ast.specs.declared.operators.AggOp.TheVariants as agg
 use Rattle.myrial_ast.specs.declared.operators.BinOp.TheVariants as op
@@ -22,7 +22,7 @@ use Rattle.myrial_ast.specs.Scalars.{Scalar, Lit, At, Not, Neg, Bin, exact_value
 use Rattle.myrial_ast.specs.Bags.{same_row}
 use Rattle.myrial_ast.specs.Combinations.{Row, Rows, all_hold, candidates, combinations, combined_row, combined_rows, emitted, listed_from}
 use Rattle.myrial_ast.specs.Groups.{Kinds, has_aggregate, key_of, keys, members, lesser, greater, cell, group_row, groups, result_rows}
-use Rattle.algebra.specs.Conditions.{same_kinds}
+use Rattle.algebra.proofs.TypeLemmas.{types-of_row, typed-fits, at-mapped}
 use Rattle.bag_laws.proofs.ColumnLemmas.{behind, firsts, by_columns, group_row-columns}
 use Rattle.bag_laws.proofs.PartialLemmas.{itself}
 use Rattle.myrial_scopes.specs.Scopes.{ItemSchema, ScopeColumn, column_at, columns_of, kind_of, places_under, scalar_of, scope_of, scoped}
@@ -30,7 +30,6 @@ use Rattle.myrial_scopes.specs.Emits.{Emit, emit_at, aggregate_kind, aggregated,
 use Rattle.myrial_meaning.specs.Meaning.{ItemRelation, items_of, schema_of_item, tables_of}
 use Rattle.myrial_meaning.specs.inner.ItemRows.{HasTypedRows}
 use Rattle.aggregate_ops.proofs.RunLemmas.{All-distinct}
-use Rattle.myrial_meaning.proofs.BoolLemmas.{and-first, and-second}
 
 -- ---- rows of types
 
@@ -38,49 +37,7 @@ use Rattle.myrial_meaning.proofs.BoolLemmas.{and-first, and-second}
 types_of : Row → List ColType
 types_of row = map type_of row
 
-same_type-equal : (s t : ColType) → same_type s t ≡ true → t ≡ s
-same_type-equal kind.Int kind.Int e = refl
-same_type-equal kind.Str kind.Str e = refl
-same_type-equal kind.Bool kind.Bool e = refl
-same_type-equal kind.Int kind.Str e = cc
-same_type-equal kind.Int kind.Bool e = cc
-same_type-equal kind.Str kind.Int e = cc
-same_type-equal kind.Str kind.Bool e = cc
-same_type-equal kind.Bool kind.Int e = cc
-same_type-equal kind.Bool kind.Str e = cc
-
--- lists of types that are the same are equal
-pub same_kinds-equal : (ks js : List ColType) → same_kinds ks js ≡ true → ks ≡ js
-same_kinds-equal [] [] e = refl
-same_kinds-equal [] (j ∷ js) e = cc
-same_kinds-equal (k ∷ ks) [] e = cc
-same_kinds-equal (k ∷ ks) (j ∷ js) e =
-    let first = sym (same_type-equal k j (and-first (same_type k j) (same_kinds ks js) e)) in
-    let others = same_kinds-equal ks js (and-second (same_type k j) (same_kinds ks js) e) in
-    λ i. first i ∷ others i
-
-same_type-itself : (t : ColType) → same_type t t ≡ true
-same_type-itself kind.Int = refl
-same_type-itself kind.Str = refl
-same_type-itself kind.Bool = refl
-
--- a row has its schema's types
-types-of_row : (schema : List Column) (row : Row) → fits_schema schema row ≡ true → types_of row ≡ map (λ (column : Column). column.kind) schema
-unfolding types_of
-types-of_row [] [] e = refl
-types-of_row [] (v ∷ row) e = cc
-types-of_row (column ∷ schema) [] e = cc
-types-of_row (column ∷ schema) (v ∷ row) e =
-    let first = same_type-equal column.kind (type_of v) (and-first (same_type column.kind (type_of v)) (fits_schema schema row) e) in
-    let others = types-of_row schema row (and-second (same_type column.kind (type_of v)) (fits_schema schema row) e) in
-    rw (first, others) refl
-
 -- the value at a place has the type there, past the end as well
-at-mapped : {X Y : Type 0} (f : X → Y) (xs : List X) (i : ℕ) (d : X) → get_or (map f xs) i (f d) ≡ f (get_or xs i d)
-at-mapped f [] i d = refl
-at-mapped f (x ∷ xs) zero d = refl
-at-mapped f (x ∷ xs) (suc i) d = at-mapped f xs i d
-
 type-at : (kinds : List ColType) (row : Row) (place : ℕ) → types_of row ≡ kinds → type_of (value_at row place) ≡ get_or kinds place kind.Int
 unfolding types_of
 type-at kinds row place e = sym (at-mapped type_of row place _) ∙ ap (λ kinds. get_or kinds place kind.Int) e
@@ -378,20 +335,11 @@ emitted-kinds scope (e ∷ es) all =
     let rest = emitted-kinds scope es (All-tail (HasKind scope) e es all) in
     λ i. first i ∷ rest i
 
-typed-fits : (schema : List Column) (row : Row) → types_of row ≡ map (λ (column : Column). column.kind) schema → fits_schema schema row ≡ true
-unfolding types_of
-typed-fits [] [] e = refl
-typed-fits [] (v ∷ row) e = cc
-typed-fits (column ∷ schema) [] e = cc
-typed-fits (column ∷ schema) (v ∷ row) e =
-    let first : type_of v ≡ column.kind = cc in
-    let others : map type_of row ≡ map (λ (column : Column). column.kind) schema = cc in
-    rw (first, same_type-itself column.kind) (typed-fits schema row others)
-
 -- the rows of a comprehension have the types of its schema
 pub comprehension-typed : (items : List ItemRelation) → All HasTypedRows items → (trees : List EmitTree) (es : List Emit) → emits_of (scope_of (items_of items)) trees ≡ Some es
     → (tests arithmetic : List Scalar)
     → All (HasTypes (schema_of es)) (result_rows (map (λ (e : Emit). e.aggregate) es) (listed_from arithmetic (map (λ (e : Emit). e.scalar) es) (candidates tests (tables_of items))))
+unfolding types_of
 comprehension-typed items typed trees es is tests arithmetic =
     All-weaker (λ row. types_of row ≡ result_kinds kinds ks) (HasTypes (schema_of es)) (λ row t. typed-fits (schema_of es) row (t ∙ sym own)) (result_rows kinds rows)
     (results-typed kinds ks long rows (listed-typed items typed tests arithmetic (map (λ (e : Emit). e.scalar) es)))

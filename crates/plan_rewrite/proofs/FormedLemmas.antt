@@ -15,6 +15,7 @@ use Rattle.myrial_ast.specs.Scalars.{Scalar}
 use Rattle.algebra.specs.ShapeConditions.{all_different, are_atoms, are_of, are_scalars, are_variables, is_atom, is_kind, is_plain_test, is_shape, is_truth, is_typed, is_variable, kind_at, kinds_of, where_both}
 use Rattle.algebra.specs.Shapes.{keeps_from, shifted, tests_of, tie_test, widths_of}
 use Rattle.algebra.specs.Trees.{AtomTree, Shape}
+use Rattle.algebra.proofs.TypeLemmas.{same_type-equal}
 use Rattle.plan_rewrite.specs.inner.Pushing.{is_of_one, is_tied, left_tests, lowered, own_tests, pushed, pushed_atom, pushed_from, span_at, spans_from, ties_within}
 use Rattle.plan_rewrite.proofs.ListLemmas.{Each, all-kept}
 use Rattle.plan_rewrite.proofs.PushingLemmas.{own-inside, pushed-widths}
@@ -22,17 +23,6 @@ use Rattle.plan_rewrite.proofs.SpanLemmas.{lowered-tests, shifted-tests}
 use Rattle.plan_rewrite.proofs.TieLemmas.{OneOf, ties-pass}
 
 -- ---- equalities of columns of one type
-
-same_type-equal : (a b : ColType) → same_type a b ≡ true → a ≡ b
-same_type-equal kind.Int kind.Int e = refl
-same_type-equal kind.Str kind.Str e = refl
-same_type-equal kind.Bool kind.Bool e = refl
-same_type-equal kind.Int kind.Str e = cc
-same_type-equal kind.Int kind.Bool e = cc
-same_type-equal kind.Str kind.Int e = cc
-same_type-equal kind.Str kind.Bool e = cc
-same_type-equal kind.Bool kind.Int e = cc
-same_type-equal kind.Bool kind.Str e = cc
 
 -- a column of this type
 abbrev HasKind : List ColType → ColType → ℕ → Type 0

@@ -10,9 +10,8 @@ use Rattle.std.proofs.lemmas.List.Elements.{All-nil, All-cons, All-head, All-tai
 use Rattle.rel_base.specs.declared.values.Value.{Value}
 use Rattle.rel_base.specs.declared.values.ColType.{ColType}
 use Rattle.rel_base.specs.declared.values.ColType.TheVariants as kind
-use Rattle.rel_base.specs.declared.relations.Column.{Column}
 use Rattle.rel_base.specs.Keys.{File}
-use Rattle.rel_base.specs.Relations.{HasTypes, fits_schema, same_type, type_of}
+use Rattle.rel_base.specs.Relations.{HasTypes, type_of}
 use Rattle.rel_base.specs.Values.{value_order}
 use Rattle.myrial_ast.specs.declared.operators.AggOp.{AggOp}
 use Rattle.myrial_ast.specs.declared.operators.AggOp.TheVariants as agg
@@ -29,10 +28,11 @@ use Rattle.algebra.specs.declared.terms.Source.TheVariants as source
 use Rattle.algebra.specs.Trees.{AtomTree, Shape, TermTree, Same, Empty, UnionAll, Diff, Distinct, Join, Group, StepTree, CheckedTree}
 use Rattle.algebra.specs.Shapes.{tests_of, ties_of, tie_test, candidates_of, listed_of}
 use Rattle.algebra.specs.ShapeConditions.{is_kind, where_both, kind_of_op, kind_in, kinds_of, is_shape}
-use Rattle.algebra.specs.Conditions.{is_of, same_kinds, kinds_of_columns, source_kinds, has_kinds, emitted_kind, emits_columns, is_term, are_steps}
+use Rattle.algebra.specs.Conditions.{is_of, kinds_of_columns, source_kinds, has_kinds, emitted_kind, emits_columns, is_term, are_steps}
 use Rattle.algebra.specs.Meanings.{term_rows}
 use Rattle.algebra.specs.Rewriting.{AreTyped}
 use Rattle.algebra.proofs.ShapeLemmas.{both}
+use Rattle.algebra.proofs.TypeLemmas.{same_type-equal, same_kinds-equal, types-of_row, typed-fits, at-mapped}
 use Rattle.placement.specs.Layouts.{PlacedRelation, Placing, placed_nothing, placed_files, placed_source, placed_step, placed_steps}
 use Rattle.placement.proofs.WidthLemmas.{three, distinct-all}
 use Rattle.placement.proofs.ScriptLemmas.{checked-steps, steps-IsPlaced, found-IsPlaced}
@@ -43,51 +43,6 @@ use Rattle.run_laws.specs.Values.{meant, MeantArePlaced}
 -- each row's values have these types
 abbrev pub AreOf : List ColType → Rows → Type 0
 AreOf kinds rows = All (λ (row : Row). map type_of row ≡ kinds) rows
-
-same_type-equal : (s t : ColType) → same_type s t ≡ true → t ≡ s
-same_type-equal kind.Int kind.Int e = refl
-same_type-equal kind.Str kind.Str e = refl
-same_type-equal kind.Bool kind.Bool e = refl
-same_type-equal kind.Int kind.Str e = absurd (cc)
-same_type-equal kind.Int kind.Bool e = absurd (cc)
-same_type-equal kind.Str kind.Int e = absurd (cc)
-same_type-equal kind.Str kind.Bool e = absurd (cc)
-same_type-equal kind.Bool kind.Int e = absurd (cc)
-same_type-equal kind.Bool kind.Str e = absurd (cc)
-
-pub same_type-itself : (t : ColType) → same_type t t ≡ true
-same_type-itself kind.Int = refl
-same_type-itself kind.Str = refl
-same_type-itself kind.Bool = refl
-
-same_kinds-equal : (ks js : List ColType) → same_kinds ks js ≡ true → ks ≡ js
-same_kinds-equal [] [] e = refl
-same_kinds-equal [] (j ∷ js) e = absurd (cc)
-same_kinds-equal (k ∷ ks) [] e = absurd (cc)
-same_kinds-equal (k ∷ ks) (j ∷ js) e =
-    let parts = both (same_type k j) (same_kinds ks js) e in
-    let first = sym (same_type-equal k j parts.0) in
-    let others = same_kinds-equal ks js parts.1 in
-    λ i. first i ∷ others i
-
-types-of_row : (schema : List Column) (row : Row) → fits_schema schema row ≡ true → map type_of row ≡ kinds_of_columns schema
-types-of_row [] [] e = refl
-types-of_row [] (v ∷ row) e = absurd (cc)
-types-of_row (column ∷ schema) [] e = absurd (cc)
-types-of_row (column ∷ schema) (v ∷ row) e =
-    let parts = both (same_type column.kind (type_of v)) (fits_schema schema row) e in
-    let first = same_type-equal column.kind (type_of v) parts.0 in
-    let others = types-of_row schema row parts.1 in
-    λ i. first i ∷ others i
-
-pub typed-fits : (schema : List Column) (row : Row) → map type_of row ≡ kinds_of_columns schema → fits_schema schema row ≡ true
-typed-fits [] [] e = refl
-typed-fits [] (v ∷ row) e = absurd (cc)
-typed-fits (column ∷ schema) [] e = absurd (cc)
-typed-fits (column ∷ schema) (v ∷ row) e =
-    let first : type_of v ≡ column.kind = cc in
-    let others : map type_of row ≡ kinds_of_columns schema = cc in
-    rw (first, same_type-itself column.kind) (typed-fits schema row others)
 
 -- ---- values
 
@@ -104,11 +59,6 @@ value_kind kinds (At c) = slice_index_or kinds c kind.Int
 value_kind kinds (Not e) = kind.Bool
 value_kind kinds (Neg e) = kind.Int
 value_kind kinds (Bin o l r) = op_kind o
-
-at-mapped : {X Y : Type 0} (f : X → Y) (xs : List X) (i : ℕ) (d : X) → get_or (map f xs) i (f d) ≡ f (get_or xs i d)
-at-mapped f [] i d = refl
-at-mapped f (x ∷ xs) zero d = refl
-at-mapped f (x ∷ xs) (suc i) d = at-mapped f xs i d
 
 value-typed : (kinds : List ColType) (row : Row) → map type_of row ≡ kinds → (e : Scalar) → type_of (exact_value e row)
     ≡ value_kind kinds e
@@ -170,7 +120,7 @@ scalar-kind : (kinds : List ColType) (e : Scalar) (k : ColType) → is_kind k (k
 scalar-kind kinds e k h = by (kind_in kinds e) refl h
   where
     by : (found : Option ColType) → kind_in kinds e ≡ found → is_kind k found ≡ true → value_kind kinds e ≡ k
-    by (Some j) is g = found-kind kinds e j is ∙ same_type-equal k j g
+    by (Some j) is g = found-kind kinds e j is ∙ sym (same_type-equal k j g)
     by None is g = absurd (cc)
 
 emits-kinds : (kinds : List ColType) (emits : List Scalar) (columns : List ColType)
@@ -361,12 +311,12 @@ group-kind : (kinds : List ColType) (kind : Option AggOp) (e : Scalar) (k : ColT
     → is_kind k (emitted_kind kind (kind_in kinds e)) ≡ true
     → result_kind kind (value_kind kinds e) ≡ k
 group-kind kinds None e k h = scalar-kind kinds e k h
-group-kind kinds (Some agg.CountAll) e k h = same_type-equal k kind.Int h
-group-kind kinds (Some agg.Count) e k h = same_type-equal k kind.Int h
+group-kind kinds (Some agg.CountAll) e k h = sym (same_type-equal k kind.Int h)
+group-kind kinds (Some agg.Count) e k h = sym (same_type-equal k kind.Int h)
 group-kind kinds (Some agg.Sum) e k h = by (is_kind kind.Int (kind_in kinds e) && is_kind kind.Int (kind_in kinds e)) h
   where
     by : (b : Bool) → is_kind k (cond b (Some kind.Int) None) ≡ true → kind.Int ≡ k
-    by true g = same_type-equal k kind.Int g
+    by true g = sym (same_type-equal k kind.Int g)
     by false g = absurd (cc)
 group-kind kinds (Some agg.Min) e k h = scalar-kind kinds e k h
 group-kind kinds (Some agg.Max) e k h = scalar-kind kinds e k h
