@@ -5,3 +5,4 @@ pub mod GroupPermutations
 pub mod ColumnLemmas
 pub mod PartialLemmas
 pub mod FittingLemmas
+pub mod TypedGroupLemmas

@@ -1,14 +1,11 @@
 -- The rows of a comprehension have the types of the emitted columns.
-use Rattle.std.proofs.Common.{◌≡◌, ◌∙◌, ℕ, zero, suc, ◌+◌, ◌<◌, Bool, true, false, cond, Option, Some, None, option_map, List, [], ◌∷◌, ◌++◌, length, map, filter, get_or, refl, sym, ap, subst, arith}
+use Rattle.std.proofs.Common.{◌≡◌, ◌∙◌, ℕ, ◌+◌, Bool, true, false, cond, Option, Some, None, option_map, List, [], ◌∷◌, ◌++◌, length, map, filter, get_or, refl, sym, ap, subst, arith}
 use Rattle.std.proofs.lemmas.List.{map-append, length-map}
 use Rattle.std.proofs.lemmas.List.Elements.{All-nil, All-cons, All-head, All-tail, All-append, All-map, All-filter, All-weaker}
-use Rattle.std.specs.Prelude.{All, fold, unwrap_or}
+use Rattle.std.specs.Prelude.{All, unwrap_or}
 use Rattle.std.specs.List.{flat_map, enumerate_from, range_with_len}
-use Rattle.std.specs.Ordering.{is_lt, is_gt}
 use Rattle.rel_base.specs.Each.{each_or_none, put_before}
-use Rattle.rel_base.specs.declared.values.Value.{Value}
 use Rattle.rel_base.specs.declared.values.Value.TheVariants as value
-use Rattle.rel_base.specs.Values.{value_order}
 use Rattle.rel_base.specs.declared.relations.Column.{Column}
 use Rattle.rel_base.specs.declared.values.ColType.{ColType}
 use Rattle.rel_base.specs.declared.values.ColType.TheVariants as kind
@@ -19,17 +16,14 @@ use Rattle.myrial_ast.specs.declared.operators.BinOp.TheVariants as op
 use Rattle.myrial_ast.specs.Trees.{Name, Tree, EmitTree}
 use Rattle.myrial_ast.specs.Trees as tree
 use Rattle.myrial_ast.specs.Scalars.{Scalar, Lit, At, Not, Neg, Bin, exact_value, value_at}
-use Rattle.myrial_ast.specs.Bags.{same_row}
 use Rattle.myrial_ast.specs.Combinations.{Row, Rows, all_hold, candidates, combinations, combined_row, combined_rows, emitted, listed_from}
-use Rattle.myrial_ast.specs.Groups.{Kinds, has_aggregate, key_of, keys, members, lesser, greater, cell, group_row, groups, result_rows}
+use Rattle.myrial_ast.specs.Groups.{Kinds, has_aggregate, groups, result_rows}
 use Rattle.algebra.proofs.TypeLemmas.{types-of_row, typed-fits, at-mapped}
-use Rattle.bag_laws.proofs.ColumnLemmas.{behind, firsts, by_columns, group_row-columns}
-use Rattle.bag_laws.proofs.PartialLemmas.{itself}
+use Rattle.bag_laws.proofs.TypedGroupLemmas.{result_kind, result_kinds, groups-typed}
 use Rattle.myrial_scopes.specs.Scopes.{ItemSchema, ScopeColumn, column_at, columns_of, kind_of, places_under, scalar_of, scope_of, scoped}
 use Rattle.myrial_scopes.specs.Emits.{Emit, emit_at, aggregate_kind, aggregated, emit_of_scalar, emit_of_tree, named, emits_of_item, emits_of, numbered_name, schema_of}
 use Rattle.myrial_meaning.specs.Meaning.{ItemRelation, items_of, schema_of_item, tables_of}
 use Rattle.myrial_meaning.specs.inner.ItemRows.{HasTypedRows}
-use Rattle.aggregate_ops.proofs.RunLemmas.{All-distinct}
 
 -- ---- rows of types
 
@@ -125,109 +119,10 @@ listed-typed items typed tests arithmetic es =
 
 -- ---- groups of rows of types
 
--- the type of a column of groups
-abbrev result_kind : Option AggOp → ColType → ColType
-result_kind None k = k
-result_kind (Some op) k = aggregate_kind op k
-
-lesser-typed : (k : ColType) (a b : Value) → type_of a ≡ k → type_of b ≡ k → type_of (lesser a b) ≡ k
-lesser-typed k a b e f = by (is_lt (value_order b a))
-  where
-    by : (t : Bool) → type_of (cond t b a) ≡ k
-    by true = f
-    by false = e
-
-greater-typed : (k : ColType) (a b : Value) → type_of a ≡ k → type_of b ≡ k → type_of (greater a b) ≡ k
-greater-typed k a b e f = by (is_gt (value_order b a))
-  where
-    by : (t : Bool) → type_of (cond t b a) ≡ k
-    by true = f
-    by false = e
-
-fold-typed : (f : Value → Value → Value) (k : ColType) → ((a b : Value) → type_of a ≡ k → type_of b ≡ k → type_of (f a b) ≡ k)
-    → (v : Value) (vs : List Value) → type_of v ≡ k → All (λ w. type_of w ≡ k) vs → type_of (fold f v vs) ≡ k
-fold-typed f k step v [] e all = e
-fold-typed f k step v (w ∷ vs) e all = fold-typed f k step (f v w) vs (step v w e (All-head (λ w. type_of w ≡ k) w vs all)) (All-tail (λ w. type_of w ≡ k) w vs all)
-
-cell-typed : (kind : Option AggOp) (k : ColType) (v : Value) (vs : List Value) → All (λ w. type_of w ≡ k) (v ∷ vs) → type_of (cell kind (v ∷ vs)) ≡ result_kind kind k
-cell-typed None k v vs all = All-head (λ w. type_of w ≡ k) v vs all
-cell-typed (Some agg.CountAll) k v vs all = refl
-cell-typed (Some agg.Count) k v vs all = refl
-cell-typed (Some agg.Sum) k v vs all = refl
-cell-typed (Some agg.Min) k v vs all = fold-typed lesser k (lesser-typed k) v vs (All-head (λ w. type_of w ≡ k) v vs all) (All-tail (λ w. type_of w ≡ k) v vs all)
-cell-typed (Some agg.Max) k v vs all = fold-typed greater k (greater-typed k) v vs (All-head (λ w. type_of w ≡ k) v vs all) (All-tail (λ w. type_of w ≡ k) v vs all)
-
--- the types of a group's row
-result_kinds : List (Option AggOp) → List ColType → List ColType
-result_kinds (kind ∷ kinds) (k ∷ ks) = result_kind kind k ∷ result_kinds kinds ks
-result_kinds _ _ = []
-
-first-typed : (k : ColType) (ks : List ColType) (rows : Rows) → All (λ row. types_of row ≡ k ∷ ks) rows → All (λ w. type_of w ≡ k) (firsts rows)
-unfolding types_of
-first-typed k ks [] all = All-nil (λ w. type_of w ≡ k)
-first-typed k ks (row ∷ rows) all =
-    All-cons (λ w. type_of w ≡ k) (value_at row 0) (firsts rows) (first row (All-head (λ row. types_of row ≡ k ∷ ks) row rows all)) (first-typed k ks rows (All-tail (λ row. types_of row ≡ k ∷ ks) row rows all))
-  where
-    first : (row : Row) → map type_of row ≡ k ∷ ks → type_of (value_at row 0) ≡ k
-    first [] e = cc
-    first (v ∷ row) e = cc
-
-behind-typed : (k : ColType) (ks : List ColType) (rows : Rows) → All (λ row. types_of row ≡ k ∷ ks) rows → All (λ row. types_of row ≡ ks) (map behind rows)
-unfolding types_of
-behind-typed k ks [] all = All-nil (λ row. types_of row ≡ ks)
-behind-typed k ks (row ∷ rows) all =
-    All-cons (λ row. types_of row ≡ ks) (behind row) (map behind rows) (rest row (All-head (λ row. types_of row ≡ k ∷ ks) row rows all)) (behind-typed k ks rows (All-tail (λ row. types_of row ≡ k ∷ ks) row rows all))
-  where
-    rest : (row : Row) → map type_of row ≡ k ∷ ks → map type_of (behind row) ≡ ks
-    rest [] e = cc
-    rest (v ∷ row) e = cc
-
-columns-typed : (kinds : List (Option AggOp)) (ks : List ColType) (row : Row) (rows : Rows) → length kinds ≡ length ks → All (λ row. types_of row ≡ ks) (row ∷ rows)
-    → types_of (by_columns kinds (row ∷ rows)) ≡ result_kinds kinds ks
-unfolding types_of result_kinds
-columns-typed [] [] row rows e all = refl
-columns-typed [] (k ∷ ks) row rows e all = absurd (omega (arith, e))
-columns-typed (kind ∷ kinds) [] row rows e all = absurd (omega (arith, e))
-columns-typed (kind ∷ kinds) (k ∷ ks) row rows e all =
-    let first = cell-typed kind k (value_at row 0) (firsts rows) (first-typed k ks (row ∷ rows) all) in
-    let others = columns-typed kinds ks (behind row) (map behind rows) (omega (arith, e)) (behind-typed k ks (row ∷ rows) all) in
-    λ i. first i ∷ others i
-
-filter-none-at : {X : Type 0} (p : X → Bool) (xs : List X) (i : ℕ) (d : X) → i < length xs → filter p xs ≡ [] → p (get_or xs i d) ≡ false
-filter-none-at p [] i d low e = absurd (omega arith)
-filter-none-at {X} p (x ∷ xs) i d low e = by (λ k small none. filter-none-at p xs k d small none) (p x) refl e i low
-  where
-    by : ((k : ℕ) → k < length xs → filter p xs ≡ [] → p (get_or xs k d) ≡ false) → (b : Bool) → p x ≡ b → cond b (x ∷ filter p xs) (filter p xs) ≡ []
-        → (i : ℕ) → i < length (x ∷ xs) → p (get_or (x ∷ xs) i d) ≡ false
-    by others true h e i low = absurd (cc)
-    by others false h e zero low = h
-    by others false h e (suc i) low = others i (omega arith) e
-
--- a key of the groups has members
-has-members : (kinds : Kinds) (rows : Rows) (i : ℕ) (d : Row) → i < length rows → members kinds rows (key_of kinds (get_or rows i d)) ≡ [] → ⊥
-has-members kinds rows i d low none =
-    let passes : same_row (key_of kinds (get_or rows i d)) (key_of kinds (get_or rows i d)) ≡ true = itself (key_of kinds (get_or rows i d)) in
-    let fails = filter-none-at (λ row. same_row (key_of kinds (get_or rows i d)) (key_of kinds row)) rows i d low none in
-    cc
-
-module _ (kinds : Kinds) (ks : List ColType) (same : length kinds ≡ length ks) where
-  -- the row of a group with members
-  one-typed : (rows : Rows) → All (λ row. types_of row ≡ ks) rows → (rows ≡ [] → ⊥) → types_of (group_row kinds rows) ≡ result_kinds kinds ks
-  one-typed [] all some = absurd (some refl)
-  one-typed (row ∷ rows) all some = ap types_of (group_row-columns kinds (row ∷ rows)) ∙ columns-typed kinds ks row rows same all
-
-  groups-typed : (rows : Rows) → All (λ row. types_of row ≡ ks) rows → All (λ row. types_of row ≡ result_kinds kinds ks) (groups kinds rows)
-  groups-typed rows all =
-      All-map (λ row. types_of row ≡ result_kinds kinds ks) (λ key. group_row kinds (members kinds rows key)) (keys kinds rows)
-      (All-distinct (λ key. types_of (group_row kinds (members kinds rows key)) ≡ result_kinds kinds ks) (map (key_of kinds) rows)
-      (All-map (λ key. types_of (group_row kinds (members kinds rows key)) ≡ result_kinds kinds ks) (key_of kinds) rows
-      (λ i d low. one-typed (members kinds rows (key_of kinds (get_or rows i d)))
-      (All-filter (λ row. same_row (key_of kinds (get_or rows i d)) (key_of kinds row)) (λ row. types_of row ≡ ks) rows all)
-      (has-members kinds rows i d low))))
+-- ---- groups of rows of types
 
 -- where nothing is aggregated, the types are those of what is emitted
 plain-kinds : (kinds : Kinds) (ks : List ColType) → length kinds ≡ length ks → has_aggregate kinds ≡ false → result_kinds kinds ks ≡ ks
-unfolding result_kinds
 plain-kinds [] [] e h = refl
 plain-kinds [] (k ∷ ks) e h = absurd (omega (arith, e))
 plain-kinds (kind ∷ kinds) [] e h = absurd (omega (arith, e))
@@ -236,6 +131,7 @@ plain-kinds (Some op ∷ kinds) (k ∷ ks) e h = absurd (cc)
 
 results-typed : (kinds : Kinds) (ks : List ColType) → length kinds ≡ length ks → (rows : Rows) → All (λ row. types_of row ≡ ks) rows
     → All (λ row. types_of row ≡ result_kinds kinds ks) (result_rows kinds rows)
+unfolding types_of
 results-typed kinds ks e rows all = by (has_aggregate kinds) refl
   where
     by : (b : Bool) → has_aggregate kinds ≡ b → All (λ row. types_of row ≡ result_kinds kinds ks) (cond b (groups kinds rows) rows)
@@ -243,6 +139,14 @@ results-typed kinds ks e rows all = by (has_aggregate kinds) refl
     by false h = All-weaker (λ row. types_of row ≡ ks) (λ row. types_of row ≡ result_kinds kinds ks) (λ row t. t ∙ sym (plain-kinds kinds ks e h)) rows all
 
 -- ---- the types of emitted columns
+
+-- the type of an aggregate is that of its column of groups
+aggregate-result : (op : AggOp) (k : ColType) → aggregate_kind op k ≡ result_kind (Some op) k
+aggregate-result agg.CountAll k = refl
+aggregate-result agg.Count k = refl
+aggregate-result agg.Sum k = refl
+aggregate-result agg.Min k = refl
+aggregate-result agg.Max k = refl
 
 abbrev HasKind : List ScopeColumn → Emit → Type 0
 HasKind scope e = e.kind ≡ result_kind e.aggregate (kind_of scope e.scalar)
@@ -271,8 +175,8 @@ tree-kind scope (tree.Agg op e) made is = by (scalar_of scope e) is
   where
     by : (found : Option Scalar) → option_map (aggregated scope op) found ≡ Some made → HasKind scope made
     by None k = absurd (cc)
-    by (Some s) k = let same : aggregated scope op s ≡ made = cc in subst (HasKind scope) same refl
-tree-kind scope (tree.AggAll op) made is = let same : aggregated scope op (Lit (value.Bool true)) ≡ made = cc in subst (HasKind scope) same refl
+    by (Some s) k = let same : aggregated scope op s ≡ made = cc in subst (HasKind scope) same (aggregate-result op (kind_of scope s))
+tree-kind scope (tree.AggAll op) made is = let same : aggregated scope op (Lit (value.Bool true)) ≡ made = cc in subst (HasKind scope) same (aggregate-result op kind.Bool)
 tree-kind scope (tree.Lit v) made is = scalar-tree scope (tree.Lit v) made is
 tree-kind scope (tree.Col column) made is = scalar-tree scope (tree.Col column) made is
 tree-kind scope (tree.Not e) made is = scalar-tree scope (tree.Not e) made is
@@ -328,7 +232,6 @@ schema-kinds n (e ∷ es) = ap (λ (rest : List ColType). e.kind ∷ rest) (sche
 
 emitted-kinds : (scope : List ScopeColumn) (es : List Emit) → All (HasKind scope) es
     → map (λ (e : Emit). e.kind) es ≡ result_kinds (map (λ (e : Emit). e.aggregate) es) (map (kind_of scope) (map (λ (e : Emit). e.scalar) es))
-unfolding result_kinds
 emitted-kinds scope [] all = refl
 emitted-kinds scope (e ∷ es) all =
     let first = All-head (HasKind scope) e es all in

@@ -14,7 +14,7 @@ use Rattle.rel_base.specs.Relations.{HasTypes, type_of, same_type}
 use Rattle.myrial_ast.specs.Scalars.{Scalar}
 use Rattle.myrial_ast.specs.declared.operators.AggOp.{AggOp}
 use Rattle.myrial_ast.specs.Combinations.{Row, Rows, emitted, all_hold}
-use Rattle.myrial_ast.specs.Bags.{distinct, has_row, same_row}
+use Rattle.myrial_ast.specs.Bags.{distinct, has_row}
 use Rattle.myrial_ast.specs.Groups.{Kinds, groups, group_row, keys, members}
 use Rattle.algebra.specs.declared.terms.Source.{Source}
 use Rattle.algebra.specs.declared.terms.Source.TheVariants as source
@@ -25,6 +25,7 @@ use Rattle.algebra.specs.Conditions.{emitted_kind, has_kinds, is_term, emits_col
 use Rattle.algebra.specs.ShapeConditions.{kinds_of, is_kind, kind_in, is_shape}
 use Rattle.algebra.specs.Rewriting.{AreTyped}
 use Rattle.algebra.proofs.ShapeLemmas.{both}
+use Rattle.bag_laws.proofs.TypedGroupLemmas.{All-distinct}
 use Rattle.placement.specs.Layouts.{PlacedRelation, Placing, placed_nothing, rows_of, placed_files, placed_source}
 use Rattle.placement.specs.Laws.{AreWide}
 
@@ -52,12 +53,6 @@ source-long None kinds rows h k = absurd (cc)
 source-long (Some own) kinds rows h k = subst (λ n. AllLong n rows) (pointwise-length same_type own kinds k) (h own refl)
 
 -- ---- terms
-
-pub distinct-all : (P : Row → Type 0) (rows : Rows) → All P rows → All P (distinct rows)
-distinct-all P [] all = All-nil P
-distinct-all P (r ∷ rows) all =
-    All-cons P r (filter (λ s. not (same_row r s)) (distinct rows)) (All-head P r rows all)
-    (All-filter (λ s. not (same_row r s)) P (distinct rows) (distinct-all P rows (All-tail P r rows all)))
 
 made-long : {X : Type 0} (f : X → Row) (n : ℕ) → ((x : X) → length (f x) ≡ n) → (xs : List X) → AllLong n (map f xs)
 made-long f n h [] = All-nil (λ row. length row ≡ n)
@@ -87,9 +82,9 @@ term-long known value (UnionAll s t) columns h k =
 term-long known value (Diff s t) columns h k =
     let parts = both (has_kinds (known s) columns) (has_kinds (known t) columns) k in
     All-filter (λ r. not (has_row (value t).relation.rows r)) (λ row. length row ≡ length columns) (distinct (value s).relation.rows)
-    (distinct-all (λ row. length row ≡ length columns) (value s).relation.rows (source-long (known s) columns (value s).relation.rows (h s) parts.0))
+    (All-distinct (λ row. length row ≡ length columns) (value s).relation.rows (source-long (known s) columns (value s).relation.rows (h s) parts.0))
 term-long known value (Distinct s) columns h k =
-    distinct-all (λ row. length row ≡ length columns) (value s).relation.rows (source-long (known s) columns (value s).relation.rows (h s) k)
+    All-distinct (λ row. length row ≡ length columns) (value s).relation.rows (source-long (known s) columns (value s).relation.rows (h s) k)
 term-long known value (Join shape sources) columns h k =
     let parts = three (is_shape shape) (pointwise (λ s (a : AtomTree). has_kinds (known s) a.kinds) sources shape.atoms) (pointwise (λ e k. is_kind k (kind_in (kinds_of shape) e)) shape.emits columns) k in
     let rows = listed_of shape (map (λ o. (value o).relation.rows) sources) in

@@ -21,6 +21,7 @@ use Rattle.algebra.specs.Meanings.{sources_of}
 use Rattle.algebra.specs.Rewriting.{AreTables}
 use Rattle.algebra.proofs.ShapeLemmas.{both}
 use Rattle.algebra.proofs.TypeLemmas.{same_type-itself, typed-fits}
+use Rattle.bag_laws.proofs.TypedGroupLemmas.{AreOf}
 use Rattle.placement.specs.Layouts.{PlacedRelation, Placing, rows_of, placed_file, placed_nothing, placed_files, placed_source, placed_step, placed_steps}
 use Rattle.placement.specs.Laws.{HasReadyItems}
 use Rattle.placement.proofs.WidthLemmas.{three}
@@ -32,7 +33,7 @@ use Rattle.run_laws.specs.Scripts.{ScriptsAreOfSteps, FilesAreMeant, ResultsAreF
 use Rattle.run_laws.proofs.SourceLemmas.{in_front, behind, map-same}
 use Rattle.run_laws.proofs.MeantLemmas.{IsUpTo, AreInOrder, checked-order, found-stays, meant-related, steps_are_meant, faults_are_of_steps}
 use Rattle.run_laws.proofs.RewrittenLemmas.{needed-own}
-use Rattle.run_laws.proofs.TypeLemmas.{AreOf, Knows, one-source, term-typed, nothing-known, more-known}
+use Rattle.run_laws.proofs.TypeLemmas.{Knows, one-source, term-typed, nothing-known, more-known}
 
 -- ---- plan, exchanges and stores
 
