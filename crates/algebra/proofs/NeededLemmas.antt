@@ -1,10 +1,9 @@
 -- The steps that are computed as needed are those that the rule says.
-use Rattle.std.proofs.Common.{◌≡◌, ℕ, zero, suc, ◌<◌, ◌≤◌, ◌==◌, Bool, true, false, cond, List, [], ◌∷◌, refl, sym, ◌∙◌, ap, subst, arith, Option, Some, None, option_map, ◌⊎◌, inl, inr}
+use Rattle.std.proofs.Common.{◌≡◌, ℕ, ◌<◌, ◌≤◌, ◌==◌, Bool, true, false, cond, List, [], ◌∷◌, refl, sym, ◌∙◌, ap, subst, arith, Option, Some, None, option_map, ◌⊎◌, inl, inr}
 use Rattle.std.specs.Prelude.{Contains, ⊤, ◌&&◌, ◌||◌, find, is_some, nat_lt}
 use Rattle.std.specs.List.{list_any}
 use Rattle.std.specs.Cmp.Lexicographic.{pointwise}
 use Rattle.std.proofs.lemmas.Bool.{eqb-true, ltb-true}
-use Rattle.std.proofs.lemmas.List.Elements.{Contains-append_cases, Contains-append_right}
 use Rattle.rel_base.specs.declared.values.ColType.{ColType}
 use Rattle.rel_base.specs.Keys.{File}
 use Rattle.algebra.specs.declared.terms.Source.{Source}
@@ -16,6 +15,7 @@ use Rattle.algebra.specs.Conditions.{kinds_of_columns, source_kinds, has_kinds, 
 use Rattle.algebra.specs.Meanings.{sources_of, is_result, uses, is_used, needed_steps}
 use Rattle.algebra.specs.Needed.{IsNeeded, stored, used, NeededByRule, NeededIsNeeded}
 use Rattle.algebra.proofs.ShapeLemmas.{both}
+use Rattle.algebra.proofs.MemberLemmas.{in_front, behind, first_or_behind, nothing_in_none, any-of}
 
 -- ---- lists
 
@@ -24,25 +24,6 @@ either true b h = inl refl
 either false b h = inr h
 
 module _ {X : Type 0} where
-  in_front : (x : X) (xs : List X) → Contains (x ∷ xs) x
-  in_front x xs = (0, omega arith, refl)
-
-  behind : (x : X) (xs : List X) (y : X) → Contains xs y → Contains (x ∷ xs) y
-  behind x xs y h = Contains-append_right (x ∷ []) xs y h
-
-  only_one : (x y : X) → Contains (x ∷ []) y → x ≡ y
-  only_one x y (zero, within, e) = e
-  only_one x y (suc k, within, e) = absurd (omega arith)
-
-  first_or_behind : (x : X) (xs : List X) (y : X) → Contains (x ∷ xs) y → (x ≡ y) ⊎ Contains xs y
-  first_or_behind x xs y h = elim (Contains-append_cases (x ∷ []) xs y h) [
-    | inl one ↦ inl (only_one x y one)
-    | inr others ↦ inr others
-  ]
-
-  nothing_in_none : (y : X) → Contains [] y → ⊥
-  nothing_in_none y (k, within, e) = omega arith
-
   -- a test that some item passes
   any-found : (p : X → Bool) (xs : List X) → list_any p xs ≡ true → (x : X) × Contains xs x × (p x ≡ true)
   any-found p [] h = cc
@@ -50,21 +31,6 @@ module _ {X : Type 0} where
     | inl here ↦ (x, in_front x xs, here)
     | inr later ↦ let found = any-found p xs later in (found.0, behind x xs found.0 found.1, found.2)
   ]
-
-  any-of : (p : X → Bool) (xs : List X) (x : X) → Contains xs x → p x ≡ true → list_any p xs ≡ true
-  any-of p [] x h e = absurd (nothing_in_none x h)
-  any-of p (y ∷ ys) x h e = elim (first_or_behind y ys x h) [
-    | inl same ↦ left (p y) (list_any p ys) (ap p same ∙ e)
-    | inr others ↦ right (p y) (list_any p ys) (any-of p ys x others e)
-  ]
-    where
-      left : (a b : Bool) → a ≡ true → (a || b) ≡ true
-      left true b k = refl
-      left false b k = cc
-
-      right : (a b : Bool) → b ≡ true → (a || b) ≡ true
-      right true b k = refl
-      right false b k = k
 
 -- ---- numbers rise, and sources are of lower numbers
 
@@ -163,7 +129,7 @@ in_order files last earlier (s ∷ rest) low h =
 
 module _ (stores : List StoreStep) where
   -- the needed ones of the steps stand among them
-  needed-among : (steps : List StepTree) (x : StepTree) → Contains (needed_steps stores steps) x → Contains steps x
+  pub needed-among : (steps : List StepTree) (x : StepTree) → Contains (needed_steps stores steps) x → Contains steps x
   needed-among [] x h = h
   needed-among (s ∷ rest) x h = by (is_used s.statement stores (needed_steps stores rest)) (needed-among rest x) h
     where

@@ -36,14 +36,15 @@ module _ (p : Placing) (files : List File) where
       by true rest = refl
       by false rest = rest
 
-  source-same : (results : List (ℕ × PlacedRelation)) (o : Source) → (placed_source p files results o).relation ≡ found no_relation (relations_of files) (unplaced results) o
+  -- what a source has is what the script has of it
+  pub source-same : (results : List (ℕ × PlacedRelation)) (o : Source) → (placed_source p files results o).relation ≡ found no_relation (relations_of files) (unplaced results) o
   source-same results (source.File place) = file-same files place
   source-same results (source.Result number) = result-same results number
 
   step-same : (results : List (ℕ × PlacedRelation)) (s : StepTree) → (placed_step p files results s).relation ≡ step_relation files (unplaced results) s
   step-same results s = λ i. record { schema = s.schema; rows = term_rows (λ o. (source-same results o i).rows) s.term }
 
-  steps-same : (steps : List StepTree) (results : List (ℕ × PlacedRelation))
+  pub steps-same : (steps : List StepTree) (results : List (ℕ × PlacedRelation))
       → unplaced (fold (λ before (s : StepTree). (s.statement, placed_step p files before s) ∷ before) results steps)
       ≡ fold (λ before (s : StepTree). (s.statement, step_relation files before s) ∷ before) (unplaced results) steps
   steps-same [] results = refl

@@ -7,9 +7,9 @@ use Rattle.rel_base.specs.Keys.{File}
 use Rattle.algebra.specs.declared.terms.Source.{Source}
 use Rattle.algebra.specs.declared.terms.Source.TheVariants as source
 use Rattle.algebra.specs.Trees.{StepTree}
+use Rattle.algebra.proofs.MemberLemmas.{first_or_behind, nothing_in_none}
 use Rattle.run_laws.specs.Values.{IsKnown}
 use Rattle.run_laws.specs.Rewritten.{numbers_of}
-use Rattle.run_laws.proofs.SourceLemmas.{first_or_behind, nothing_in_none}
 
 -- whatever holds of files and of the results of steps holds of what is known
 pub known-each : (P : Source → Type 0) (files : List File) → ((place : ℕ) → place < length files → P (source.File place))

@@ -1,6 +1,6 @@
 -- A step's result is its term over what its sources stand for, whatever steps come later, and so is its fault.
-use Rattle.std.proofs.Common.{◌≡◌, ℕ, zero, suc, ◌<◌, ◌≤◌, ◌==◌, Bool, true, false, cond, List, [], ◌∷◌, map, refl, sym, ◌∙◌, ap, arith, Option, Some, None, inl, inr}
-use Rattle.std.specs.Prelude.{All, Contains, IsTrue, ⊤, find, fold, is_some, nat_lt, option_map, slice_index_or, unwrap_or}
+use Rattle.std.proofs.Common.{◌≡◌, ℕ, ◌<◌, ◌≤◌, ◌==◌, Bool, true, false, cond, List, [], ◌∷◌, map, refl, sym, ◌∙◌, ap, arith, Option, Some, None, inl, inr}
+use Rattle.std.specs.Prelude.{All, Contains, IsTrue, ⊤, find, fold, is_some, nat_lt, option_map, unwrap_or}
 use Rattle.std.proofs.lemmas.Bool.{eqb-true, eq-eqb, ltb-true}
 use Rattle.std.proofs.lemmas.List.Elements.{All-nil, All-cons, All-head, All-tail, All-weaker}
 use Rattle.rel_base.specs.declared.faults.RunFault.{RunFault}
@@ -13,13 +13,14 @@ use Rattle.algebra.specs.declared.terms.Source.TheVariants as source
 use Rattle.algebra.specs.declared.terms.StoreStep.{StoreStep}
 use Rattle.algebra.specs.Trees.{StepTree, CheckedTree}
 use Rattle.algebra.specs.Conditions.{kinds_of_columns, source_kinds, is_term, are_steps, is_of}
-use Rattle.algebra.specs.Meanings.{found, sources_of, term_rows, term_fault, is_used, needed_steps, first_fault, no_relation, relations_of, step_relation, step_relations}
+use Rattle.algebra.specs.Meanings.{found, sources_of, term_fault, is_used, needed_steps, first_fault, no_relation, relations_of, step_relation, step_relations}
+use Rattle.algebra.proofs.MemberLemmas.{first_or_behind, nothing_in_none}
 use Rattle.placement.specs.Layouts.{PlacedRelation, Placing, placed_nothing, placed_files, placed_source, placed_step, placed_steps}
 use Rattle.placement.proofs.WidthLemmas.{three}
 use Rattle.placement.proofs.ScriptLemmas.{checked-steps}
-use Rattle.placement.proofs.StoredLemmas.{unplaced}
+use Rattle.placement.proofs.StoredLemmas.{source-same, steps-same}
 use Rattle.run_laws.specs.Values.{IsKnown, meant, result_of, first_of, step_fault, StepsAreMeant, FaultsAreOfSteps}
-use Rattle.run_laws.proofs.SourceLemmas.{first_or_behind, nothing_in_none, term-known, fault-same, placed_rows-same, parts-same}
+use Rattle.run_laws.proofs.SourceLemmas.{term-known, fault-same, placed_rows-same, parts-same}
 
 -- ---- numbers rise, and sources are files or of lower numbers
 
@@ -197,53 +198,11 @@ module _ (rules : ℕ → FaultRule) (files : List File) (stores : List StoreSte
 
 -- ---- the relations of what is placed
 
-module _ (p : Placing) (files : List File) where
-  file-same : (lent : List File) (place : ℕ)
-      → (slice_index_or (placed_files p lent) place (placed_nothing p.workers)).relation
-      ≡ slice_index_or (relations_of lent) place no_relation
-  file-same [] place = refl
-  file-same (f ∷ lent) zero = refl
-  file-same (f ∷ lent) (suc place) = file-same lent place
-
-  result-same : (results : List (ℕ × PlacedRelation)) (number : ℕ)
-      → (placed_source p files results (source.Result number)).relation
-      ≡ found no_relation (relations_of files) (unplaced results) (source.Result number)
-  result-same [] number = refl
-  result-same (r ∷ results) number = by (r.0 == number) (result-same results number)
-    where
-      by : (b : Bool)
-          → (placed_source p files results (source.Result number)).relation
-          ≡ found no_relation (relations_of files) (unplaced results) (source.Result number)
-          → (unwrap_or (option_map (λ (r : ℕ × PlacedRelation). r.1)
-          (cond b (Some r) (find (λ (r : ℕ × PlacedRelation). r.0 == number) results))) (placed_nothing p.workers)).relation
-          ≡ unwrap_or (option_map (λ (r : ℕ × RelationState). r.1)
-          (cond b (Some (r.0, r.1.relation)) (find (λ (r : ℕ × RelationState). r.0 == number) (unplaced results)))) no_relation
-      by true rest = refl
-      by false rest = rest
-
-  pub source-same : (results : List (ℕ × PlacedRelation)) (o : Source)
-      → (placed_source p files results o).relation ≡ found no_relation (relations_of files) (unplaced results) o
-  source-same results (source.File place) = file-same files place
-  source-same results (source.Result number) = result-same results number
-
-  relation-same : (results : List (ℕ × PlacedRelation)) (s : StepTree) → (placed_step p files results s).relation
-      ≡ step_relation files (unplaced results) s
-  relation-same results s = λ i. record { schema = s.schema; rows = term_rows (λ o. (source-same results o i).rows) s.term }
-
-  pub steps-related : (steps : List StepTree) (results : List (ℕ × PlacedRelation))
-      → unplaced (fold (λ before (s : StepTree). (s.statement, placed_step p files before s) ∷ before) results steps)
-      ≡ fold (λ before (s : StepTree). (s.statement, step_relation files before s) ∷ before) (unplaced results) steps
-  steps-related [] results = refl
-  steps-related (s ∷ steps) results =
-      steps-related steps ((s.statement, placed_step p files results s) ∷ results)
-      ∙ (λ i. fold (λ before (s : StepTree). (s.statement, step_relation files before s) ∷ before)
-      ((s.statement, relation-same results s i) ∷ unplaced results) steps)
-
 pub meant-related : (p : Placing) (files : List File) (c : CheckedTree) (o : Source)
     → (meant p files c o).relation ≡ found no_relation (relations_of files) (step_relations files c.steps) o
 meant-related p files c o =
     source-same p files (placed_steps p files c.steps) o ∙ ap (λ results. found no_relation (relations_of files) results o)
-    (steps-related p files c.steps [])
+    (steps-same p files c.steps [])
 
 pub faults_are_of_steps : FaultsAreOfSteps
 faults_are_of_steps p files c h rules =

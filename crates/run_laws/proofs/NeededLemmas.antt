@@ -2,7 +2,7 @@
 use Rattle.std.proofs.Common.{◌≡◌, ℕ, Bool, true, false, cond, List, [], ◌∷◌, ◌++◌, map, refl, sym, ◌∙◌, ap, subst, ◌⊎◌, inl, inr, get_or}
 use Rattle.std.specs.Prelude.{All, Contains, IsTrue, filter, nat_lt}
 use Rattle.std.specs.List.{list_all, list_any}
-use Rattle.std.proofs.lemmas.Bool.{eq-eqb, eqb-true, or_left, or_right}
+use Rattle.std.proofs.lemmas.Bool.{eq-eqb, eqb-true, or_right}
 use Rattle.std.proofs.lemmas.List.Elements.{All-nil, All-cons, All-weaker, Contains-get_or, Contains-append_right}
 use Rattle.rel_base.specs.Keys.{File}
 use Rattle.algebra.specs.declared.terms.Source.{Source}
@@ -14,17 +14,11 @@ use Rattle.algebra.specs.Meanings.{is_result, is_used, needed_steps, sources_of,
 use Rattle.algebra.specs.Needed.{stored}
 use Rattle.algebra.proofs.ShapeLemmas.{both}
 use Rattle.algebra.proofs.NeededLemmas.{needed_by_rule}
+use Rattle.algebra.proofs.MemberLemmas.{in_front, behind, first_or_behind, nothing_in_none, any-of}
 use Rattle.placement.proofs.WidthLemmas.{three}
 use Rattle.placement.proofs.ScriptLemmas.{checked-steps}
 use Rattle.run_laws.specs.Values.{IsKnown, NeededAreOverNeeded, StoresAreOverNeeded}
-use Rattle.run_laws.proofs.SourceLemmas.{in_front, behind, first_or_behind, nothing_in_none, some-known, term-known}
-
-any-of : {X : Type 0} (p : X → Bool) (xs : List X) (x : X) → Contains xs x → p x ≡ true → list_any p xs ≡ true
-any-of p [] x h e = absurd (nothing_in_none x h)
-any-of p (y ∷ ys) x h e = elim (first_or_behind y ys x h) [
-  | inl same ↦ or_left (p y) (list_any p ys) (ap p same ∙ e)
-  | inr others ↦ or_right (p y) (list_any p ys) (any-of p ys x others e)
-]
+use Rattle.run_laws.proofs.SourceLemmas.{some-known, term-known}
 
 -- ---- the sources of needed steps
 

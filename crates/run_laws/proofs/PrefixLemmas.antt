@@ -8,14 +8,14 @@ use Rattle.std.proofs.lemmas.List.Elements.{All-filter}
 use Rattle.std.proofs.lemmas.List.FromFn.{length-enumerate_from}
 use Rattle.hash_partition.specs.Hashing.{home_of}
 use Rattle.myrial_ast.specs.Combinations.{Row, Rows}
-use Rattle.myrial_ast.specs.KeptRows.{passes_within, span_of_item, span_of_prefix, put_at}
+use Rattle.myrial_ast.specs.KeptRows.{passes_within, span_of_item, put_at}
 use Rattle.algebra.specs.Trees.{Shape}
 use Rattle.algebra.specs.Shapes.{widths_of, tests_of, ties_of, kept_of, prefix_of}
 use Rattle.placement.specs.Layouts.{prefix_key, item_key}
 use Rattle.placement.specs.Laws.{AreWide, extended, prefix_is_at, item_is_at}
 use Rattle.bag_laws.proofs.PartialLemmas.{filter-inside}
-use Rattle.placement.proofs.PrefixLemmas.{combined-before, prefixes_meet_by_key}
-use Rattle.placement.proofs.ReceivedLemmas.{alone}
+use Rattle.placement.proofs.PrefixLemmas.{prefixes_meet_by_key}
+use Rattle.placement.proofs.ReceivedLemmas.{prefix-one}
 use Rattle.placement.proofs.ScriptLemmas.{home_of-lt}
 
 -- the test of the kept rows of an atom
@@ -95,11 +95,6 @@ extended-all shape i tables wide some low =
   where
     here : (home : ℕ) → home < 1 → (home == 0) ≡ true
     here home l = grind (arith, nat_tests, l)
-
-prefix-one : (shape : Shape) (rows : Rows) (tables : List Rows) → prefix_of shape 1 (rows ∷ tables) ≡ kept_of shape 0 rows
-prefix-one shape rows tables =
-    ap (filter (passes_within (tests_of shape) (ties_of shape) (span_of_prefix (widths_of shape) 1)))
-    (combined-before ([] ∷ []) rows ∙ alone rows)
 
 prefixes-kept : (shape : Shape) (i : ℕ) (tables : List Rows) → AreWide (widths_of shape) tables → suc i ≤ length tables
     → prefix_of shape (suc i) tables ≡ prefix_of shape (suc i) (kept_from shape 0 tables)

@@ -11,9 +11,10 @@ use Rattle.algebra.specs.Trees.{TermTree, Same, Empty, UnionAll, Diff, Distinct,
 use Rattle.algebra.specs.Conditions.{is_of}
 use Rattle.algebra.specs.Meanings.{sources_of, is_used, needed_steps}
 use Rattle.algebra.specs.Rewriting.{IsSameTerm, IsSameStep, AreSameSteps, no_step, a_step}
+use Rattle.algebra.proofs.MemberLemmas.{first_or_behind, nothing_in_none}
+use Rattle.algebra.proofs.NeededLemmas.{needed-among}
 use Rattle.run_laws.specs.Values.{IsKnown}
 use Rattle.run_laws.specs.Rewritten.{needed, numbers_of, StepsByPlace, NumbersRise, RewrittenAreKept}
-use Rattle.run_laws.proofs.SourceLemmas.{in_front, behind, first_or_behind, nothing_in_none}
 use Rattle.run_laws.proofs.MeantLemmas.{AreInOrder, checked-order}
 use Rattle.run_laws.proofs.NeededLemmas.{needed_are_over_needed, stores_are_over_needed}
 
@@ -92,18 +93,6 @@ module _ (stores : List StoreStep) where
           → AreRising last (cond b (s ∷ needed_steps stores rest) (needed_steps stores rest))
       by true later = (rising.0, later)
       by false later = rising-from (needed_steps stores rest) s.statement last (omega (arith, rising.0)) later
-
-  needed-among : (steps : List StepTree) (x : StepTree) → Contains (needed_steps stores steps) x → Contains steps x
-  needed-among [] x h = h
-  needed-among (s ∷ rest) x h = by (is_used s.statement stores (needed_steps stores rest)) (needed-among rest x) h
-    where
-      by : (t : Bool) → (Contains (needed_steps stores rest) x → Contains rest x)
-          → Contains (cond t (s ∷ needed_steps stores rest) (needed_steps stores rest)) x → Contains (s ∷ rest) x
-      by true among k = elim (first_or_behind s (needed_steps stores rest) x k) [
-        | inl same ↦ subst (Contains (s ∷ rest)) same (in_front s rest)
-        | inr others ↦ behind s rest x (among others)
-      ]
-      by false among k = behind s rest x (among k)
 
   needed-few : (steps : List StepTree) → length (needed_steps stores steps) ≤ length steps
   needed-few [] = omega arith

@@ -21,6 +21,7 @@ use Rattle.algebra.specs.Meanings.{sources_of}
 use Rattle.algebra.specs.Rewriting.{AreTables}
 use Rattle.algebra.proofs.ShapeLemmas.{both}
 use Rattle.algebra.proofs.TypeLemmas.{same_type-itself, typed-fits}
+use Rattle.algebra.proofs.MemberLemmas.{in_front, behind}
 use Rattle.bag_laws.proofs.TypedGroupLemmas.{AreOf}
 use Rattle.placement.specs.Layouts.{PlacedRelation, Placing, rows_of, placed_file, placed_nothing, placed_files, placed_source, placed_step, placed_steps}
 use Rattle.placement.specs.Laws.{HasReadyItems}
@@ -30,7 +31,7 @@ use Rattle.placement.proofs.ReadyLemmas.{joins_are_ready}
 use Rattle.run_laws.specs.Values.{meant, rows_meant, result_of, step_fault, first_of}
 use Rattle.run_laws.specs.Rewritten.{needed}
 use Rattle.run_laws.specs.Scripts.{ScriptsAreOfSteps, FilesAreMeant, ResultsAreFound, FaultsAreFirst, AreRowsOf, HasTypedSources, NeededAreMeant}
-use Rattle.run_laws.proofs.SourceLemmas.{in_front, behind, map-same}
+use Rattle.run_laws.proofs.SourceLemmas.{map-same}
 use Rattle.run_laws.proofs.MeantLemmas.{IsUpTo, AreInOrder, checked-order, found-stays, meant-related, steps_are_meant, faults_are_of_steps}
 use Rattle.run_laws.proofs.RewrittenLemmas.{needed-own}
 use Rattle.run_laws.proofs.TypeLemmas.{Knows, one-source, term-typed, nothing-known, more-known}

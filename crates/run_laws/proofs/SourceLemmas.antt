@@ -1,9 +1,9 @@
 -- The sources of a well-formed term are known, and a term over them is the same wherever they stand for the same.
-use Rattle.std.proofs.Common.{◌≡◌, ℕ, zero, suc, ◌<◌, ◌==◌, Bool, true, false, cond, List, [], ◌∷◌, ◌++◌, map, length, refl, ap, subst, arith, Option, Some, None, ◌⊎◌, inl, inr}
+use Rattle.std.proofs.Common.{◌≡◌, ℕ, zero, suc, ◌<◌, ◌==◌, Bool, true, false, cond, List, [], ◌∷◌, ◌++◌, map, length, refl, ap, subst, arith, Option, Some, None}
 use Rattle.std.specs.Prelude.{All, Contains, ◌&&◌, find, is_some, option_map, slice_get}
 use Rattle.std.specs.Cmp.Lexicographic.{pointwise}
 use Rattle.std.proofs.lemmas.Bool.{eqb-true}
-use Rattle.std.proofs.lemmas.List.Elements.{All-nil, All-cons, All-head, All-tail, All-weaker, Contains-append_cases, Contains-append_right}
+use Rattle.std.proofs.lemmas.List.Elements.{All-nil, All-cons, All-head, All-tail, All-weaker}
 use Rattle.rel_base.specs.declared.values.ColType.{ColType}
 use Rattle.rel_base.specs.declared.faults.RunFault.TheVariants as fault
 use Rattle.rel_base.specs.Keys.{File}
@@ -19,31 +19,10 @@ use Rattle.algebra.specs.ShapeConditions.{is_shape}
 use Rattle.algebra.specs.Conditions.{kinds_of_columns, source_kinds, has_kinds, is_term}
 use Rattle.algebra.specs.Meanings.{sources_of, term_rows, shape_fault, term_fault}
 use Rattle.algebra.proofs.ShapeLemmas.{both}
+pub use Rattle.algebra.proofs.MemberLemmas.{in_front, behind, first_or_behind, nothing_in_none}
 use Rattle.placement.specs.Layouts.{PlacedRelation, Placing, by_worker, part, parts_by_row, parts_by_key, listed_parts, term_parts}
 use Rattle.placement.proofs.WidthLemmas.{three}
 use Rattle.run_laws.specs.Values.{IsKnown}
-
--- ---- what a list has
-
-module _ {X : Type 0} where
-  pub in_front : (x : X) (xs : List X) → Contains (x ∷ xs) x
-  in_front x xs = (0, omega arith, refl)
-
-  pub behind : (x : X) (xs : List X) (y : X) → Contains xs y → Contains (x ∷ xs) y
-  behind x xs y h = Contains-append_right (x ∷ []) xs y h
-
-  only_one : (x y : X) → Contains (x ∷ []) y → x ≡ y
-  only_one x y (zero, within, e) = e
-  only_one x y (suc k, within, e) = absurd (omega arith)
-
-  pub first_or_behind : (x : X) (xs : List X) (y : X) → Contains (x ∷ xs) y → (x ≡ y) ⊎ Contains xs y
-  first_or_behind x xs y h = elim (Contains-append_cases (x ∷ []) xs y h) [
-    | inl one ↦ inl (only_one x y one)
-    | inr others ↦ inr others
-  ]
-
-  pub nothing_in_none : (y : X) → Contains [] y → ⊥
-  nothing_in_none y (k, within, e) = omega arith
 
 -- ---- sources are known
 
