@@ -1,9 +1,9 @@
 //! What is made of a group: its row, its partial row, or the row of merged partial rows.
 ghost use Rattle.std.specs.Prelude.{◌≡◌, ◌+◌, ◌*◌, ◌<◌, ◌^◌, ◌++◌, ◌∷◌, [], ◌+ℤ◌, ◌*ℤ◌, ◌≤ℤ◌, neg_ℤ, pos, length, map, OnOk, IfOk, IfErr, true};
 ghost use Rattle.rel_base.specs.declared.values.Value.TheVariants as variant;
-ghost use Rattle.rel_base.specs.Values.{number_of, in_64_bits};
+ghost use Rattle.rel_base.specs.Values.{in_64_bits};
 ghost use Rattle.myrial_ast.specs.Groups.{cell, group_row};
-ghost use Rattle.myrial_ast.specs.Partials.{high, low, split_sums, whole_sums, partial_kinds};
+ghost use Rattle.myrial_ast.specs.Partials.{high, low, split_sums};
 ghost use Rattle.algebra.specs.Trees.{kind_of_emit};
 ghost use Rattle.aggregate_ops.specs.Columns.{cells, column, Overflows};
 ghost use Rattle.aggregate_ops.specs.Forms.{formed, form_fits, grouped_kinds, sums_in, added_in};

@@ -1,5 +1,5 @@
 //! Runs: the rows with one key, where rows stand in the order of their keys.
-ghost use Rattle.std.specs.Prelude.{◌≡◌, ◌<◌, IsTrue, IfSome, IsSorted, map, length};
+ghost use Rattle.std.specs.Prelude.{◌<◌, IsTrue, IfSome, IsSorted, map, length};
 ghost use Rattle.rel_base.specs.Values.{row_order};
 ghost use Rattle.packed_rows.specs.Unpacked.{unpacked_row};
 ghost use Rattle.packed_rows.specs.Runs.{IsRun};

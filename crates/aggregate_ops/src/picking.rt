@@ -1,5 +1,5 @@
 //! The rows of the values that rows emit by picks, which are columns and literals.
-ghost use Rattle.std.specs.Prelude.{◌≡◌, ◌<◌, ◌^◌, ◌++◌, IsTrue, IfOk, OnOk, map, length, true};
+ghost use Rattle.std.specs.Prelude.{◌≡◌, ◌<◌, ◌++◌, IsTrue, IfOk, OnOk, map, true};
 ghost use Rattle.std.specs.List.{list_all};
 ghost use Rattle.rel_base.specs.Values.{number_of, in_64_bits};
 ghost use Rattle.myrial_ast.specs.Scalars.{exact_value, fits};

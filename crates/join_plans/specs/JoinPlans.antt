@@ -16,7 +16,7 @@ use Rattle.myrial_ast.specs.Combinations.{Rows}
 use Rattle.algebra.specs.Trees.{Shape}
 use Rattle.algebra.specs.Shapes.{is_acyclic_shape}
 use Rattle.share_chooser.specs.Best.{best_shares}
-use Rattle.placement.specs.Layouts.{PlacedRelation, Shuffle, ByCells, ByKeys, Broadcast, is_most, staying_atom, rows_of, reduced_items, joined_items}
+use Rattle.placement.specs.Layouts.{PlacedRelation, Shuffle, ByCells, Broadcast, is_most, staying_atom, rows_of, reduced_items, joined_items}
 use Rattle.placement.specs.Plans.{ShuffleRule, LeastLoad, Fixed, fitting_shuffle, uses_of, kept_sizes, ruled_shuffle}
 use Rattle.placement.specs.Choices.{shuffle_of}
 use Rattle.fragmenter.specs.Plans as plans

@@ -1,4 +1,4 @@
-use Rattle.std.proofs.Common.{◌≡◌, ◌∙◌, ℕ, length, sym, ap, subst, arith}
+use Rattle.std.proofs.Common.{◌∙◌, ℕ, length, sym, ap, subst, arith}
 use Rattle.rel_io.specs.declared.taps.Totals.{Totals}
 use Rattle.share_chooser.specs.Load.{IsShareVector}
 use Rattle.share_chooser.specs.Shares.{shares_of}
