@@ -1,21 +1,20 @@
 -- The equalities that variables make: where they hold, and what columns they make one class of.
 use Rattle.std.proofs.Common.{◌≡◌, ◌∙◌, ℕ, zero, suc, ◌+◌, ◌-◌, ◌<◌, ◌≤◌, ◌==◌, Bool, true, false, cond, not, List, [], ◌∷◌, ◌++◌, map, refl, sym, ap, subst, arith, Option, Some, None}
-use Rattle.std.specs.Prelude.{◌&&◌, ◌||◌, ⊤, All, Contains, filter, nat_le, nat_lt, unwrap_or}
+use Rattle.std.specs.Prelude.{◌&&◌, ◌||◌, filter, nat_le, nat_lt, unwrap_or}
 use Rattle.std.specs.List.{flat_map, list_all, list_any, range_with_len}
 use Rattle.std.specs.Ordering.{is_eq}
 use Rattle.std.proofs.lemmas.Bool.{and_from, and_parts, eq-eqb, eqb-true, le-leb, lt-ltb, not-true, or_from, or_left, or_parts, or_right}
 use Rattle.std.proofs.lemmas.Bool.Decides.{nat_tests}
-use Rattle.std.proofs.lemmas.List.Elements.{All-head, All-tail, All-weaker, All-contains_itself}
 use Rattle.std.proofs.lemmas.List.Folds.{list_any-append}
 use Rattle.rel_base.specs.declared.values.Value.{Value}
 use Rattle.rel_base.specs.Values.{value_order}
-use Rattle.myrial_ast.specs.Classes.{equality, here, along, leader, same_class}
+use Rattle.myrial_ast.specs.Classes.{equality, leader, same_class}
 use Rattle.myrial_ast.specs.Combinations.{Row, all_hold}
 use Rattle.myrial_ast.specs.KeptRows.{Span, classes_agree, columns_in, lies_in, reads_within}
 use Rattle.myrial_ast.specs.Scalars.{Scalar, holds, value_at}
-use Rattle.myrial_ast.proofs.ClassLemmas.{linked_where_same_class}
 use Rattle.algebra.specs.ShapeConditions.{all_different}
 use Rattle.algebra.specs.Shapes.{tie_test, ties_in}
+use Rattle.algebra.proofs.ClassLemmas.{Alike, class-colour, own-leader, range-all}
 use Rattle.algebra.proofs.ShapeLemmas.{equality-is, tie-holds, tied-value}
 use Rattle.plan_rewrite.specs.inner.Pushing.{are_tied, is_among, is_tied, share_variable, ties_within}
 use Rattle.plan_rewrite.proofs.ListLemmas.{Each, all-passing, all-spread, all-where, each-apart, each-append, each-both, each-filter, each-map, each-of, same-truth}
@@ -78,11 +77,6 @@ module _ {V : Type 0} (Has : V → ℕ → Type 0) (test : Scalar → Bool) (sam
 
 -- ---- pairs
 
--- of each pair the two columns have one value
-abbrev pub Alike : {V : Type 0} → (ℕ → V) → List (ℕ × ℕ) → Type 0
-Alike f [] = ⊤
-Alike f (p ∷ pairs) = (f p.0 ≡ f p.1) × Alike f pairs
-
 alike-apart : {V : Type 0} (f : ℕ → V) (a b : List (ℕ × ℕ)) → Alike f (a ++ b) → Alike f a × Alike f b
 alike-apart f [] b h = (tt, h)
 alike-apart f (p ∷ a) b h = let rest = alike-apart f a b h.1 in ((h.0, rest.0), rest.1)
@@ -90,30 +84,6 @@ alike-apart f (p ∷ a) b h = let rest = alike-apart f a b h.1 in ((h.0, rest.0)
 alike-append : {V : Type 0} (f : ℕ → V) (a b : List (ℕ × ℕ)) → Alike f a → Alike f b → Alike f (a ++ b)
 alike-append f [] b g h = h
 alike-append f (p ∷ a) b g h = (g.0, alike-append f a b g.1 h)
-
-leader-value : {V : Type 0} (f : ℕ → V) (pairs : List (ℕ × ℕ)) → Alike f pairs → (c : ℕ) → f (leader pairs c) ≡ f c
-leader-value f [] h c = refl
-leader-value f (p ∷ pairs) h c = by (leader pairs c == leader pairs p.1) refl (leader-value f pairs h.1 c) (leader-value f pairs h.1 p.0) (leader-value f pairs h.1 p.1)
-  where
-    by : (t : Bool) → (leader pairs c == leader pairs p.1) ≡ t → f (leader pairs c) ≡ f c → f (leader pairs p.0) ≡ f p.0 → f (leader pairs p.1) ≡ f p.1
-        → f (cond t (leader pairs p.0) (leader pairs c)) ≡ f c
-    by true e own left right = left ∙ h.0 ∙ sym right ∙ ap f (sym (eqb-true (leader pairs c) (leader pairs p.1) e)) ∙ own
-    by false e own left right = own
-
--- columns of one class have one value
-class-value : {V : Type 0} (f : ℕ → V) (pairs : List (ℕ × ℕ)) → Alike f pairs → (a b : ℕ) → same_class pairs a b ≡ true → f a ≡ f b
-class-value f pairs h a b e = sym (leader-value f pairs h a) ∙ ap f (eqb-true (leader pairs a) (leader pairs b) e) ∙ leader-value f pairs h b
-
--- each pair is within its own class
-alike-All : {V : Type 0} (f : ℕ → V) (pairs : List (ℕ × ℕ)) → All (λ p. f p.0 ≡ f p.1) pairs → Alike f pairs
-alike-All f [] h = tt
-alike-All f (p ∷ pairs) h = (All-head (λ p. f p.0 ≡ f p.1) p pairs h, alike-All f pairs (All-tail (λ p. f p.0 ≡ f p.1) p pairs h))
-
-own-leader : (pairs : List (ℕ × ℕ)) → Alike (leader pairs) pairs
-own-leader pairs =
-    alike-All (leader pairs) pairs
-    (All-weaker (Contains pairs) (λ p. leader pairs p.0 ≡ leader pairs p.1)
-    (λ p m. eqb-true (leader pairs p.0) (leader pairs p.1) ((linked_where_same_class pairs p.0 p.1).0 (along p.0 p.1 p.1 m (here p.1)))) pairs (All-contains_itself pairs))
 
 -- the columns of a variable whose pairs are alike have one value
 ties-one : {V : Type 0} (f : ℕ → V) (d : V) (cs : List ℕ) → Alike f (ties_in cs) → OneValue f cs
@@ -151,11 +121,6 @@ pub each-holding : (row : Row) (variables : List (List ℕ)) → all_hold (map t
 each-holding row variables h = each-one (value_at row) (value_at row 0) (λ v. v) variables (holding-alike row (flat_map ties_in variables) h)
 
 -- ---- ranges
-
-range-all : (f : ℕ → Bool) (a n : ℕ) → ((c : ℕ) → a ≤ c → c < a + n → f c ≡ true) → list_all f (range_with_len a n) ≡ true
-range-all f a zero h = refl
-range-all f a (suc n) h =
-    and_from (f a) (list_all f (range_with_len (a + 1) n)) (h a (omega arith) (omega arith)) (range-all f (a + 1) n (λ c l m. h c (omega (arith, l)) (omega (arith, m))))
 
 all-range : (f : ℕ → Bool) (a n : ℕ) → list_all f (range_with_len a n) ≡ true → (c : ℕ) → a ≤ c → c < a + n → f c ≡ true
 all-range f a zero h c l m = absurd (omega (arith, l, m))
@@ -380,7 +345,7 @@ ties-exact span row variables different =
         let own = shared-own span row variables (each-one (value_at row) (value_at row 0) (filter (lies_in span)) variables (holding-alike row (ties_within span variables) h)) in
         from-pairs span row (flat_map ties_in variables)
         (λ a b la lb e. unwrapped (value_at row a) (value_at row b)
-        (sym (own a la) ∙ class-value (shared span row variables) (flat_map ties_in variables) (shared-alike span row variables different) a b e ∙ own b lb))
+        (sym (own a la) ∙ class-colour (shared span row variables) (flat_map ties_in variables) (shared-alike span row variables different) a b e ∙ own b lb))
 
     back : classes_agree (flat_map ties_in variables) (columns_in span) row ≡ true → all_hold (map tie_test (ties_within span variables)) row ≡ true
     back h =
