@@ -37,13 +37,14 @@ use Rattle.algebra.specs.Trees.{AtomTree, TermTree, Same, UnionAll, Diff, Distin
 use Rattle.algebra.specs.Shapes.{shape_of}
 use Rattle.algebra.specs.ShapeConditions.{is_kind, is_shape, kind_in}
 use Rattle.algebra.specs.Conditions.{are_steps, emitted_kind, has_kinds, is_store, is_term, kinds_of_columns, same_kinds, source_kinds}
+use Rattle.algebra.proofs.TypeLemmas.{same_type-equal, same_type-itself}
 use Rattle.myrial_types.specs.declared.faults.TypeKind.TheVariants as fault
 use Rattle.myrial_types.specs.Checking.{step_of, store_of, with_result}
 use Rattle.myrial_types.specs.Kinds.{comprehension_kind, condition_trees, differ, emitted_tree, first_of, has_ambiguous_column, has_mismatch, has_misplaced, has_unknown_alias, has_unknown_column, is_past_limit, is_term_past_limit, limit_kind, relation_kind, tree_kind}
 use Rattle.myrial_types.specs.Laws.{StepsAreOfTheFiles}
 use Rattle.myrial_types.specs.Resolving.{Meant, MeantItem, Names, Typed, comprehension_term, file_meant, files_meant, item_meant, join_term, kinds_of_items, meant, of_one, of_two, schemas_of, sources_of, term_of}
 use Rattle.myrial_types.proofs.FollowLemmas.{Follows, at_end, a_nothing, an_assignment, a_store, no-mismatch, typed-follows, typed-kinds}
-use Rattle.myrial_types.proofs.LoadLemmas.{AllFit, fit-apart, same_type-itself}
+use Rattle.myrial_types.proofs.LoadLemmas.{AllFit, fit-apart}
 use Rattle.myrial_types.proofs.ScalarKindLemmas.{EachTyped, emits-typed, group-columns, join-columns, kinds_in_scope, schema-kinds}
 use Rattle.myrial_types.proofs.ValueLemmas.{IfAny, meant-All, written-same}
 
@@ -127,15 +128,7 @@ same_kinds-itself [] = refl
 same_kinds-itself (k ∷ ks) = and_from (same_type k k) (same_kinds ks ks) (same_type-itself k) (same_kinds-itself ks)
 
 same_type-turned : (a b : ColType) → same_type a b ≡ true → same_type b a ≡ true
-same_type-turned kind.Int kind.Int e = refl
-same_type-turned kind.Str kind.Str e = refl
-same_type-turned kind.Bool kind.Bool e = refl
-same_type-turned kind.Int kind.Str e = cc
-same_type-turned kind.Int kind.Bool e = cc
-same_type-turned kind.Str kind.Int e = cc
-same_type-turned kind.Str kind.Bool e = cc
-same_type-turned kind.Bool kind.Int e = cc
-same_type-turned kind.Bool kind.Str e = cc
+same_type-turned a b e = subst (λ k. same_type k a ≡ true) (same_type-equal a b e) (same_type-itself a)
 
 same_kinds-turned : (a b : List ColType) → same_kinds a b ≡ true → same_kinds b a ≡ true
 same_kinds-turned [] [] e = refl

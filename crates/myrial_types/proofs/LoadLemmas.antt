@@ -8,34 +8,17 @@ use Rattle.rel_base.specs.Keys.{File}
 use Rattle.rel_base.specs.Relations.{same_type}
 use Rattle.rel_base.specs.declared.names.Key.{Key}
 use Rattle.rel_base.specs.declared.relations.Column.{Column}
-use Rattle.rel_base.specs.declared.values.ColType.{ColType}
-use Rattle.rel_base.specs.declared.values.ColType.TheVariants as kind
 use Rattle.myrial_ast.specs.Loads.{is_load_key}
 use Rattle.myrial_ast.specs.Trees.{Name}
 use Rattle.myrial_scopes.specs.Scopes.{same_name}
 use Rattle.myrial_meaning.specs.Fetches.{Load, form_among}
 use Rattle.myrial_meaning.proofs.AgreementLemmas.{same_name-itself, same_name-equal}
 use Rattle.algebra.specs.declared.terms.Source.TheVariants as source
+use Rattle.algebra.proofs.TypeLemmas.{same_type-equal, same_type-itself}
 use Rattle.myrial_types.specs.Fetching.{same_columns, same_form, contradicts, has_conflict, has_form}
 use Rattle.myrial_types.specs.Resolving.{Meant, file_meant}
 
 -- ---- columns
-
-pub same_type-itself : (k : ColType) → same_type k k ≡ true
-same_type-itself kind.Int = refl
-same_type-itself kind.Str = refl
-same_type-itself kind.Bool = refl
-
-pub same_type-equal : (a b : ColType) → same_type a b ≡ true → a ≡ b
-same_type-equal kind.Int kind.Int e = refl
-same_type-equal kind.Str kind.Str e = refl
-same_type-equal kind.Bool kind.Bool e = refl
-same_type-equal kind.Int kind.Str e = cc
-same_type-equal kind.Int kind.Bool e = cc
-same_type-equal kind.Str kind.Int e = cc
-same_type-equal kind.Str kind.Bool e = cc
-same_type-equal kind.Bool kind.Int e = cc
-same_type-equal kind.Bool kind.Str e = cc
 
 same_columns-equal : (xs ys : List Column) → same_columns xs ys ≡ true → xs ≡ ys
 same_columns-equal [] [] e = refl

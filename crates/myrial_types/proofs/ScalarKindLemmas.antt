@@ -23,7 +23,7 @@ use Rattle.myrial_scopes.specs.Emits.{Emit, aggregate_kind, aggregated, emit_at,
 use Rattle.algebra.specs.ShapeConditions.{is_kind, kind_in, kind_of_op, where_both}
 use Rattle.algebra.specs.Conditions.{emitted_kind, kinds_of_columns}
 use Rattle.myrial_types.specs.Kinds.{aggregate_type, emitted_tree, tree_kind}
-use Rattle.myrial_types.proofs.LoadLemmas.{same_type-itself}
+use Rattle.algebra.proofs.TypeLemmas.{same_type-itself}
 use Rattle.myrial_types.proofs.RangeLemmas.{AllBelow, place-below, places-below}
 use Rattle.myrial_types.proofs.ValueLemmas.{IfAny}
 

@@ -12,7 +12,7 @@ use Rattle.myrial_ast.specs.Classes.{equality, equalities, leader, same_class, a
 use Rattle.algebra.specs.Shapes.{tie_test}
 use Rattle.algebra.specs.ShapeConditions.{all_different, are_of, is_kind, is_truth, kind_at, where_both}
 use Rattle.algebra.proofs.ShapeLemmas.{equality-is}
-use Rattle.myrial_types.proofs.LoadLemmas.{same_type-itself}
+use Rattle.algebra.proofs.TypeLemmas.{same_type-equal, same_type-itself}
 
 -- ---- lists of columns
 
@@ -207,17 +207,6 @@ leader-kind kinds (pair ∷ pairs) h c =
 class-kind : (kinds : List ColType) (pairs : List (ℕ × ℕ)) → Alike kinds pairs → (a b : ℕ) → same_class pairs a b ≡ true → kind_at kinds a ≡ kind_at kinds b
 class-kind kinds pairs h a b e =
     sym (leader-kind kinds pairs h a) ∙ ap (kind_at kinds) (eqb-true (leader pairs a) (leader pairs b) e) ∙ leader-kind kinds pairs h b
-
-same_type-equal : (a b : ColType) → same_type a b ≡ true → a ≡ b
-same_type-equal kind.Int kind.Int e = refl
-same_type-equal kind.Str kind.Str e = refl
-same_type-equal kind.Bool kind.Bool e = refl
-same_type-equal kind.Int kind.Str e = cc
-same_type-equal kind.Int kind.Bool e = cc
-same_type-equal kind.Str kind.Int e = cc
-same_type-equal kind.Str kind.Bool e = cc
-same_type-equal kind.Bool kind.Int e = cc
-same_type-equal kind.Bool kind.Str e = cc
 
 found-kind : (kinds : List ColType) (c : ℕ) (k : ColType) → is_kind k (slice_get kinds c) ≡ true → kind_at kinds c ≡ k
 found-kind [] c k e = cc
