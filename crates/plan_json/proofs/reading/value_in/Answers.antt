@@ -8,6 +8,9 @@ returns-in-Ok-clause-ok c =
     let is = c.in-Ok.ensures.ok in
     rw (is_utf8-from_IsUtf8 _ is.0) is.1
 
+pub returns-then-is_memory-clause-not_plan : goal.returns-then-is_memory-clause-not_plan
+returns-then-is_memory-clause-not_plan c = λ bad. absurd (cc)
+
 pub returns-else-is_memory-clause-not_plan : goal.returns-else-is_memory-clause-not_plan
 returns-else-is_memory-clause-not_plan c =
     let e = c.is_memory.ensures in
