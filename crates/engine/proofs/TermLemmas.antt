@@ -1,7 +1,7 @@
 -- Terms of steps, run over what is held.
-use Rattle.std.proofs.Common.{◌≡◌, ℕ, ◌+◌, ◌≤◌, ◌++◌, List, [], ◌∷◌, map, length, refl, sym, ap, subst, ◌∙◌, Result, Ok, Option, Some, None, if◌then◌else◌, arith, length-append}
-use Rattle.std.specs.Prelude.{All, OnOk, slice_index_or}
-use Rattle.std.proofs.lemmas.Bool.{le-ltb}
+use Rattle.std.proofs.Common.{◌≡◌, ℕ, ◌+◌, ◌<◌, ◌≤◌, ◌++◌, List, [], ◌∷◌, map, length, refl, sym, ap, subst, ◌∙◌, Result, Ok, Err, Option, Some, None, if◌then◌else◌, arith, length-append}
+use Rattle.std.specs.Prelude.{All, IfErr, IfOk, OnOk, slice_index_or}
+use Rattle.std.proofs.lemmas.Bool.{le-ltb, lt-ltb}
 use Rattle.rel_base.specs.Limits.{most_rows}
 use Rattle.rel_base.specs.declared.faults.RunFault.{RunFault}
 use Rattle.rel_base.specs.declared.faults.RunFault.TheVariants as fault
@@ -14,7 +14,7 @@ use Rattle.algebra.specs.CheckedTrees.{term_tree_of}
 use Rattle.algebra.specs.Meanings.{shape_fault, sources_of}
 use Rattle.algebra.specs.ShapeTrees.{shape_tree_of}
 use Rattle.algebra.specs.Shapes.{listed_of}
-use Rattle.algebra.specs.Trees.{kind_of_emit}
+use Rattle.algebra.specs.Trees.{Diff, Distinct, kind_of_emit}
 use Rattle.algebra.specs.declared.notes.Exchange.TheVariants as exchange
 use Rattle.algebra.specs.declared.notes.PlanNote.{PlanNote}
 use Rattle.algebra.specs.declared.settings.Settings.{Settings}
@@ -38,7 +38,7 @@ use Rattle.engine.specs.declared.held.Held.{Held}
 use Rattle.engine.specs.Runs.{IsRunFault}
 use Rattle.engine.specs.inner.Held.{parts_held, value_held, IsHeld}
 use Rattle.engine.specs.inner.Joins.{IsTold, IsStepJoin, IsStepGroup}
-use Rattle.engine.specs.inner.Terms.{IsStepRun}
+use Rattle.engine.specs.inner.Terms.{IsStepRun, IsUnionFault}
 
 -- ---- what a term asks
 
@@ -64,24 +64,21 @@ rows-wide parts own w width e f h =
     subst (λ (n : ℕ). All (All (λ (row : Row). length row ≡ n)) parts) (sym f)
     (subst (λ (rows : List Rows). All (All (λ (row : Row). length row ≡ width)) rows) (sym e) h)
 
-module _ (held : Held) (width : ℕ) (t : Term) (wide : HasWideParts width (parts_held held) (term_tree_of t)) where
-  pub left-wide : (left right : Source) → t ≡ term.Diff left right → (parts : List Rows) → parts ≡ parts_held held left
-      → (w : ℕ) → w ≡ width → All (All (λ (row : Row). length row ≡ w)) parts
-  left-wide left right e parts is w as_wide =
-      rows-wide parts (parts_held held left) w width is as_wide
-      (subst (λ u. HasWideParts width (parts_held held) (term_tree_of u)) e wide 0 left (omega arith))
+module _ (held : Held) (width : ℕ) where
+  pub left-wide : (left right : Source) → HasWideParts width (parts_held held) (Diff left right) → (parts : List Rows)
+      → parts ≡ parts_held held left → (w : ℕ) → w ≡ width → All (All (λ (row : Row). length row ≡ w)) parts
+  left-wide left right wide parts is w as_wide =
+      rows-wide parts (parts_held held left) w width is as_wide (wide 0 left (omega arith))
 
-  pub right-wide : (left right : Source) → t ≡ term.Diff left right → (parts : List Rows) → parts ≡ parts_held held right
-      → (w : ℕ) → w ≡ width → All (All (λ (row : Row). length row ≡ w)) parts
-  right-wide left right e parts is w as_wide =
-      rows-wide parts (parts_held held right) w width is as_wide
-      (subst (λ u. HasWideParts width (parts_held held) (term_tree_of u)) e wide 1 left (omega arith))
+  pub right-wide : (left right : Source) → HasWideParts width (parts_held held) (Diff left right) → (parts : List Rows)
+      → parts ≡ parts_held held right → (w : ℕ) → w ≡ width → All (All (λ (row : Row). length row ≡ w)) parts
+  right-wide left right wide parts is w as_wide =
+      rows-wide parts (parts_held held right) w width is as_wide (wide 1 right (omega arith))
 
-  pub source-wide : (source : Source) → t ≡ term.Distinct source → (parts : List Rows) → parts ≡ parts_held held source
-      → (w : ℕ) → w ≡ width → All (All (λ (row : Row). length row ≡ w)) parts
-  source-wide source e parts is w as_wide =
-      rows-wide parts (parts_held held source) w width is as_wide
-      (subst (λ u. HasWideParts width (parts_held held) (term_tree_of u)) e wide 0 source (omega arith))
+  pub source-wide : (source : Source) → HasWideParts width (parts_held held) (Distinct source) → (parts : List Rows)
+      → parts ≡ parts_held held source → (w : ℕ) → w ≡ width → All (All (λ (row : Row). length row ≡ w)) parts
+  source-wide source wide parts is w as_wide =
+      rows-wide parts (parts_held held source) w width is as_wide (wide 0 source (omega arith))
 
 -- ---- what it comes to
 
@@ -101,6 +98,21 @@ few-united : (number : ℕ) (a b : Rows) → length a + length b ≤ most_rows
 few-united number a b few =
     ap (λ many. if many then Some (fault.TooManyRows number) else None)
     (le-ltb most_rows (length (a ++ b)) (omega (arith, few, length-append a b)))
+
+-- and two of more rows have that of their statement
+many-united : (number : ℕ) (a b : Rows) (f : RunFault) → (most_rows < length a + length b) × (f ≡ fault.TooManyRows number)
+    → (if too_many (a ++ b) then Some (fault.TooManyRows number) else None) ≡ Some f
+many-united number a b f h =
+    ap (λ many. if many then Some (fault.TooManyRows number) else None)
+    (lt-ltb most_rows (length (a ++ b)) (omega (arith, h.0, length-append a b)))
+    ∙ ap Some (sym h.1)
+
+union-fault : (number : ℕ) (a b : Rows) (f : RunFault) → IsUnionFault number (length a + length b) f
+    → IsRunFault (if too_many (a ++ b) then Some (fault.TooManyRows number) else None) f
+union-fault number a b fault.Memory h = tt
+union-fault number a b (fault.TooManyRows n) h = many-united number a b (fault.TooManyRows n) h
+union-fault number a b (fault.Overflow n) h = many-united number a b (fault.Overflow n) h
+union-fault number a b (fault.AggregateOverflow n) h = many-united number a b (fault.AggregateOverflow n) h
 
 module _ {T : Type 0} (s : Settings) (way : ShuffleRule) (number : ℕ) (held : Held) (totals : T → Totals) (tag : T → ℕ) where
   -- what running a term does
@@ -122,6 +134,21 @@ module _ {T : Type 0} (s : Settings) (way : ShuffleRule) (number : ℕ) (held : 
     sound = sound;
   }
 
+  -- and those that weren't made
+  unmade : (parts : List Rows) (own : Option RunFault) (taps : List T) (f : RunFault) → IsRunFault own f
+      → IsTold s number parts [] own totals tag taps taps (Err f)
+  unmade parts own taps f is = record {
+    run = record { fair = fair-none totals tag taps; ok = tt; err = is };
+    sound = tt;
+  }
+
+  -- rows that are made where they lie, or aren't
+  resting : (parts : List Rows) (taps : List T) (answer : Result Moved RunFault) → IfOk answer (λ made. made.parts ≡ parts)
+      → IfOk answer (λ made. made.traffic ≡ []) → IfOk answer (λ made. made.receipts ≡ []) → IfErr answer (IsRunFault None)
+      → IsTold s number parts [] None totals tag taps taps answer
+  resting parts taps (Ok made) is told shown err = rested parts None taps made refl is told shown
+  resting parts taps (Err f) is told shown err = unmade parts None taps f err
+
   -- a run that made rows, whatever its fault would have been
   pub made-alike : {F : Type 0} (parts : List Rows) (exchanges : List PlacedExchange) (own : Option RunFault) (IsFault : F → Type 0)
       (before after : List T) (made : Moved) → own ≡ None
@@ -132,74 +159,84 @@ module _ {T : Type 0} (s : Settings) (way : ShuffleRule) (number : ℕ) (held : 
     sound = sound;
   }
 
-  module _ (t : Term) where
-    pub same-run : (source : Source) → t ≡ term.Same source → (taps : List T) (made : Moved) → made.parts ≡ parts_held held source
-        → made.traffic ≡ [] → made.receipts ≡ [] → Runs t taps taps (Ok made)
-    same-run source e taps made is told shown =
-        subst (λ u. Runs u taps taps (Ok made)) (sym e) (rested (parts_held held source) None taps made refl is told shown)
+  -- a `diff` and a `distinct`, over copies of what is held
+  pub diff-run : {F : Type 0} (IsFault : F → Type 0) (left right : Source) (a b : List Rows) → a ≡ parts_held held left
+      → b ≡ parts_held held right → (before after : List T) (made : Moved)
+      → IsTermRun s number (parts_by_row (ruled_placing s way) (difference (together a) (together b)))
+      (row_exchange (ruled_placing s way) exchange.Diff (placed_rows a ∷ placed_rows b ∷ [])
+      (parts_by_row (ruled_placing s way) (difference (together a) (together b))) ∷ [])
+      totals tag IsFault before after (Ok made)
+      → IsStepRun s way number (value_held held) (Diff left right) totals tag before after (Ok made)
+  diff-run IsFault left right a b is_left is_right before after made run =
+      let p = ruled_placing s way in
+      let parts : List Rows → List Rows → List Rows = λ l r. parts_by_row p (difference (together l) (together r)) in
+      let exchanges : List Rows → List Rows → List PlacedExchange =
+      λ l r. row_exchange p exchange.Diff (placed_rows l ∷ placed_rows r ∷ []) (parts l r) ∷ [] in
+      let told : List Rows → List Rows → Type 0 =
+      λ l r. IsTold s number (parts l r) (exchanges l r) None totals tag before after (Ok made) in
+      subst (λ (l : List Rows). told l (parts_held held right)) is_left
+      (subst (λ (r : List Rows). told a r) is_right
+      (made-alike (parts a b) (exchanges a b) None IsFault before after made refl run))
 
-    pub empty-run : t ≡ term.Empty → (taps : List T) (made : Moved) → made.parts ≡ by_worker s.workers (λ w. [])
-        → made.traffic ≡ [] → made.receipts ≡ [] → Runs t taps taps (Ok made)
-    empty-run e taps made is told shown =
-        subst (λ u. Runs u taps taps (Ok made)) (sym e) (rested (by_worker s.workers (λ w. [])) None taps made refl is told shown)
+  pub distinct-run : {F : Type 0} (IsFault : F → Type 0) (source : Source) (a : List Rows) → a ≡ parts_held held source
+      → (before after : List T) (made : Moved)
+      → IsTermRun s number (parts_by_row (ruled_placing s way) (distinct (together a)))
+      (row_exchange (ruled_placing s way) exchange.Distinct (placed_rows a ∷ [])
+      (parts_by_row (ruled_placing s way) (distinct (together a))) ∷ [])
+      totals tag IsFault before after (Ok made)
+      → IsStepRun s way number (value_held held) (Distinct source) totals tag before after (Ok made)
+  distinct-run IsFault source a is_source before after made run =
+      let p = ruled_placing s way in
+      let parts : List Rows → List Rows = λ l. parts_by_row p (distinct (together l)) in
+      let exchanges : List Rows → List PlacedExchange =
+      λ l. row_exchange p exchange.Distinct (placed_rows l ∷ []) (parts l) ∷ [] in
+      subst (λ (l : List Rows). IsTold s number (parts l) (exchanges l) None totals tag before after (Ok made)) is_source
+      (made-alike (parts a) (exchanges a) None IsFault before after made refl run)
+
+  module _ (t : Term) where
+    pub same-run : (source : Source) → t ≡ term.Same source → (a : List Rows) → a ≡ parts_held held source → (taps : List T)
+        (answer : Result Moved RunFault) → IfOk answer (λ made. made.parts ≡ a) → IfOk answer (λ made. made.traffic ≡ [])
+        → IfOk answer (λ made. made.receipts ≡ []) → IfErr answer (IsRunFault None) → Runs t taps taps answer
+    same-run source e a is_source taps answer is told shown err =
+        subst (λ u. Runs u taps taps answer) (sym e)
+        (subst (λ (l : List Rows). IsTold s number l [] None totals tag taps taps answer) is_source
+        (resting a taps answer is told shown err))
+
+    pub empty-run : t ≡ term.Empty → (taps : List T) (answer : Result Moved RunFault)
+        → IfOk answer (λ made. made.parts ≡ by_worker s.workers (λ w. [])) → IfOk answer (λ made. made.traffic ≡ [])
+        → IfOk answer (λ made. made.receipts ≡ []) → IfErr answer (IsRunFault None) → Runs t taps taps answer
+    empty-run e taps answer is told shown err =
+        subst (λ u. Runs u taps taps answer) (sym e) (resting (by_worker s.workers (λ w. [])) taps answer is told shown err)
 
     pub union-run : (left right : Source) → t ≡ term.UnionAll left right → (a b : List Rows) → a ≡ parts_held held left
-        → b ≡ parts_held held right → length (parts_held held left) ≡ s.workers
-        → length (together a) + length (together b) ≤ most_rows → (taps : List T) (made : Moved)
-        → made.parts ≡ by_worker (length a) (λ w. slice_index_or a w [] ++ slice_index_or b w [])
-        → made.traffic ≡ [] → made.receipts ≡ [] → Runs t taps taps (Ok made)
-    union-run left right e a b is_left is_right long few taps made is told shown =
-        let own = parts_held held left in
-        let other = parts_held held right in
-        subst (λ u. Runs u taps taps (Ok made)) (sym e)
-        (rested (by_worker s.workers (λ w. slice_index_or own w [] ++ slice_index_or other w []))
-        (if too_many (together own ++ together other) then Some (fault.TooManyRows number) else None) taps made
-        (few-united number (together own) (together other)
-        (omega (
-          arith,
-          few,
-          ap (λ (l : List Rows). length (together l)) is_left,
-          ap (λ (l : List Rows). length (together l)) is_right,
-        )))
-        (is
-        ∙ (λ i. by_worker (length (is_left i)) (λ w. slice_index_or (is_left i) w [] ++ slice_index_or (is_right i) w []))
-        ∙ ap (λ n. by_worker n (λ w. slice_index_or own w [] ++ slice_index_or other w [])) long)
-        told shown)
-
-    pub diff-run : {F : Type 0} (IsFault : F → Type 0) (left right : Source) → t ≡ term.Diff left right → (a b : List Rows)
-        → a ≡ parts_held held left → b ≡ parts_held held right → (before after : List T) (made : Moved)
-        → IsTermRun s number (parts_by_row (ruled_placing s way) (difference (together a) (together b)))
-        (row_exchange (ruled_placing s way) exchange.Diff (placed_rows a ∷ placed_rows b ∷ [])
-        (parts_by_row (ruled_placing s way) (difference (together a) (together b))) ∷ [])
-        totals tag IsFault before after (Ok made)
-        → Runs t before after (Ok made)
-    diff-run IsFault left right e a b is_left is_right before after made run =
-        let p = ruled_placing s way in
-        let parts : List Rows → List Rows → List Rows = λ l r. parts_by_row p (difference (together l) (together r)) in
-        let exchanges : List Rows → List Rows → List PlacedExchange =
-        λ l r. row_exchange p exchange.Diff (placed_rows l ∷ placed_rows r ∷ []) (parts l r) ∷ [] in
-        let told : List Rows → List Rows → Type 0 =
-        λ l r. IsTold s number (parts l r) (exchanges l r) None totals tag before after (Ok made) in
-        subst (λ u. Runs u before after (Ok made)) (sym e)
-        (subst (λ (l : List Rows). told l (parts_held held right)) is_left
-        (subst (λ (r : List Rows). told a r) is_right
-        (made-alike (parts a b) (exchanges a b) None IsFault before after made refl run)))
-
-    pub distinct-run : {F : Type 0} (IsFault : F → Type 0) (source : Source) → t ≡ term.Distinct source → (a : List Rows)
-        → a ≡ parts_held held source → (before after : List T) (made : Moved)
-        → IsTermRun s number (parts_by_row (ruled_placing s way) (distinct (together a)))
-        (row_exchange (ruled_placing s way) exchange.Distinct (placed_rows a ∷ [])
-        (parts_by_row (ruled_placing s way) (distinct (together a))) ∷ [])
-        totals tag IsFault before after (Ok made)
-        → Runs t before after (Ok made)
-    distinct-run IsFault source e a is_source before after made run =
-        let p = ruled_placing s way in
-        let parts : List Rows → List Rows = λ l. parts_by_row p (distinct (together l)) in
-        let exchanges : List Rows → List PlacedExchange =
-        λ l. row_exchange p exchange.Distinct (placed_rows l ∷ []) (parts l) ∷ [] in
-        subst (λ u. Runs u before after (Ok made)) (sym e)
-        (subst (λ (l : List Rows). IsTold s number (parts l) (exchanges l) None totals tag before after (Ok made)) is_source
-        (made-alike (parts a) (exchanges a) None IsFault before after made refl run))
+        → b ≡ parts_held held right → length (parts_held held left) ≡ s.workers → (taps : List T) (answer : Result Moved RunFault)
+        → IfOk answer (λ made. made.parts ≡ by_worker (length a) (λ w. slice_index_or a w [] ++ slice_index_or b w []))
+        → IfOk answer (λ made. made.traffic ≡ []) → IfOk answer (λ made. made.receipts ≡ [])
+        → OnOk answer (length (together a) + length (together b) ≤ most_rows)
+        → IfErr answer (IsUnionFault number (length (together a) + length (together b))) → Runs t taps taps answer
+    union-run left right e a b is_left is_right long taps answer is told shown few err =
+        let united : ℕ → List Rows → List Rows → List Rows =
+        λ n l r. by_worker n (λ w. slice_index_or l w [] ++ slice_index_or r w []) in
+        let own : List Rows → List Rows → Option RunFault =
+        λ l r. if too_many (together l ++ together r) then Some (fault.TooManyRows number) else None in
+        let told_of : ℕ → List Rows → List Rows → Type 0 =
+        λ n l r. IsTold s number (united n l r) [] (own l r) totals tag taps taps answer in
+        let run : told_of (length a) a b = of answer is told shown few err in
+        subst (λ u. Runs u taps taps answer) (sym e)
+        (subst (λ n. told_of n (parts_held held left) (parts_held held right)) (ap length is_left ∙ long)
+        (subst (λ (l : List Rows). told_of (length a) l (parts_held held right)) is_left
+        (subst (λ (r : List Rows). told_of (length a) a r) is_right run)))
+      where
+        of : (answer : Result Moved RunFault)
+            → IfOk answer (λ made. made.parts ≡ by_worker (length a) (λ w. slice_index_or a w [] ++ slice_index_or b w []))
+            → IfOk answer (λ made. made.traffic ≡ []) → IfOk answer (λ made. made.receipts ≡ [])
+            → OnOk answer (length (together a) + length (together b) ≤ most_rows)
+            → IfErr answer (IsUnionFault number (length (together a) + length (together b)))
+            → IsTold s number (by_worker (length a) (λ w. slice_index_or a w [] ++ slice_index_or b w [])) []
+            (if too_many (together a ++ together b) then Some (fault.TooManyRows number) else None) totals tag taps taps answer
+        of (Ok made) is told shown few err =
+            rested _ _ taps made (few-united number (together a) (together b) few) is told shown
+        of (Err f) is told shown few err = unmade _ _ taps f (union-fault number (together a) (together b) f err)
 
     -- a join that is the term's own, over the rows of its sources
     module _ (sources : List Source) (shape drawn : JoinShape) (own : ℕ) (parts : List (List Rows)) (own_way : ShuffleRule)
