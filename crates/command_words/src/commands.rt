@@ -1,5 +1,6 @@
 //! The command of the program, and the words that it reads.
 ghost use Rattle.std.specs.Prelude.{◌≡◌, ◌≢◌, true, false, IfOk, Err, map};
+ghost use Rattle.std.specs.List.{fold};
 ghost use Rattle.clap.specs.Words.{app_of, found_of, kind_of, matches_of, rows_of, rule_of};
 ghost use Rattle.command_words.specs.Commands as spec;
 
@@ -32,24 +33,47 @@ fn word<'a>(alloc: Global, name: &'a str) -> Arg<'a>
     Arg::new(alloc, name).required(true).action(ArgAction::Set)
 }
 
+/// A command with options of these names besides, each of which takes one text.
+fn with_options<'a>(
+    alloc: Global,
+    mut command: Command<'a>,
+    names: &[&'a str],
+) -> Result<Command<'a>, AllocError>
+    ensures { IfOk result (λ made. app_of made
+        ≡ fold (λ app name. spec.with_option name.now app) (app_of command.entry) names.entry.now) }
+{
+    for name in names {
+        command = command.arg(option(alloc, *name))?;
+    }
+    Ok(command)
+}
+
+/// A command with flags of these names besides.
+fn with_flags<'a>(
+    alloc: Global,
+    mut command: Command<'a>,
+    names: &[&'a str],
+) -> Result<Command<'a>, AllocError>
+    ensures { IfOk result (λ made. app_of made
+        ≡ fold (λ app name. spec.with_flag name.now app) (app_of command.entry) names.entry.now) }
+{
+    for name in names {
+        command = command.arg(flag(alloc, *name))?;
+    }
+    Ok(command)
+}
+
 /// The command of the program.
 fn command<'a>(alloc: Global) -> Result<Command<'a>, AllocError>
     ensures { IfOk result (λ made. app_of made ≡ spec.command) }
 {
-    Command::new(alloc, "myria")
-        .arg(option(alloc, "mode"))?
-        .arg(option(alloc, "workers"))?
-        .arg(option(alloc, "capacity"))?
-        .arg(option(alloc, "batch"))?
-        .arg(option(alloc, "seed"))?
-        .arg(option(alloc, "shuffle"))?
-        .arg(option(alloc, "join"))?
-        .arg(flag(alloc, "plan"))?
-        .arg(flag(alloc, "traffic"))?
-        .arg(flag(alloc, "reduce"))?
-        .arg(option(alloc, "size"))?
-        .arg(option(alloc, "from"))?
-        .arg(word(alloc, "script"))
+    let settings = [
+        "mode", "workers", "capacity", "batch", "seed", "shuffle", "join",
+    ];
+    let run = with_options(alloc, Command::new(alloc, "myria"), &settings)?;
+    let printed = with_flags(alloc, run, &["plan", "traffic", "reduce"])?;
+    let named = with_options(alloc, printed, &["size", "from"])?;
+    named.arg(word(alloc, "script"))
 }
 
 /// The matches of the words, of which the first is the program's name.
