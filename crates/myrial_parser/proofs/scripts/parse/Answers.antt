@@ -1,15 +1,14 @@
 use Rattle.std.proofs.Common.{◌≡◌, ◌+◌, List, [], length, length-append, length-drop, take, true, Err, None, ◌<◌, ◌∷◌, All, sym, ap, subst, ◌∙◌, arith}
-use Rattle.std.proofs.lemmas.Grind.{common_steps}
 use Rattle.std.specs.List.{position}
 use Rattle.std.proofs.lemmas.Bool.Decides.{nat_tests}
-use Rattle.std.proofs.lemmas.List.{take_rest}
+use Rattle.std.proofs.lemmas.List.{nil_from_length, take_rest}
 use Rattle.std.proofs.lemmas.List.Elements.{All-take, All-drop}
 use Rattle.myrial_ast.specs.Trees.{statement_tree_of, trees_of}
 use Rattle.myrial_lexer.specs.declared.kinds.Token.{Token}
 use Rattle.myrial_lexer.specs.Slices.{IsCut}
 use Rattle.myrial_parser.specs.Pieces.{IsFirstFault, told}
 use Rattle.myrial_parser.proofs.FaultLemmas.{told-same, read-number}
-use Rattle.myrial_parser.proofs.PieceLemmas.{ends, ReadSoFar, so_far-none, so_far-pushed, so_far-fault, so_far-last}
+use Rattle.myrial_parser.proofs.PieceLemmas.{ends, ReadSoFar, so_far-none, so_far-pushed, so_far-fault, so_far-all, so_far-last}
 use Rattle.myrial_parser.proofs.scripts.parse.Goals as goal
 
 pub loop-len-init : goal.loop-len-init
@@ -74,4 +73,8 @@ returns-else-is_empty-clause-fault c number fault e =
     (so_far-last text tokens ahead c.loop-len.number (trees_of c.loop-len.script) last.0 c.loop-len.invariant.read none some last.2))
 
 pub returns-then-is_empty-clause-ok : goal.returns-then-is_empty-clause-ok
-returns-then-is_empty-clause-ok c = grind (arith, common_steps)
+returns-then-is_empty-clause-ok c =
+    let ahead = c.loop-len.rest.now in
+    let nil : length ahead ≡ 0 = grind (arith, nat_tests, c.is_empty.ensures, c.if-is_empty.true) in
+    so_far-all c.args.bytes.now c.args.tokens.now ahead c.loop-len.number
+    (trees_of c.loop-len.script) c.loop-len.invariant.read (nil_from_length ahead nil)
