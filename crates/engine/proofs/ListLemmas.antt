@@ -1,7 +1,6 @@
 -- Lists.
 use Rattle.std.proofs.Common.{ℕ, zero, suc, ◌≤◌, List, [], ◌∷◌, map, take, length, Result, Ok, Err, arith}
-use Rattle.std.specs.Prelude.{IfOk, OnOk}
-use Rattle.run_laws.proofs.RunLemmas.{if-ok}
+use Rattle.std.specs.Prelude.{OnOk}
 
 -- no more are taken than are asked for
 pub few-taken : {X Y : Type 0} (f : X → Y) (i : ℕ) (xs : List X) → length (map f (take i xs)) ≤ i

@@ -16,7 +16,6 @@ use Rattle.myrial_ast.specs.Combinations.{Row, Rows}
 use Rattle.bag_laws.specs.Permuted.{SameTables, no_table, a_table}
 use Rattle.bag_laws.proofs.RowPermutations.{flat_map-same}
 use Rattle.bag_laws.proofs.PartialLemmas.{map-agree}
-use Rattle.placement.specs.Layouts.{together}
 use Rattle.row_exchange.specs.Moves.{Move, Sending, moves_of_atom, moves_of, sent, received, rows_between}
 use Rattle.row_exchange.proofs.MoveLemmas.{sum_by-map}
 use Rattle.row_exchange.specs.declared.routes.Size.{Size}

@@ -19,7 +19,6 @@ use Rattle.myrial_lexer.specs.declared.front.Front.TheVariants.{Gap, Piece, Faul
 use Rattle.myrial_lexer.specs.declared.front.Run.{Run}
 use Rattle.myrial_lexer.specs.declared.front.Run.TheVariants as run
 use Rattle.myrial_lexer.specs.declared.kinds.Token.{Token}
-use Rattle.myrial_lexer.specs.declared.kinds.TokenKind.{TokenKind}
 use Rattle.myrial_lexer.specs.declared.kinds.TokenKind.TheVariants as kind
 use Rattle.myrial_lexer.specs.declared.kinds.Sign.{Sign}
 use Rattle.myrial_lexer.specs.declared.kinds.Sign.TheVariants.{Eq, Ne, Le, Lt, Ge, Gt, Plus, Minus, Star, OpenParen, CloseParen, OpenBracket, CloseBracket, Comma, Dot, Colon, Semicolon, Dollar}

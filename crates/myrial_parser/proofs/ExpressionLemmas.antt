@@ -16,7 +16,7 @@ use Rattle.myrial_parser.specs.Terminals.{Terminal, Fixed, Name, Number, Quoted}
 use Rattle.myrial_parser.specs.Grammar as g
 use Rattle.myrial_parser.specs.Grammar.{IsColumn, plain_name, plain_place, alias_name, alias_place, IsAggregated, Primary, Signed, aggregate_of, is_number}
 use Rattle.myrial_parser.specs.inner.Descent as d
-use Rattle.myrial_parser.specs.inner.Descent.{Input, first, Parsed, Parser, ◌>>=◌, is_symbol, sees, expect, name, number, column_of, column_behind, in_parens, aggregated, fixed_by, same_symbol}
+use Rattle.myrial_parser.specs.inner.Descent.{Input, first, Parsed, Parser, ◌>>=◌, is_symbol, sees, name, number, column_of, column_behind, in_parens, aggregated, fixed_by, same_symbol}
 use Rattle.myrial_parser.proofs.ParserLemmas.{Reading, Sound, Complete, stops, steps, same_rest, finish, sees-is, name-is, number-is, is_symbol-same, IsClosed, closed, closed-reads, closed-all, in_parens-sound, in_parens-all, word-reads}
 
 -- ---- columns

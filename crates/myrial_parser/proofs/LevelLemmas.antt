@@ -17,7 +17,7 @@ use Rattle.myrial_parser.specs.Phrases.{Chain, alone, joined, Pair, single, comp
 use Rattle.myrial_parser.specs.Grammar as g
 use Rattle.myrial_parser.specs.Grammar.{IsAggregated, Primary, Signed, or_sign, and_sign, sum_sign, product_sign, comparison_sign, Expression, IsExpression}
 use Rattle.myrial_parser.specs.inner.Descent as d
-use Rattle.myrial_parser.specs.inner.Descent.{Input, Parsed, Parser, same_symbol, expression}
+use Rattle.myrial_parser.specs.inner.Descent.{Input, Parser, same_symbol, expression}
 use Rattle.myrial_parser.proofs.ParserLemmas.{Sound, Complete, stops, either, chain-sound, chain-complete, pair-sound, pair-complete, prefixed-sound, prefixed-complete, same_value, chain-none, pair-none, in_parens-none}
 use Rattle.myrial_parser.proofs.ExpressionLemmas.{is_dot, primary-sound, primary-complete, signed-sound, signed-complete}
 

@@ -23,9 +23,9 @@ use Rattle.myrial_parser.specs.Symbols as s
 use Rattle.myrial_parser.specs.Terminals.{Terminal, Fixed, Name, Number, Quoted}
 use Rattle.myrial_parser.specs.Phrases.{Separated, is_word, called}
 use Rattle.myrial_parser.specs.Grammar as g
-use Rattle.myrial_parser.specs.Grammar.{IsKey, own_key, program_key, user_key, IsSkip, no_skip, a_skip, IsForm, formed, IsLoad, loaded, operand_of, IsSource, named_source, scanned_source, loaded_source, IsColumnDefinition, typed, IsItem, unaliased, aliased, IsCondition, absent, present, IsEmit, all_columns, columns_of, unnamed, named, IsExpression, IsArgument, IsRelation, type_of, own_name}
+use Rattle.myrial_parser.specs.Grammar.{IsKey, own_key, program_key, user_key, IsSkip, no_skip, a_skip, IsForm, formed, IsLoad, loaded, operand_of, IsSource, named_source, scanned_source, loaded_source, IsColumnDefinition, typed, IsItem, unaliased, aliased, IsCondition, absent, present, IsEmit, all_columns, columns_of, unnamed, named, IsExpression, IsArgument, IsRelation, own_name}
 use Rattle.myrial_parser.specs.inner.Descent as d
-use Rattle.myrial_parser.specs.inner.Descent.{Input, Parsed, Parser, ◌>>=◌, is_symbol, sees, expect, name, in_parens, key_behind, key_behind_two, kind_of, name_behind_as, separated, same_symbol}
+use Rattle.myrial_parser.specs.inner.Descent.{Input, Parsed, Parser, ◌>>=◌, is_symbol, sees, expect, name, in_parens, key_behind_two, kind_of, name_behind_as, separated, same_symbol}
 use Rattle.myrial_parser.proofs.ParserLemmas.{Complete, stops, either, stops-left, stops-right, same_rest, sees-is, in_parens-all, called-all, chain-none, pair-none}
 use Rattle.myrial_parser.proofs.SeparatedLemmas.{is_comma, separated-complete}
 use Rattle.myrial_parser.proofs.ExpressionLemmas.{is_dot}

@@ -16,9 +16,9 @@ use Rattle.myrial_parser.specs.Symbols as s
 use Rattle.myrial_parser.specs.Terminals.{Fixed, Name, Number, Quoted}
 use Rattle.myrial_parser.specs.Phrases.{Separated, is_word}
 use Rattle.myrial_parser.specs.Grammar as g
-use Rattle.myrial_parser.specs.Grammar.{IsKey, own_key, program_key, user_key, IsSkip, no_skip, a_skip, IsForm, formed, IsLoad, loaded, operand_of, IsSource, named_source, scanned_source, loaded_source, IsColumnDefinition, typed, IsItem, unaliased, aliased, IsCondition, absent, present, IsEmit, all_columns, columns_of, unnamed, named, IsExpression, Expression, IsArgument, IsRelation, type_of, own_name}
+use Rattle.myrial_parser.specs.Grammar.{IsKey, own_key, program_key, user_key, IsSkip, no_skip, a_skip, IsForm, formed, IsLoad, loaded, operand_of, IsSource, named_source, scanned_source, loaded_source, IsColumnDefinition, typed, IsItem, unaliased, aliased, IsCondition, absent, present, IsEmit, all_columns, columns_of, unnamed, named, IsExpression, IsArgument, IsRelation, type_of, own_name}
 use Rattle.myrial_parser.specs.inner.Descent as d
-use Rattle.myrial_parser.specs.inner.Descent.{Input, first, Parsed, Parser, ◌>>=◌, sees, expect, name, in_parens, key_behind_two, key_behind, kind_of, name_behind_as, separated, symbol_ahead}
+use Rattle.myrial_parser.specs.inner.Descent.{Input, Parsed, ◌>>=◌, sees, expect, name, in_parens, key_behind_two, key_behind, kind_of, name_behind_as, separated, symbol_ahead}
 use Rattle.myrial_parser.proofs.ParserLemmas.{Reading, Sound, steps, same_value, same_rest, finish, sees-is, symbol_ahead-is, expect-then, name-then, number-is, quoted-is, word-then, called-sound, in_parens-sound, word-reads}
 use Rattle.myrial_parser.proofs.SeparatedLemmas.{separated-sound}
 use Rattle.myrial_parser.proofs.LevelLemmas.{expression-sound}

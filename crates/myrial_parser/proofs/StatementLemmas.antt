@@ -1,5 +1,5 @@
 -- Statements: what the descent reads is a statement, and each statement is read.
-use Rattle.std.proofs.Common.{◌≡◌, ℕ, Bool, true, false, cond, List, [], ◌∷◌, ◌++◌, drop, Option, Some, None, Err, refl, sym, ap, subst, ◌∙◌, append-nil}
+use Rattle.std.proofs.Common.{◌≡◌, Bool, true, false, cond, [], ◌∷◌, ◌++◌, drop, Some, Err, refl, sym, ap, subst, ◌∙◌, append-nil}
 use Rattle.rel_base.specs.declared.names.Key.{Key}
 use Rattle.myrial_ast.specs.Trees as tree
 use Rattle.myrial_ast.specs.Trees.{RelTree, StatementTree}
@@ -9,7 +9,7 @@ use Rattle.myrial_parser.specs.Symbols as s
 use Rattle.myrial_parser.specs.Terminals.{Fixed, Name}
 use Rattle.myrial_parser.specs.Grammar.{Reads, nothing, assigned, stored}
 use Rattle.myrial_parser.specs.inner.Descent as d
-use Rattle.myrial_parser.specs.inner.Descent.{Input, Parsed, Parser, Parses, ◌>>=◌, sees, expect, name}
+use Rattle.myrial_parser.specs.inner.Descent.{Input, Parsed, Parses, ◌>>=◌, sees, expect, name}
 use Rattle.myrial_parser.proofs.ParserLemmas.{Reading, steps, same_value, finish, sees-is, expect-then, name-then}
 use Rattle.myrial_parser.proofs.RelationSound.{key-sound, relation-sound}
 use Rattle.myrial_parser.proofs.RelationComplete.{key-complete, relation-complete}

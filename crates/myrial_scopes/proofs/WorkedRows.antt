@@ -9,7 +9,7 @@ use Rattle.rel_base.specs.declared.values.Value.TheVariants as value
 use Rattle.myrial_ast.specs.declared.expressions.ColRef.TheVariants as ref
 use Rattle.myrial_ast.specs.declared.operators.AggOp.TheVariants as agg
 use Rattle.myrial_ast.specs.declared.operators.BinOp.TheVariants as op
-use Rattle.myrial_ast.specs.Trees.{Name, EmitTree, Tree}
+use Rattle.myrial_ast.specs.Trees.{Name, EmitTree}
 use Rattle.myrial_ast.specs.Trees as tree
 use Rattle.myrial_ast.specs.Scalars.{Scalar, Lit, At, Bin}
 use Rattle.myrial_scopes.specs.Scopes.{ItemSchema, ScopeColumn, has_doubled_alias, kind_of, place_of, places_of, scalar_of, scope_of}

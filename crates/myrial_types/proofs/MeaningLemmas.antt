@@ -7,7 +7,7 @@ use Rattle.std.proofs.lemmas.List.Elements.{All-head, All-tail}
 use Rattle.rel_base.specs.Keys.{File}
 use Rattle.rel_base.specs.Relations.{RelationState}
 use Rattle.rel_base.specs.declared.names.Key.{Key}
-use Rattle.myrial_ast.specs.Trees.{Name, Tree, EmitTree, RelTree, StatementTree}
+use Rattle.myrial_ast.specs.Trees.{Name, StatementTree}
 use Rattle.myrial_ast.specs.Trees as tree
 use Rattle.myrial_scopes.specs.Scopes.{same_name}
 use Rattle.myrial_meaning.specs.Environments.{nothing_yet, assigned_to, with_name, with_key}

@@ -10,7 +10,7 @@ use Rattle.std.proofs.lemmas.Bool.{or_parts}
 use Rattle.rel_base.specs.Each.{each_or_none, put_before}
 use Rattle.rel_base.specs.Keys.{File}
 use Rattle.myrial_ast.specs.declared.expressions.ColRef.{ColRef}
-use Rattle.myrial_ast.specs.Trees.{Name, Tree, EmitTree, RelTree}
+use Rattle.myrial_ast.specs.Trees.{Tree, EmitTree, RelTree}
 use Rattle.myrial_ast.specs.Trees as tree
 use Rattle.myrial_ast.specs.Operands.{operands_of}
 use Rattle.myrial_meaning.specs.Environments.{assigned_to}

@@ -15,7 +15,7 @@ use Rattle.myrial_ast.specs.declared.relations.Operand.{Operand}
 use Rattle.myrial_ast.specs.declared.relations.Operand.TheVariants as operand
 use Rattle.myrial_ast.specs.Loads.{is_load_key}
 use Rattle.myrial_ast.specs.Operands.{operands_of}
-use Rattle.myrial_ast.specs.Trees.{Name, Tree, EmitTree, RelTree, StatementTree}
+use Rattle.myrial_ast.specs.Trees.{Name, Tree, EmitTree, RelTree}
 use Rattle.myrial_ast.specs.Trees as tree
 use Rattle.myrial_ast.specs.Bags.{union_all, distinct, difference}
 use Rattle.myrial_ast.specs.Groups.{groups, has_aggregate}
@@ -25,7 +25,7 @@ use Rattle.myrial_scopes.specs.Emits.{Resolved, resolved}
 use Rattle.myrial_meaning.specs.Environments.{nothing_yet, assigned_to, operand_of, with_name, with_key}
 use Rattle.myrial_meaning.specs.Fetches.{loads_of}
 use Rattle.myrial_meaning.specs.Meaning as meaning
-use Rattle.myrial_meaning.specs.Meaning.{RelationEnvironment, ItemRelation, item_relation, items_of, tables_of, comprehension_rows, comprehension_over, relation_of, after, stored_relations}
+use Rattle.myrial_meaning.specs.Meaning.{RelationEnvironment, ItemRelation, item_relation, items_of, tables_of, comprehension_rows, comprehension_over, relation_of}
 use Rattle.algebra.specs.declared.terms.Source.{Source}
 use Rattle.algebra.specs.declared.terms.Source.TheVariants as source
 use Rattle.algebra.specs.Trees.{TermTree, Same, UnionAll, Diff, Distinct, Join, Group}

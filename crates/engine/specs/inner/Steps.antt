@@ -5,7 +5,7 @@
 --   AreRun ..                  some steps have run and others are left: what is held and noted is what they mean
 --   schema_at files c o        the columns of what a source stands for
 --   held_store files c held t  what a store stores, where its rows are held
-use Rattle.std.specs.Prelude.{◌≡◌, ⊤, ℕ, List, [], ◌∷◌, ◌++◌, map, length, All, Option, Some, None, Result, IfErr, OnOk}
+use Rattle.std.specs.Prelude.{◌≡◌, ⊤, ℕ, List, [], ◌∷◌, ◌++◌, map, length, All, None, Result, IfErr, OnOk}
 use Rattle.std.specs.List.{flat_map}
 use Rattle.rel_base.specs.Keys.{File}
 use Rattle.rel_base.specs.declared.relations.Column.{Column}

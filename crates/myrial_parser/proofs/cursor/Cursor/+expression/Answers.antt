@@ -4,7 +4,7 @@ use Rattle.std.proofs.lemmas.Result.{err_from_is_err_and}
 use Rattle.myrial_ast.specs.Trees as tree
 use Rattle.myrial_ast.specs.Trees.{Tree, tree_of}
 use Rattle.myrial_parser.specs.inner.Descent as spec
-use Rattle.myrial_parser.specs.inner.Descent.{Parses, Input, Parsed, ◌>>=◌, chain_from, wrapped}
+use Rattle.myrial_parser.specs.inner.Descent.{Input, Parsed, ◌>>=◌, chain_from, wrapped}
 use Rattle.myrial_parser.proofs.CountLemmas.{negation-counted, signed-counted, expression-some}
 use Rattle.myrial_parser.proofs.LevelLemmas.{chain_at-is}
 use Rattle.myrial_parser.proofs.ParserLemmas.{chain-none}

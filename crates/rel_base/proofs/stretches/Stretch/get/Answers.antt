@@ -1,7 +1,7 @@
 use Rattle.std.proofs.Common.{◌∙◌, arith, rules, ◌<◌, ◌+◌, ◌*◌, ◌^◌, length}
 use Rattle.rel_base.proofs.PickLemmas.{items_at-every_length, items_at-length, place_every, item_every, item_at}
 use Rattle.rel_base.proofs.stretches.Stretch.get.Goals as goal
-use Rattle.rel_base.proofs.stretches.Stretch.get.Goals.{In-Every, In-At}
+use Rattle.rel_base.proofs.stretches.Stretch.get.Goals.{In-Every}
 
 -- the place lies in the block
 place : (c : In-Every) → c.in-Every.start + c.in-Every.step * c.args.i < length c.self.inside.block
