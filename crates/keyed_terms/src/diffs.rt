@@ -1,6 +1,5 @@
 //! `diff` at workers.
 ghost use Rattle.std.specs.Prelude.{◌≡◌, ◌*◌, ◌≤◌, [], ◌∷◌, length, All, IfOk, vec_len};
-ghost use Rattle.std.specs.List.{range_with_len};
 ghost use Rattle.row_exchange.specs.Exchanges.{AreLow};
 ghost use Rattle.routed_joins.specs.Listings.{IsLow};
 ghost use Rattle.routed_joins.specs.TermRuns.{IsTermRun};
@@ -13,7 +12,7 @@ use crate::making::difference_each;
 use algebra::{Exchange, Settings};
 use exchange_channels::{Receipt, Receipts};
 use regular_shuffle::spread_by_key;
-use rel_base::{Memory, Places, Spread};
+use rel_base::{Memory, Spread};
 use rel_io::Tap;
 use routed_joins::{Moved, have_room, seconds_of};
 use std::alloc::Global;
@@ -67,8 +66,7 @@ pub fn run_diff<R: Threads + Wait + Sync, T: Tap + Send>(
         return Err(Memory);
     }
     let since = seconds_of(alloc, taps.as_slice(), settings.workers)?;
-    let columns = all_columns(alloc, operands.width)?;
-    let (met, others, receipts) = meet(rt, alloc, &operands, &columns, settings, taps)?;
+    let (met, others, receipts) = meet(rt, alloc, &operands, settings, taps)?;
     drop(operands);
     let made = difference_each(rt, alloc, met, others)?;
     conclude(
@@ -88,7 +86,6 @@ fn meet<R: Threads + Wait + Sync, T: Tap + Send>(
     rt: &R,
     alloc: Global,
     operands: &Operands,
-    columns: &Places,
     settings: &Settings,
     taps: &mut Vec<T>,
 ) -> Result<(Spread, Spread, Receipts), Memory>
@@ -96,18 +93,18 @@ fn meet<R: Threads + Wait + Sync, T: Tap + Send>(
     requires right { length operands.now.right ≡ settings.now.workers }
     requires left_width { AreOfWidth operands.now.width operands.now.left }
     requires right_width { AreOfWidth operands.now.width operands.now.right }
-    requires columns { columns.now ≡ range_with_len 0 operands.now.width }
     requires taps { 2 * settings.now.workers ≤ vec_len taps.old }
     requires low { All (λ t. AreLow (T.totals t)) taps.old.items }
     requires unlisted { All (λ t. IsLow (T.totals t)) taps.old.items }
     ensures { IsMeeting settings.now operands.now.left operands.now.right T.totals T.tag
         taps.old.items taps.new.items result }
 {
-    let (met, first) = spread_by_key(rt, alloc, &operands.left, columns, settings, taps)?;
+    let columns = all_columns(alloc, operands.width)?;
+    let (met, first) = spread_by_key(rt, alloc, &operands.left, &columns, settings, taps)?;
     if !have_room(taps.as_slice()) {
         return Err(Memory);
     }
-    let (others, second) = spread_by_key(rt, alloc, &operands.right, columns, settings, taps)?;
+    let (others, second) = spread_by_key(rt, alloc, &operands.right, &columns, settings, taps)?;
     let receipts = two_receipts(alloc, first, second)?;
     Ok((met, others, receipts))
 }

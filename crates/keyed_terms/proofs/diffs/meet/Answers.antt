@@ -13,12 +13,12 @@ use Rattle.keyed_terms.proofs.diffs.meet.Goals as goal
 
 pub spread_by_key-requires-clause-columns : goal.spread_by_key-requires-clause-columns
 spread_by_key-requires-clause-columns g c κs within =
-    subst (λ (columns : List ℕ). All (All (HasColumns columns)) c.args.operands.now.left) (sym c.requires.columns)
+    subst (λ (columns : List ℕ). All (All (HasColumns columns)) c.args.operands.now.left) (sym c.in_ok-columns.ensures)
     (whole-columns c.args.operands.now.width c.args.operands.now.left c.requires.left_width)
 
 pub spread_by_key-requires-2-clause-columns : goal.spread_by_key-requires-2-clause-columns
 spread_by_key-requires-2-clause-columns g c κs within =
-    subst (λ (columns : List ℕ). All (All (HasColumns columns)) c.args.operands.now.right) (sym c.requires.columns)
+    subst (λ (columns : List ℕ). All (All (HasColumns columns)) c.args.operands.now.right) (sym c.in_ok-columns.ensures)
     (whole-columns c.args.operands.now.width c.args.operands.now.right c.requires.right_width)
 
 pub returns-in_err-met : goal.returns-in_err-met
@@ -30,7 +30,7 @@ returns-in_err-met g c =
     let before = a.taps.now.items in
     let middle = c.spread_by_key.new.taps.items in
     let x = c.spread_by_key.ensures in
-    meeting-failed s a.operands.now.left a.operands.now.right totals tag before middle c.from_residual.result (search rules)
+    meeting-failed s a.operands.now.left a.operands.now.right totals tag before middle c.from_residual-in_err-met.result (search rules)
     (told-fair totals tag s.workers x.sent_by x.got_by nothing before middle x.even x.told)
     (told-low totals tag s.workers x.sent_by x.got_by before middle x.told c.requires.unlisted)
 
@@ -102,10 +102,10 @@ returns g c =
     let second = c.in_ok-others.second in
     let one =
     spread-as s.seed (range_with_len 0 width) home left left (size_of s) x.sent_by x.got_by met first (tables-refl left) (whole-home s.seed s.workers width left c.requires.left_width)
-    (subst (λ (columns : List ℕ). IsSpread s.seed columns left (size_of s) x.sent_by x.got_by met first) c.requires.columns x.ok) in
+    (subst (λ (columns : List ℕ). IsSpread s.seed columns left (size_of s) x.sent_by x.got_by met first) c.in_ok-columns.ensures x.ok) in
     let two =
     spread-as s.seed (range_with_len 0 width) home right right (size_of s) y.sent_by y.got_by others second (tables-refl right) (whole-home s.seed s.workers width right c.requires.right_width)
-    (subst (λ (columns : List ℕ). IsSpread s.seed columns right (size_of s) y.sent_by y.got_by others second) c.requires.columns y.ok) in
+    (subst (λ (columns : List ℕ). IsSpread s.seed columns right (size_of s) y.sent_by y.got_by others second) c.in_ok-columns.ensures y.ok) in
     record {
       fair =
           fair-both totals tag before middle after (told-fair totals tag s.workers x.sent_by x.got_by nothing before middle x.even x.told)

@@ -45,9 +45,6 @@ returns g c =
 pub returns-in_err-since : goal.returns-in_err-since
 returns-in_err-since g c = search rules
 
-pub returns-in_err-columns : goal.returns-in_err-columns
-returns-in_err-columns g c = search rules
-
 pub returns-in_err-met : goal.returns-in_err-met
 returns-in_err-met g c = search rules
 
