@@ -3,12 +3,16 @@ use Rattle.std.proofs.lemmas.List.{get_or_default, length-map}
 use Rattle.std.specs.Prelude.{Vec}
 use Rattle.std.specs.declared.alloc.Global.{Global}
 use Rattle.row_exchange.specs.inner.Shipments.{FillingState, no_more}
-use Rattle.row_exchange.proofs.FillingLemmas.{Gathers-then, rest-empty}
+use Rattle.row_exchange.proofs.FillingLemmas.{Gathers-nothing, Gathers-then, rest-empty}
 use Rattle.row_exchange.proofs.filling.Filling.flush_all.Goals as goal
 
 -- as many cells as lists
 cells : (s : FillingState) (pending : Vec (Vec ℕ Global) Global) (n : ℕ) → n ≡ pending.len → map (λ (v : Vec ℕ Global). v.items) pending.items ≡ s.pending → length s.pending ≡ n
 cells s pending n e is = omega (arith, ap length is, length-map pending.items (λ (v : Vec ℕ Global). v.items), pending.ok.0, e)
+
+-- no cell lies before the first
+pub loop-cell-init : goal.loop-cell-init
+loop-cell-init c = (Gathers-nothing c.args.self.now, λ k below. absurd (omega (arith, below)))
 
 pub loop-cell-preserved : goal.loop-cell-preserved
 loop-cell-preserved c =
