@@ -1,6 +1,5 @@
 //! The sending half of a worker: it fills its batches, and then sends them.
-ghost use Rattle.std.specs.Prelude.{◌≡◌, ◌<◌, All, OnOk, OnErr, replicate, []};
-ghost use Rattle.exchange_channels.specs.Wirings.{cells_of};
+ghost use Rattle.std.specs.Prelude.{◌≡◌, ◌<◌, All};
 ghost use Rattle.rel_io.specs.Taps.{with_sent};
 ghost use Rattle.row_exchange.specs.Routes.{IsRouted};
 ghost use Rattle.row_exchange.specs.Exchanges.{IsSize};
